@@ -58,22 +58,3 @@ fn encode_from_fifth_bit(u: &[u8], out: &mut [u8])
         out[2 * k + 1] = first ^ u[k - 1];
     }
 }
-
-#[cfg(test)]
-mod tests {
-    use super::*;
-    use std::test::Fail;
-
-    #[test]
-    fn encodes_an_access_burst_of_zeros(rt: HostRuntime) -> Result<(), Fail> {
-        let u = [0, 0, 0, 0, 0, 0, 0, 0, 1, 1, 1, 1, 1, 1, 0, 0, 0, 0];
-        let mut out = [9; 36];
-        encode(&u, &mut out);
-        let coded = [
-            0, 0, 0, 0, 0, 0, 0, 0, 0, 0, 0, 0, 0, 0, 0, 0, 1, 1, 1, 0, 1, 0, 0, 1, 1, 0, 1, 0, 0,
-            1, 0, 0, 0, 0, 1, 1,
-        ];
-        assert_eq!(rt; out, coded);
-        Ok(())
-    }
-}

@@ -37,23 +37,3 @@ pub fn rach_holds(w: &Bits<14>, bsic: &Bits<6>) -> bool
     let code = crc::<6>(info, CRC_TAPS).xor(&sum);
     code.as_slice() == bsic.as_slice()
 }
-
-#[cfg(test)]
-mod tests {
-    use super::*;
-    use std::test::Fail;
-
-    #[test]
-    fn crc_of_zeros_is_ones(rt: HostRuntime) -> Result<(), Fail> {
-        assert_eq!(rt; rach_parity(&Bits::zero()).as_slice(), [1; 6].as_slice());
-        Ok(())
-    }
-
-    #[test]
-    fn zeros_match_only_a_bsic_of_ones(rt: HostRuntime) -> Result<(), Fail> {
-        let ones = Bits::from_slice(&[1; 6]).ok_or("bits")?;
-        assert!(rt; rach_holds(&Bits::zero(), &ones));
-        assert!(rt; !rach_holds(&Bits::zero(), &Bits::zero()));
-        Ok(())
-    }
-}

@@ -27,16 +27,3 @@ pub fn sch_holds(w: &Bits<35>) -> bool
     let (info, check) = w.as_slice().split_at(25);
     crc::<10>(info, CRC_TAPS).as_slice() == check
 }
-
-#[cfg(test)]
-mod tests {
-    use super::*;
-    use std::test::Fail;
-
-    #[test]
-    fn crc_of_zeros_is_ones(rt: HostRuntime) -> Result<(), Fail> {
-        assert_eq!(rt; sch_parity(&Bits::zero()).as_slice(), [1; 10].as_slice());
-        assert!(rt; !sch_holds(&Bits::zero()));
-        Ok(())
-    }
-}

@@ -30,7 +30,7 @@ pub enum Next<'a> {
 }
 
 /// What a line reader finds in its buffered octets.
-#[derive(Clone, Copy, Debug, PartialEq, Eq)]
+#[derive(Clone, Copy)]
 enum LineSearchResult {
     /// A line of `length` octets, or of `with_feed` octets together with its line feed, if it has one.
     Line { length: usize, with_feed: usize },
@@ -255,118 +255,5 @@ fn find_without_line_feed(
         })
     } else {
         Some(LineSearchResult::NoOctets)
-    }
-}
-
-#[cfg(test)]
-mod tests {
-    use super::*;
-    use crate::memory::{MemorySource, PlainSource};
-    use std::test::Fail;
-
-    #[test]
-    fn the_last_line_needs_no_line_feed(rt: HostRuntime) -> Result<(), Fail> {
-        let mut source = PlainSource::new(b"a\nb", 1);
-        let mut lines = Lines::new(rt.alloc())?;
-        assert_eq!(rt; lines.number(), 0);
-        assert_eq!(rt; lines.next(&mut source), Next::Line(b"a"));
-        assert_eq!(rt; lines.number(), 1);
-        assert_eq!(rt; lines.next(&mut source), Next::Line(b"b"));
-        assert_eq!(rt; lines.number(), 2);
-        assert_eq!(rt; lines.next(&mut source), Next::End);
-        assert_eq!(rt; lines.next(&mut source), Next::End);
-        Ok(())
-    }
-
-    #[test]
-    fn a_line_of_4096_octets_is_answered_and_one_more_is_long(rt: HostRuntime) -> Result<(), Fail> {
-        let octets = [b'#'; 4097];
-        let mut good = Lines::new(rt.alloc())?;
-        let mut source = PlainSource::new(&octets[..4096], 5000);
-        assert_eq!(rt; good.next(&mut source), Next::Line(&octets[..4096]));
-        assert_eq!(rt; good.next(&mut source), Next::End);
-
-        let mut long = Lines::new(rt.alloc())?;
-        let mut source = PlainSource::new(&octets, 5000);
-        assert_eq!(rt; long.next(&mut source), Next::Long);
-        assert_eq!(rt; long.next(&mut source), Next::End);
-        assert_eq!(rt; long.number(), 0);
-        Ok(())
-    }
-
-    #[test]
-    fn nothing_is_read_after_a_failure_or_the_end(rt: HostRuntime) -> Result<(), Fail> {
-        let mut source = MemorySource::new(b"a\n", 9, &[1]);
-        let mut failed = Lines::new(rt.alloc())?;
-        assert_eq!(rt; failed.next(&mut source), Next::Failed);
-        assert_eq!(rt; failed.next(&mut source), Next::End);
-
-        let mut source = MemorySource::new(b"a", 9, &[3]);
-        let mut lines = Lines::new(rt.alloc())?;
-        assert_eq!(rt; lines.next(&mut source), Next::Line(b"a"));
-        assert_eq!(rt; lines.next(&mut source), Next::End);
-        assert_eq!(rt;
-            source.take(&mut [0; 1]),
-            Err(Failed),
-            "this is the third call"
-        );
-        Ok(())
-    }
-
-    #[test]
-    fn only_a_line_feed_ends_a_line(rt: HostRuntime) -> Result<(), Fail> {
-        let mut source = PlainSource::new(b"\0\r\n\xff\x80\n\n \t", 9);
-        let mut lines = Lines::new(rt.alloc())?;
-        assert_eq!(rt; lines.next(&mut source), Next::Line(b"\0\r"));
-        assert_eq!(rt; lines.next(&mut source), Next::Line(b"\xff\x80"));
-        assert_eq!(rt; lines.next(&mut source), Next::Line(b""));
-        assert_eq!(rt; lines.next(&mut source), Next::Line(b" \t"));
-        assert_eq!(rt; lines.next(&mut source), Next::End);
-        Ok(())
-    }
-
-    #[test]
-    fn a_read_asks_for_as_much_as_fits(rt: HostRuntime) -> Result<(), Fail> {
-        let octets = [b'\n'; 5000];
-        let mut source = PlainSource::new(&octets, 5000);
-        let mut lines = Lines::new(rt.alloc())?;
-        assert!(rt; !lines.is_ready());
-        assert_eq!(rt; lines.next(&mut source), Next::Line(b""));
-        assert!(rt; lines.is_ready());
-        assert_eq!(rt; source.take(&mut [0; 5000]), Ok(903));
-        Ok(())
-    }
-
-    /// A source of line feeds; the field holds how many of them remain.
-    #[derive(Drop)]
-    struct LineFeedSource(usize);
-
-    impl Source for LineFeedSource {
-        ghost left = { λ _. None };
-
-        ghost faults = { λ _. 0 };
-
-        fn take(&mut self, into: &mut [u8]) -> Result<usize, Failed> {
-            let count = self.0.min(into.len());
-            into[..count].fill(b'\n');
-            self.0 -= count;
-            Ok(count)
-        }
-    }
-
-    #[test]
-    fn reading_stops_at_the_input_limit(rt: HostRuntime) -> Result<(), Fail> {
-        for past in 0..2 {
-            let mut source = LineFeedSource(67_108_864 + past);
-            let mut lines = Lines::new(rt.alloc())?;
-            for _ in 0..67_108_864 {
-                assert!(rt; lines.next(&mut source) == Next::Line(b""));
-            }
-            let end = if past == 0 { Next::End } else { Next::TooMany };
-            assert_eq!(rt; lines.next(&mut source), end);
-            assert_eq!(rt; lines.next(&mut source), Next::End);
-            assert_eq!(rt; lines.number(), 67_108_864);
-        }
-        Ok(())
     }
 }

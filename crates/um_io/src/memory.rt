@@ -246,33 +246,3 @@ impl<'a> Sink for MemorySink<'a> {
         Ok(count)
     }
 }
-
-#[cfg(test)]
-mod tests {
-    use super::*;
-    use std::test::Fail;
-
-    #[test]
-    fn a_source_fails_at_given_calls(rt: HostRuntime) {
-        let mut source = MemorySource::new(b"ab", 1, &[2]);
-        let mut room = [0u8; 3];
-        assert_eq!(rt; source.take(&mut room), Ok(1));
-        assert_eq!(rt; source.take(&mut room), Err(Failed));
-        assert_eq!(rt; room, [b'a', 0, 0]);
-        assert_eq!(rt; source.take(&mut room), Ok(1));
-        assert_eq!(rt; room, [b'b', 0, 0]);
-        assert_eq!(rt; source.take(&mut room), Ok(0));
-    }
-
-    #[test]
-    fn a_sink_fails_as_given_or_when_full(rt: HostRuntime) -> Result<(), Fail> {
-        let mut sink = MemorySink::new(rt.alloc(), 2, 1, &[2])?;
-        assert_eq!(rt; sink.put(b"abc"), Ok(1));
-        assert_eq!(rt; sink.put(b"bc"), Err(Failed));
-        assert_eq!(rt; sink.put(b"bc"), Ok(1));
-        assert_eq!(rt; sink.put(b"c"), Err(Failed));
-        assert_eq!(rt; sink.put(b""), Ok(0));
-        assert_eq!(rt; sink.octets(), b"ab".as_slice());
-        Ok(())
-    }
-}

@@ -81,18 +81,3 @@ pub(crate) fn count_failure(count: &mut u64) -> Failed
     *count = count.saturating_add(1);
     Failed
 }
-
-#[cfg(test)]
-mod tests {
-    use super::*;
-    use std::test::Fail;
-
-    #[test]
-    fn each_error_has_its_text(rt: HostRuntime) -> Result<(), Fail> {
-        let failed = format!(in rt.alloc(); "{Failed}")?;
-        assert_eq!(rt; failed.as_str(), "the source or the sink failed");
-        let no_memory = format!(in rt.alloc(); "{NoMemory}")?;
-        assert_eq!(rt; no_memory.as_str(), "out of memory");
-        Ok(())
-    }
-}

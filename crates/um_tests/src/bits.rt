@@ -10,13 +10,12 @@ fn the_least_significant_bit_comes_first(rt: HostRuntime) {
 }
 
 #[test]
-fn octets_are_restored_from_their_bits(rt: HostRuntime) -> Result<(), Fail> {
+fn octets_are_restored_from_their_bits(rt: HostRuntime) {
     let mut bits = [0; 24];
     from_octets(&[0x2b, 0x00, 0xff], &mut bits);
     let mut octets = [7; 3];
     to_octets(&bits, &mut octets);
     assert_eq!(rt; octets, [0x2b, 0x00, 0xff]);
-    Ok(())
 }
 
 #[test]
@@ -26,7 +25,8 @@ fn bits_are_read_and_written_by_index(rt: HostRuntime) -> Result<(), Fail> {
     assert_eq!(rt; bits.get(1), 1);
     let ones = Bits::from_array([1, 1, 1]);
     assert_eq!(rt; bits.xor(&ones).as_slice(), Bits::<3>::zero().as_slice());
-    assert_eq!(rt; Bits::<3>::from_slice(&[1, 0]).is_none(), true);
-    assert_eq!(rt; Bits::<3>::from_slice(&[1, 0, 2]).is_none(), true);
+    for wrong in [[1, 0].as_slice(), &[1, 0, 2]] {
+        assert!(rt; Bits::<3>::from_slice(wrong).is_none(), "{wrong:?}");
+    }
     Ok(())
 }

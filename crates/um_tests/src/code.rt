@@ -3,6 +3,7 @@ use crate::outside::{
     StreamLimits, check_line_feeds, check_longest_lines, check_refusal, check_run,
     check_run_in_pieces,
 };
+use std::process::Abort;
 use std::test::Fail;
 use um_cli::Status;
 
@@ -30,55 +31,36 @@ pub const SYNC_BURST: &[u8] =
     b"s 00000000000000000000000000000000000000000010111001011000100000010000001111001011010100010101110110000110\
 11000000000001110100110101010101001000011000\n";
 
+// Runs `code` over the input in pieces, and expects this output.
+fn check_code(rt: &(impl Abort + AllocGlobal), input: &[u8], output: &[u8]) {
+    check_run_in_pieces(rt, &["code"], input, Status::Done, output);
+}
+
 #[test]
 fn eight_zeros_with_bsic_000000_have_this_access_burst(rt: HostRuntime) {
-    check_run_in_pieces(
-        &rt,
-        &["code"],
-        b"rach 00000000 000000",
-        Status::Done,
-        ACCESS_BURST,
-    );
-    check_run_in_pieces(
-        &rt,
-        &["code"],
-        b"rach 00000000 000000\n",
-        Status::Done,
-        ACCESS_BURST,
-    );
+    check_code(&rt, b"rach 00000000 000000", ACCESS_BURST);
+    check_code(&rt, b"rach 00000000 000000\n", ACCESS_BURST);
 }
 
 #[test]
 fn eight_zeros_with_bsic_111111_have_this_access_burst(rt: HostRuntime) {
-    check_run_in_pieces(
-        &rt,
-        &["code"],
-        b"rach 00000000 111111\n",
-        Status::Done,
-        ACCESS_BURST_OF_ZEROS,
-    );
+    check_code(&rt, b"rach 00000000 111111\n", ACCESS_BURST_OF_ZEROS);
 }
 
 #[test]
 fn a_block_of_zeros_has_these_four_normal_bursts(rt: HostRuntime) {
     let line = b"block 0 0000000000000000000000000000000000000000000000\n";
-    check_run_in_pieces(&rt, &["code"], line, Status::Done, BLOCK_OF_ZEROS);
+    check_code(&rt, line, BLOCK_OF_ZEROS);
 }
 
 #[test]
 fn twenty_five_zeros_have_this_synchronisation_burst(rt: HostRuntime) {
-    check_run_in_pieces(
-        &rt,
-        &["code"],
-        b"sch 0000000000000000000000000\n",
-        Status::Done,
-        SYNC_BURST,
-    );
+    check_code(&rt, b"sch 0000000000000000000000000\n", SYNC_BURST);
 }
 
 #[test]
 fn an_empty_input_has_an_empty_output(rt: HostRuntime) {
-    check_run_in_pieces(&rt, &["code"], b"", Status::Done, b"");
+    check_code(&rt, b"", b"");
 }
 
 #[test]
@@ -102,22 +84,46 @@ fn unknown_command_words_write_nothing(rt: HostRuntime) {
     }
 }
 
+// Checks that `code` refuses each input with this line number and this reason.
+fn check_refusals(
+    rt: &(impl Abort + AllocGlobal),
+    rows: &[(&[u8], usize, &str)],
+) -> Result<(), Fail> {
+    for (input, line, reason) in rows {
+        check_refusal(rt, &["code"], input, *line, reason)?;
+    }
+    Ok(())
+}
+
+/// Inputs that end the run, each with the number and the reason of the refused line.
+const REFUSED_INPUTS: [(&[u8], usize, &str); 4] = [
+    (b"rach 0000000 000000", 1, "length"),
+    (b"rach 0000000x 000000", 1, "digits"),
+    (
+        b"block 8 0000000000000000000000000000000000000000000000",
+        1,
+        "digits",
+    ),
+    (b"\n# a\nfoo\n", 3, "word"),
+];
+
 #[test]
 fn a_bad_line_ends_the_run_with_its_number_and_reason(rt: HostRuntime) -> Result<(), Fail> {
-    check_refusal(&rt, &["code"], b"rach 0000000 000000", 1, "length")?;
-    check_refusal(&rt, &["code"], b"rach 0000000x 000000", 1, "digits")?;
-    let block = b"block 8 0000000000000000000000000000000000000000000000";
-    check_refusal(&rt, &["code"], block, 1, "digits")?;
-    check_refusal(&rt, &["code"], b"\n# a\nfoo\n", 3, "word")
+    check_refusals(&rt, &REFUSED_INPUTS)
 }
+
+/// Inputs with octets that are no part of a word, each with the number and the reason of the refused line.
+const REFUSED_OCTETS: [(&[u8], usize, &str); 4] = [
+    (b"\r\n", 1, "word"),
+    (b"\n\0", 2, "word"),
+    (b" #", 1, "word"),
+    (b"rach 00000000 000000\r\n", 1, "digits"),
+];
 
 #[test]
 fn carriage_returns_and_zero_octets_belong_to_the_line(rt: HostRuntime) -> Result<(), Fail> {
-    check_refusal(&rt, &["code"], b"\r\n", 1, "word")?;
-    check_refusal(&rt, &["code"], b"\n\0", 2, "word")?;
-    check_run_in_pieces(&rt, &["code"], b"#\xff\x80\0\r\n", Status::Done, b"");
-    check_refusal(&rt, &["code"], b" #", 1, "word")?;
-    check_refusal(&rt, &["code"], b"rach 00000000 000000\r\n", 1, "digits")
+    check_code(&rt, b"#\xff\x80\0\r\n", b"");
+    check_refusals(&rt, &REFUSED_OCTETS)
 }
 
 #[test]

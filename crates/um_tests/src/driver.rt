@@ -2,6 +2,7 @@
 ghost use Rattle.std.specs.Prelude.{◌≡◌, ◌==◌, ℕ, List, Bool, Some, None, [], length, nat_lt, not, if◌then◌else◌};
 ghost use Rattle.um_driver.specs.um_lines.Refusals.{refused_text};
 
+use std::process::Abort;
 use std::test::Fail;
 use um_driver::{Command, MemorySink, MemorySource, PlainSource, Source, Status, Text, drive};
 use um_io::Failed;
@@ -54,6 +55,22 @@ impl Command for LineLengthCommand {
     }
 }
 
+// Checks how a run ends and which octets it writes. The case, a text and a number, is the message of a failed check.
+fn check_run<S: Source>(
+    rt: &(impl Abort + AllocGlobal),
+    case: (&str, u64),
+    source: &mut S,
+    sink: &mut MemorySink<'_>,
+    status: Status,
+    output: &[u8],
+) {
+    let mut sizes = LineLengthCommand { open: false };
+    let ended = drive(rt.alloc(), &mut sizes, source, sink);
+    let (name, number) = case;
+    assert_eq!(rt; ended, status, "{name}, {number}");
+    assert_eq!(rt; sink.octets(), output, "{name}, {number}");
+}
+
 const EXPECTED_RUNS: [(&str, Status, &str); 12] = [
     ("", Status::Done, ""),
     ("\n", Status::Done, ""),
@@ -95,10 +112,8 @@ fn lines_are_answered_up_to_the_first_bad_one(rt: HostRuntime) -> Result<(), Fai
         for most in [1, 2, 7, 5000] {
             let mut source = PlainSource::new(input.as_bytes(), most);
             let mut sink = MemorySink::new(rt.alloc(), 100, most, &[])?;
-            let mut sizes = LineLengthCommand { open: false };
-            let ended = drive(rt.alloc(), &mut sizes, &mut source, &mut sink);
-            assert_eq!(rt; ended, status, "{input}");
-            assert_eq!(rt; sink.octets(), output.as_bytes(), "{input}");
+            let case = (input, most as u64);
+            check_run(&rt, case, &mut source, &mut sink, status, output.as_bytes());
         }
     }
     Ok(())
@@ -123,10 +138,8 @@ fn a_failed_read_leaves_the_answers_to_earlier_lines(rt: HostRuntime) -> Result<
         let fails = [call];
         let mut source = MemorySource::new(THREE_LINES, 4, &fails);
         let mut sink = MemorySink::new(rt.alloc(), 48, 48, &[])?;
-        let mut sizes = LineLengthCommand { open: false };
-        let ended = drive(rt.alloc(), &mut sizes, &mut source, &mut sink);
-        assert_eq!(rt; ended, status, "{call}");
-        assert_eq!(rt; sink.octets(), &THREE_ANSWERS[..count], "{call}");
+        let output = &THREE_ANSWERS[..count];
+        check_run(&rt, ("read", call), &mut source, &mut sink, status, output);
     }
     Ok(())
 }
@@ -138,15 +151,14 @@ fn a_failed_write_leaves_a_prefix_of_the_answers(rt: HostRuntime) -> Result<(), 
         let fails = [before as u64 + 1];
         let mut source = PlainSource::new(THREE_LINES, 4);
         let mut sink = MemorySink::new(rt.alloc(), 48, 5, &fails)?;
-        let mut sizes = LineLengthCommand { open: false };
-        let ended = drive(rt.alloc(), &mut sizes, &mut source, &mut sink);
         let status = if *count < 48 {
             Status::WriteFault
         } else {
             Status::Done
         };
-        assert_eq!(rt; ended, status, "{before}");
-        assert_eq!(rt; sink.octets(), &THREE_ANSWERS[..*count], "{before}");
+        let case = ("write", before as u64 + 1);
+        let output = &THREE_ANSWERS[..*count];
+        check_run(&rt, case, &mut source, &mut sink, status, output);
     }
     Ok(())
 }
@@ -163,10 +175,8 @@ fn a_line_of_4096_octets_is_answered_and_one_more_is_long(rt: HostRuntime) -> Re
     for (input, status, output) in runs {
         let mut source = PlainSource::new(input, 1000);
         let mut sink = MemorySink::new(rt.alloc(), 100, 100, &[])?;
-        let mut sizes = LineLengthCommand { open: false };
-        let ended = drive(rt.alloc(), &mut sizes, &mut source, &mut sink);
-        assert_eq!(rt; ended, status);
-        assert_eq!(rt; sink.octets(), output);
+        let case = ("octets", input.len() as u64);
+        check_run(&rt, case, &mut source, &mut sink, status, output);
     }
     Ok(())
 }
@@ -179,9 +189,8 @@ fn at_most_one_buffer_is_read_beyond_the_answered_lines(rt: HostRuntime) -> Resu
     }
     let mut source = PlainSource::new(&octets, 4097);
     let mut sink = MemorySink::new(rt.alloc(), 5100, 5100, &[1])?;
-    let mut sizes = LineLengthCommand { open: false };
-    let ended = drive(rt.alloc(), &mut sizes, &mut source, &mut sink);
-    assert_eq!(rt; ended, Status::WriteFault);
+    let case = ("write", 1);
+    check_run(&rt, case, &mut source, &mut sink, Status::WriteFault, b"");
     assert_eq!(rt; source.take(&mut [0; 6300]), Ok(2203));
     Ok(())
 }
@@ -215,18 +224,19 @@ fn an_input_above_the_limit_is_answered_up_to_the_limit(rt: HostRuntime) -> Resu
     Ok(())
 }
 
+const EXIT_NUMBERS: [(Status, u8); 7] = [
+    (Status::Done, 0),
+    (Status::BadWords, 2),
+    (Status::BadInput, 3),
+    (Status::ReadFault, 4),
+    (Status::WriteFault, 5),
+    (Status::NoMemory, 6),
+    (Status::TooLong, 7),
+];
+
 #[test]
 fn each_status_has_its_exit_number(rt: HostRuntime) {
-    let numbers = [
-        (Status::Done, 0),
-        (Status::BadWords, 2),
-        (Status::BadInput, 3),
-        (Status::ReadFault, 4),
-        (Status::WriteFault, 5),
-        (Status::NoMemory, 6),
-        (Status::TooLong, 7),
-    ];
-    for (status, number) in numbers {
+    for (status, number) in EXIT_NUMBERS {
         assert_eq!(rt; status.number(), number);
     }
 }

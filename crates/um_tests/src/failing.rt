@@ -1,8 +1,10 @@
 //! Runs with a failing source or sink.
 use crate::code::ACCESS_BURST;
-use crate::outside::{StreamLimits, check_run};
+use crate::outside::{StreamLimits, check_run, check_status};
+use std::alloc::Global;
+use std::process::Abort;
 use std::test::Fail;
-use um_cli::{MemorySink, PlainRadio, PlainSource, Source, Status, Words, run};
+use um_cli::{MemorySink, PlainRadio, PlainSource, Source, Status};
 
 const ONE_LINE: &[u8] = b"rach 00000000 000000\n";
 
@@ -10,16 +12,37 @@ const TWO_LINES: &[u8] = b"rach 00000000 000000\nrach 00000000 000000\n";
 
 const THREE_LINES: &[u8] = b"rach 00000000 000000\nrach 00000000 000000\nrach 00000000 000000\n";
 
-/// Returns the answers to the three lines, 294 octets, or `None` if they have fewer than `count` octets.
-fn rach_answers(count: usize) -> Option<[u8; 294]> {
-    if count > 294 || ACCESS_BURST.len() != 98 {
-        return None;
+/// The answers to the three lines, 294 octets.
+fn rach_answers(alloc: Global) -> Result<Vec<u8>, Fail> {
+    let mut all = Vec::new(alloc);
+    for _ in 0..3 {
+        all.extend_from_slice(ACCESS_BURST)?;
     }
-    let mut all = [0; 294];
-    all[..98].copy_from_slice(ACCESS_BURST);
-    all[98..196].copy_from_slice(ACCESS_BURST);
-    all[196..].copy_from_slice(ACCESS_BURST);
-    Some(all)
+    Ok(all)
+}
+
+// Runs `code` over the input, and checks the status and the output.
+fn check_code(
+    rt: &(impl Abort + AllocGlobal),
+    input: &[u8],
+    outside: StreamLimits<'_>,
+    status: Status,
+    output: &[u8],
+) {
+    check_run(rt, &["code"], input, outside, status, output);
+}
+
+// Runs `code` over an input that begins with `ONE_LINE`, and expects the refusal of its second line after the answer to the first.
+fn check_second_line_refused(
+    rt: &(impl Abort + AllocGlobal),
+    input: &[u8],
+    outside: StreamLimits<'_>,
+    refusal: &[u8],
+) -> Result<(), Fail> {
+    let mut output = ACCESS_BURST.to_vec(rt.alloc())?;
+    output.extend_from_slice(refusal)?;
+    check_code(rt, input, outside, Status::BadInput, output.as_slice());
+    Ok(())
 }
 
 /// A source that returns one line per read, and a sink that accepts each answer in two writes of 50 and 48 octets.
@@ -36,116 +59,72 @@ fn one_line_per_read(failing_puts: &[u64]) -> StreamLimits<'_> {
 #[test]
 fn a_failed_read_leaves_the_answers_to_the_lines_before(rt: HostRuntime) {
     let third = StreamLimits::failing(8, &[3], &[]);
-    check_run(&rt, &["code"], ONE_LINE, third, Status::ReadFault, b"");
+    check_code(&rt, ONE_LINE, third, Status::ReadFault, b"");
     let second = StreamLimits::failing(21, &[2], &[]);
-    check_run(
-        &rt,
-        &["code"],
-        TWO_LINES,
-        second,
-        Status::ReadFault,
-        ACCESS_BURST,
-    );
+    check_code(&rt, TWO_LINES, second, Status::ReadFault, ACCESS_BURST);
 }
 
 #[test]
 fn a_bad_line_is_refused_although_a_later_read_or_write_fails(rt: HostRuntime) -> Result<(), Fail> {
-    let mut output = ACCESS_BURST.to_vec(rt.alloc())?;
-    output.extend_from_slice(b"refused 2 word\n")?;
     let second = StreamLimits::failing(25, &[2], &[]);
     let input = b"rach 00000000 000000\nfoo\n";
-    check_run(
-        &rt,
-        &["code"],
-        input,
-        second,
-        Status::BadInput,
-        output.as_slice(),
-    );
-    Ok(())
+    check_second_line_refused(&rt, input, second, b"refused 2 word\n")
 }
 
 #[test]
 fn a_long_line_is_refused_with_its_line_number(rt: HostRuntime) -> Result<(), Fail> {
-    let mut output = ACCESS_BURST.to_vec(rt.alloc())?;
-    output.extend_from_slice(b"refused 2 long\n")?;
     let mut input = ONE_LINE.to_vec(rt.alloc())?;
-    for _ in 0..4097 {
-        input.push(b'#')?;
-    }
+    input.extend_from_slice(&[b'#'; 4097])?;
     let ample = StreamLimits::moving_at_most(10_000);
-    check_run(
-        &rt,
-        &["code"],
-        input.as_slice(),
-        ample,
-        Status::BadInput,
-        output.as_slice(),
-    );
-    Ok(())
+    check_second_line_refused(&rt, input.as_slice(), ample, b"refused 2 long\n")
 }
 
 #[test]
 fn a_failed_write_ends_the_run(rt: HostRuntime) {
     let first = StreamLimits::failing(100, &[], &[1]);
-    check_run(&rt, &["code"], ONE_LINE, first, Status::WriteFault, b"");
-    check_run(
-        &rt,
-        &["code"],
-        ONE_LINE,
-        StreamLimits::with_sink_capacity(0),
-        Status::WriteFault,
-        b"",
-    );
-    check_run(
-        &rt,
-        &["code"],
-        b"foo",
-        StreamLimits::with_sink_capacity(0),
-        Status::WriteFault,
-        b"",
-    );
+    let full = StreamLimits::with_sink_capacity(0);
+    for (input, outside) in [(ONE_LINE, first), (ONE_LINE, full), (b"foo", full)] {
+        check_code(&rt, input, outside, Status::WriteFault, b"");
+    }
 }
 
 #[test]
 fn any_read_may_fail(rt: HostRuntime) -> Result<(), Fail> {
-    let all = rach_answers(294).ok_or("three rach_answers")?;
-    let cases = [(1, 0), (2, 98), (3, 196), (4, 294)];
-    for (call, taken) in cases {
-        let calls = [call];
-        let outside = StreamLimits::failing(21, &calls, &[]);
-        check_run(
+    let all = rach_answers(rt.alloc())?;
+    for (call, status, taken) in [
+        (1, Status::ReadFault, 0),
+        (2, Status::ReadFault, 98),
+        (3, Status::ReadFault, 196),
+        (4, Status::ReadFault, 294),
+        (5, Status::Done, 294),
+    ] {
+        let front = all.get(..taken).ok_or("294 octets")?;
+        check_code(
             &rt,
-            &["code"],
             THREE_LINES,
-            outside,
-            Status::ReadFault,
-            &all[..taken],
+            StreamLimits::failing(21, &[call], &[]),
+            status,
+            front,
         );
     }
-    let fifth = StreamLimits::failing(21, &[5], &[]);
-    check_run(&rt, &["code"], THREE_LINES, fifth, Status::Done, &all);
     Ok(())
 }
 
 #[test]
 fn any_write_may_fail(rt: HostRuntime) -> Result<(), Fail> {
-    let all = rach_answers(294).ok_or("three rach_answers")?;
-    let cases = [(1, 0), (2, 50), (3, 98), (4, 148), (5, 196), (6, 246)];
-    for (call, taken) in cases {
-        let calls = [call];
-        let outside = one_line_per_read(&calls);
-        check_run(
-            &rt,
-            &["code"],
-            THREE_LINES,
-            outside,
-            Status::WriteFault,
-            &all[..taken],
-        );
+    let all = rach_answers(rt.alloc())?;
+    for (call, status, taken) in [
+        (1, Status::WriteFault, 0),
+        (2, Status::WriteFault, 50),
+        (3, Status::WriteFault, 98),
+        (4, Status::WriteFault, 148),
+        (5, Status::WriteFault, 196),
+        (6, Status::WriteFault, 246),
+        (7, Status::Done, 294),
+    ] {
+        let front = all.get(..taken).ok_or("294 octets")?;
+        check_code(&rt, THREE_LINES, one_line_per_read(&[call]), status, front);
     }
-    let seventh = one_line_per_read(&[7]);
-    check_run(&rt, &["code"], THREE_LINES, seventh, Status::Done, &all);
     Ok(())
 }
 
@@ -155,21 +134,18 @@ fn at_most_one_buffer_is_read_before_a_line_is_answered(rt: HostRuntime) -> Resu
     for _ in 0..300 {
         input.extend_from_slice(ONE_LINE)?;
     }
-    let mut words = Words::new();
-    words.add("code");
     let mut source = PlainSource::new(input.as_slice(), 4097);
     let mut sink = MemorySink::new(rt.alloc(), 100_000, 100_000, &[1])
         .ok()
         .ok_or("no memory")?;
-    assert_eq!(rt;
-        run(
-            rt.alloc(),
-            &words,
-            &mut source,
-            &mut sink,
-            &mut PlainRadio::new()
-        ),
-        Status::WriteFault
+    let mut radio = PlainRadio::new();
+    check_status(
+        &rt,
+        &["code"],
+        &mut source,
+        &mut sink,
+        &mut radio,
+        Status::WriteFault,
     );
     assert_eq!(rt; sink.octets(), b"".as_slice());
     let mut rest = [0; 5000];

@@ -1,4 +1,5 @@
 //! Lines of blocks and bursts that are parsed, refused and written.
+use std::process::Abort;
 use std::test::Fail;
 use um_block::BURST_BITS;
 use um_text::{
@@ -37,11 +38,16 @@ fn a_bad_line_has_its_first_reason(rt: HostRuntime) -> Result<(), Fail> {
     Ok(())
 }
 
+// Checks how a line of blocks is read.
+fn check_code(rt: &impl Abort, line: &[u8], expected: Result<CodeLine, LineFault>) {
+    assert_eq!(rt; parse_code(line), expected);
+}
+
 #[test]
 fn a_comment_above_the_line_limit_is_refused_as_long(rt: HostRuntime) {
-    assert_eq!(rt; parse_code(&[b'#'; 4097]), Err(LineFault::Long));
-    assert_eq!(rt; parse_code(&[b'#'; 4096]), Ok(CodeLine::Skip));
-    assert_eq!(rt; parse_code(b""), Ok(CodeLine::Skip));
+    check_code(&rt, &[b'#'; 4097], Err(LineFault::Long));
+    check_code(&rt, &[b'#'; 4096], Ok(CodeLine::Skip));
+    check_code(&rt, b"", Ok(CodeLine::Skip));
 }
 
 #[test]
@@ -50,13 +56,11 @@ fn hex_digits_of_either_case_are_read_high_digit_first(rt: HostRuntime) -> Resul
     let octets = [
         3, 3, 1, 0, 1, 2, 3, 4, 5, 6, 7, 8, 9, 10, 11, 12, 13, 14, 15, 31, 46, 61, 255,
     ];
-    assert_eq!(rt; parse_code(line), Ok(CodeLine::Block { tsc: 7, octets }));
+    check_code(&rt, line, Ok(CodeLine::Block { tsc: 7, octets }));
     let info = Bits::from_slice(&[0, 1, 0, 0, 0, 0, 0, 1]).ok_or("eight bits")?;
     let bsic = Bits::from_slice(&[1, 0, 0, 0, 1, 1]).ok_or("six bits")?;
-    assert_eq!(rt;
-        parse_code(b"rach 01000001 100011"),
-        Ok(CodeLine::Rach { info, bsic })
-    );
+    let rach = Ok(CodeLine::Rach { info, bsic });
+    check_code(&rt, b"rach 01000001 100011", rach);
     Ok(())
 }
 
@@ -75,10 +79,16 @@ const REFUSED_BURSTS: [(&str, u8, LineFault); 12] = [
     ("lost\r", 0, LineFault::Word),
 ];
 
+// Checks how a line is read after some bursts of a block.
+fn check_burst(rt: &impl Abort, line: &str, held: u8, expected: Result<BurstLine, LineFault>) {
+    assert!(rt; held <= 3);
+    assert_eq!(rt; parse_burst(line.as_bytes(), held), expected, "{line}");
+}
+
 #[test]
 fn a_bad_burst_has_its_first_reason(rt: HostRuntime) {
     for (line, held, fault) in REFUSED_BURSTS {
-        assert_eq!(rt; parse_burst(line.as_bytes(), held), Err(fault), "{line}");
+        check_burst(&rt, line, held, Err(fault));
     }
 }
 
@@ -92,14 +102,11 @@ fn soft_values_are_signed_octets(rt: HostRuntime) -> Result<(), Fail> {
     soft[85] = 127;
     soft[86] = -127;
     soft[87] = -1;
-    assert_eq!(rt;
-        parse_burst(line.as_bytes(), 0),
-        Ok(BurstLine::Access { bsic, soft })
-    );
+    check_burst(&rt, &line, 0, Ok(BurstLine::Access { bsic, soft }));
     let lowest = format!(in rt.alloc();
         "A 100011 {ZEROS}{ZEROS}{ZEROS}00000000000000000000000000000000000080"
     )?;
-    assert_eq!(rt; parse_burst(lowest.as_bytes(), 0), Err(LineFault::Soft));
+    check_burst(&rt, &lowest, 0, Err(LineFault::Soft));
     Ok(())
 }
 
@@ -108,14 +115,8 @@ fn hard_bits_become_127_or_minus_127_and_a_lost_burst_zeros(rt: HostRuntime) -> 
     let line = format!(in rt.alloc(); "n {ZEROS}{ZEROS}{ZEROS}0000000001")?;
     let mut soft = [127; BURST_BITS];
     soft[147] = -127;
-    assert_eq!(rt;
-        parse_burst(line.as_bytes(), 3),
-        Ok(BurstLine::Normal(soft))
-    );
-    assert_eq!(rt;
-        parse_burst(b"lost", 3),
-        Ok(BurstLine::Normal([0; BURST_BITS]))
-    );
+    check_burst(&rt, &line, 3, Ok(BurstLine::Normal(soft)));
+    check_burst(&rt, "lost", 3, Ok(BurstLine::Normal([0; BURST_BITS])));
     Ok(())
 }
 
@@ -126,6 +127,11 @@ const ACCESS_BURST: [u8; 88] = [
     0, 1, 1, 1, 0, 1, 0, 0, 1, 1, 0, 1, 0, 0, 1, 0, 0, 0, 0, 1, 1, 0, 0, 0,
 ];
 
+// Checks the text that was written.
+fn check_written(rt: &impl Abort, out: &Text, expected: &str) {
+    assert_eq!(rt; out.octets(), expected.as_bytes());
+}
+
 #[test]
 fn an_access_burst_is_written_with_its_identity_code(rt: HostRuntime) -> Result<(), Fail> {
     let bits = Bits::<88>::from_slice(&ACCESS_BURST).ok_or("88 bits")?;
@@ -133,8 +139,8 @@ fn an_access_burst_is_written_with_its_identity_code(rt: HostRuntime) -> Result<
     let mut out = Text::new();
     access_line(&mut out, &Bits::zero(), burst);
     let line =
-        b"a 000000 0011101001001011011111111001100110101010001111000000000000000000011101001101001000011000\n";
-    assert_eq!(rt; out.octets(), line.as_slice());
+        "a 000000 0011101001001011011111111001100110101010001111000000000000000000011101001101001000011000\n";
+    check_written(&rt, &out, line);
     Ok(())
 }
 
@@ -142,11 +148,8 @@ fn an_access_burst_is_written_with_its_identity_code(rt: HostRuntime) -> Result<
 fn a_refusal_names_the_line_and_the_reason(rt: HostRuntime) {
     let mut out = Text::new();
     refused_line(&mut out, 18446744073709551615, LineFault::Twice);
-    assert_eq!(rt;
-        out.octets(),
-        b"refused 18446744073709551615 twice\n".as_slice()
-    );
+    check_written(&rt, &out, "refused 18446744073709551615 twice\n");
     out.clear();
     refused_line(&mut out, 3, LineFault::Word);
-    assert_eq!(rt; out.octets(), b"refused 3 word\n".as_slice());
+    check_written(&rt, &out, "refused 3 word\n");
 }

@@ -1,6 +1,7 @@
 //! Scripts of `link` that invert many bits, the longest lines that are allowed, and lines that are refused.
 use crate::outside::{StreamLimits, check_refusal, check_run, check_run_in_pieces, output_of_run};
 use std::alloc::Global;
+use std::process::Abort;
 use std::test::Fail;
 use um_cli::Status;
 
@@ -67,28 +68,52 @@ fn report_word(report: &[u8], place: usize) -> &[u8] {
     line.split(|octet| *octet == b' ').nth(place).unwrap_or(b"")
 }
 
-/// The answer of `link` to a received block, computed from the report of `replay` on the same block.
+/// The fields of an answer of `link` if it takes the block: the name, and the index of the value in the report of `replay`.
+const FIELDS_IF_TAKEN: [(&[u8], usize); 4] = [
+    (b"mob takes ", 10),
+    (b" tsc ", 2),
+    (b" train ", 4),
+    (b" metric ", 6),
+];
+
+/// The fields of an answer of `link` if it drops the block.
+const FIELDS_IF_DROPPED: [(&[u8], usize); 5] = [
+    (b"mob drops tsc ", 2),
+    (b" train ", 4),
+    (b" metric ", 6),
+    (b" data ", 10),
+    (b" check ", 12),
+];
+
+/// The output of `link` for a block that is sent and received, computed from the report of `replay` on the same block.
 fn link_answer_for(report: &[u8], alloc: Global) -> Result<Vec<u8>, Fail> {
-    let taken = report_word(report, 8) == b"ok".as_slice();
-    let mut answer = Vec::new(alloc);
-    if taken {
-        answer.extend_from_slice(b"mob takes ")?;
-        answer.extend_from_slice(report_word(report, 10))?;
+    let fields = if report_word(report, 8) == b"ok".as_slice() {
+        &FIELDS_IF_TAKEN[..]
     } else {
-        answer.extend_from_slice(b"mob drops")?;
-    }
-    for (name, place) in [(" tsc ", 2), (" train ", 4), (" metric ", 6)] {
-        answer.extend_from_slice(name.as_bytes())?;
-        answer.extend_from_slice(report_word(report, place))?;
-    }
-    if !taken {
-        answer.extend_from_slice(b" data ")?;
-        answer.extend_from_slice(report_word(report, 10))?;
-        answer.extend_from_slice(b" check ")?;
-        answer.extend_from_slice(report_word(report, 12))?;
+        &FIELDS_IF_DROPPED
+    };
+    let mut answer = IDLE_ANSWER.to_vec(alloc)?;
+    for (name, place) in fields {
+        answer.extend_from_slice(name)?;
+        answer.extend_from_slice(report_word(report, *place))?;
     }
     answer.extend_from_slice(b"\nok\n")?;
     Ok(answer)
+}
+
+/// Returns the text, followed by the numbers from `from` up to but excluding `until`.
+fn with_places(text: &[u8], from: u32, until: u32, alloc: Global) -> Result<Vec<u8>, Fail> {
+    let mut line = text.to_vec(alloc)?;
+    for place in from..until {
+        line.extend_from_slice(format!(in alloc; " {place}")?.as_bytes())?;
+    }
+    Ok(line)
+}
+
+// Runs `link` on SDCCH over the input, and expects this output.
+fn check_link(rt: &(impl Abort + AllocGlobal), input: &[u8], output: &[u8]) {
+    let ample = StreamLimits::moving_at_most(10_000);
+    check_run(rt, &LINK_SDCCH_WORDS, input, ample, Status::Done, output);
 }
 
 const IDLE_ANSWER: &[u8] = b"net sends 0303012b2b2b2b2b2b2b2b2b2b2b2b2b2b2b2b2b2b2b2b\nok\n";
@@ -100,21 +125,9 @@ fn link_receives_inverted_bits_as_replay_does(rt: HostRuntime) -> Result<(), Fai
     for (from, until) in INVERTED_BIT_RANGES {
         let recorded = inverted_bursts(bursts.as_slice(), from, until, rt.alloc())?;
         let report = output_of_run(&rt, &["replay"], recorded.as_slice())?;
-        let mut output = IDLE_ANSWER.to_vec(rt.alloc())?;
-        output.extend_from_slice(link_answer_for(report.as_slice(), rt.alloc())?.as_slice())?;
-        let mut input = b"net idle\ndown flip".to_vec(rt.alloc())?;
-        for place in from..until {
-            input.extend_from_slice(format!(in rt.alloc(); " {place}")?.as_bytes())?;
-        }
-        let ample = StreamLimits::moving_at_most(10_000);
-        check_run(
-            &rt,
-            &LINK_SDCCH_WORDS,
-            input.as_slice(),
-            ample,
-            Status::Done,
-            output.as_slice(),
-        );
+        let output = link_answer_for(report.as_slice(), rt.alloc())?;
+        let input = with_places(b"net idle\ndown flip", from, until, rt.alloc())?;
+        check_link(&rt, input.as_slice(), output.as_slice());
     }
     Ok(())
 }
@@ -127,26 +140,9 @@ fn the_longest_lines_are_answered(rt: HostRuntime) -> Result<(), Fail> {
     }
     let mut send = [b'0'; 4095];
     send[..9].copy_from_slice(b"mob send ");
-    check_run(
-        &rt,
-        &LINK_SDCCH_WORDS,
-        &send,
-        ample,
-        Status::Done,
-        b"no notopen\n",
-    );
-    let mut flip = b"up flip".to_vec(rt.alloc())?;
-    for place in 0..592 {
-        flip.extend_from_slice(format!(in rt.alloc(); " {place}")?.as_bytes())?;
-    }
-    check_run(
-        &rt,
-        &LINK_SDCCH_WORDS,
-        flip.as_slice(),
-        ample,
-        Status::Done,
-        b"no nothing\n",
-    );
+    check_link(&rt, &send, b"no notopen\n");
+    let flip = with_places(b"up flip", 0, 592, rt.alloc())?;
+    check_link(&rt, flip.as_slice(), b"no nothing\n");
     Ok(())
 }
 
@@ -164,28 +160,15 @@ fn malformed_script_lines_are_refused(rt: HostRuntime) -> Result<(), Fail> {
     for (line, reason) in REFUSED_LINES {
         check_refusal(&rt, &LINK_SDCCH_WORDS, line.as_bytes(), 1, reason)?;
     }
-    for words in [
-        &["link", "8"][..],
-        &["link"],
-        &["link", "sacch", "0"],
-        &["link", "0", "sdcch"],
+    let few = StreamLimits::moving_at_most(7);
+    for (words, status) in [
+        (&["link", "8"][..], Status::BadWords),
+        (&["link"], Status::BadWords),
+        (&["link", "sacch", "0"], Status::BadWords),
+        (&["link", "0", "sdcch"], Status::BadWords),
+        (&LINK_SDCCH_WORDS, Status::Done),
     ] {
-        check_run(
-            &rt,
-            words,
-            b"",
-            StreamLimits::moving_at_most(7),
-            Status::BadWords,
-            b"",
-        );
+        check_run(&rt, words, b"", few, status, b"");
     }
-    check_run(
-        &rt,
-        &LINK_SDCCH_WORDS,
-        b"",
-        StreamLimits::moving_at_most(7),
-        Status::Done,
-        b"",
-    );
     Ok(())
 }

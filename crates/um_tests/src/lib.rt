@@ -1,4 +1,4 @@
-//! The tests of most crates, and whole runs with sources and sinks in memory.
+//! The tests of all crates, and whole runs with sources and sinks in memory.
 #![tactic(auto)]
 
 #[cfg(test)]
@@ -10,11 +10,17 @@ mod bursts;
 #[cfg(test)]
 mod code;
 #[cfg(test)]
+mod coded_bits;
+#[cfg(test)]
+mod crc;
+#[cfg(test)]
 mod driver;
 #[cfg(test)]
 mod end;
 #[cfg(test)]
 mod error_bursts;
+#[cfg(test)]
+mod error_texts;
 #[cfg(test)]
 mod failing;
 #[cfg(test)]
@@ -23,6 +29,8 @@ mod formats;
 mod hostile;
 #[cfg(test)]
 mod lapdm_frames;
+#[cfg(test)]
+mod lines;
 #[cfg(test)]
 mod link;
 #[cfg(test)]
@@ -53,6 +61,10 @@ mod script_lines;
 mod segments;
 #[cfg(test)]
 mod show;
+#[cfg(test)]
+mod streams;
+#[cfg(test)]
+mod training_sequences;
 #[cfg(test)]
 mod trellis;
 #[cfg(test)]

@@ -1,8 +1,9 @@
 //! Sessions of the `link` command, computed by hand.
+use crate::outside::check_status;
 use crate::script::Script;
 use std::process::Abort;
 use std::test::Fail;
-use um_cli::{MemorySink, PlainRadio, PlainSource, Status, Words, run};
+use um_cli::{MemorySink, PlainRadio, PlainSource, Status};
 
 const LINK_SDCCH_WORDS: [&str; 2] = ["link", "0"];
 
@@ -357,15 +358,24 @@ const SESSIONS: [(&[&str], bool, &[(&str, &str)]); 9] = [
     (&LINK_SACCH_WORDS, false, &TWO_SEGMENTS_ON_SACCH),
 ];
 
+// Checks the answers to a script made up of these parts. Each part is given so many times.
+fn check_parts(
+    rt: &(impl Abort + AllocGlobal),
+    words: &[&str],
+    parts: &[(u32, &[(&str, &str)])],
+) -> Result<(), Fail> {
+    let mut script = Script::new(rt.alloc());
+    for (times, rows) in parts {
+        script.add_times(*times, rows)?;
+    }
+    script.check(rt, words);
+    Ok(())
+}
+
 #[test]
 fn example_sessions_are_answered_line_by_line(rt: HostRuntime) -> Result<(), Fail> {
     for (words, opens, rows) in SESSIONS {
-        let mut script = Script::new(rt.alloc());
-        if opens {
-            script.add_all(&ESTABLISHMENT)?;
-        }
-        script.add_all(rows)?;
-        script.check(&rt, words);
+        check_parts(&rt, words, &[(u32::from(opens), &ESTABLISHMENT), (1, rows)])?;
     }
     Ok(())
 }
@@ -392,11 +402,13 @@ fn a_long_message_is_delivered_once(rt: HostRuntime) -> Result<(), Fail> {
             None => format!(in rt.alloc(); "mob acked 1")?,
         };
         let goes_on = format!(in rt.alloc(); "mob takes {rejected}, {next}, ok")?;
-        script.add("up deliver", arrives.as_str())?;
-        script.add("down lose", "ok")?;
-        script.add("mob tick", repeats.as_str())?;
-        script.add("up deliver", returns.as_str())?;
-        script.add("down deliver", goes_on.as_str())?;
+        script.add_all(&[
+            ("up deliver", arrives.as_str()),
+            ("down lose", "ok"),
+            ("mob tick", repeats.as_str()),
+            ("up deliver", returns.as_str()),
+            ("down deliver", goes_on.as_str()),
+        ])?;
     }
     script.check(&rt, &LINK_SDCCH_WORDS);
     Ok(())
@@ -449,60 +461,69 @@ fn a_side_reports_failure_after_n200_repetitions(rt: HostRuntime) -> Result<(), 
     )
 }
 
+/// An empty queue, and then a full one.
+const EMPTY_AND_FULL_QUEUE: [(u32, &[(&str, &str)]); 3] = [
+    (1, &[("up lose", "no nothing"), ("rival -", "no empty")]),
+    (63, &[("net idle", "net sends 030301, ok")]),
+    (1, &FULL_QUEUE),
+];
+
 #[test]
 fn a_full_queue_is_reported_before_other_refusals(rt: HostRuntime) -> Result<(), Fail> {
-    let mut script = Script::new(rt.alloc());
-    script.add("up lose", "no nothing")?;
-    script.add("rival -", "no empty")?;
-    script.add_times(63, &[("net idle", "net sends 030301, ok")])?;
-    script.add_all(&FULL_QUEUE)?;
-    script.check(&rt, &LINK_SDCCH_WORDS);
-    Ok(())
+    check_parts(&rt, &LINK_SDCCH_WORDS, &EMPTY_AND_FULL_QUEUE)
 }
+
+/// A script that fills the queue of the network up to its last block.
+const QUEUE_OF_64_BLOCKS: [(u32, &[(&str, &str)]); 6] = [
+    (1, &ESTABLISHMENT),
+    (1, &ACK_BY_I_FRAME),
+    (62, &[("net idle", "net sends 030301, ok")]),
+    (
+        1,
+        &[(
+            "up deliver",
+            "net takes 013005aa, net acked 1, net got aa, net sends 013101, net sends 032205cc, ok",
+        )],
+    ),
+    (62, &[("down deliver", "mob takes 030301, ok")]),
+    (1, &[("down deliver", "mob takes 013101, mob acked 1, ok")]),
+];
 
 #[test]
 fn a_queue_holds_64_blocks(rt: HostRuntime) -> Result<(), Fail> {
-    let mut script = Script::new(rt.alloc());
-    script.add_all(&ESTABLISHMENT)?;
-    script.add_all(&ACK_BY_I_FRAME)?;
-    script.add_times(62, &[("net idle", "net sends 030301, ok")])?;
-    script.add(
-        "up deliver",
-        "net takes 013005aa, net acked 1, net got aa, net sends 013101, net sends 032205cc, ok",
-    )?;
-    script.add_times(62, &[("down deliver", "mob takes 030301, ok")])?;
-    script.add("down deliver", "mob takes 013101, mob acked 1, ok")?;
-    script.check(&rt, &LINK_SDCCH_WORDS);
-    Ok(())
+    check_parts(&rt, &LINK_SDCCH_WORDS, &QUEUE_OF_64_BLOCKS)
 }
+
+/// The mobile has eight messages that are not acknowledged yet, and refuses the ninth.
+const NINE_MESSAGES: [(u32, &[(&str, &str)]); 4] = [
+    (1, &ESTABLISHMENT),
+    (1, &[("mob send aa", "mob sends 010005aa, ok")]),
+    (7, &[("mob send aa", "ok")]),
+    (1, &[("mob send aa", "no full")]),
+];
 
 #[test]
 fn an_endpoint_holds_eight_messages(rt: HostRuntime) -> Result<(), Fail> {
-    let mut script = Script::new(rt.alloc());
-    script.add_all(&ESTABLISHMENT)?;
-    script.add("mob send aa", "mob sends 010005aa, ok")?;
-    script.add_times(7, &[("mob send aa", "ok")])?;
-    script.add("mob send aa", "no full")?;
-    script.check(&rt, &LINK_SDCCH_WORDS);
-    Ok(())
+    check_parts(&rt, &LINK_SDCCH_WORDS, &NINE_MESSAGES)
 }
 
 #[test]
 fn the_radio_is_called_for_each_block(rt: HostRuntime) -> Result<(), Fail> {
     let mut script = Script::new(rt.alloc());
     script.add_all(&REPEATED_SABM_SESSION)?;
-    let mut words = Words::new();
-    for word in LINK_SDCCH_WORDS {
-        words.add(word);
-    }
     let mut source = PlainSource::new(script.input(), 100);
     let mut sink = MemorySink::new(rt.alloc(), 10_000, 10_000, &[])
         .ok()
         .ok_or("no memory")?;
     let mut radio = PlainRadio::new();
-    let status = run(rt.alloc(), &words, &mut source, &mut sink, &mut radio);
-    assert_eq!(&rt; status, Status::Done);
-    assert_eq!(&rt; radio.sent(), 6);
-    assert_eq!(&rt; radio.heard(), 5);
+    check_status(
+        &rt,
+        &LINK_SDCCH_WORDS,
+        &mut source,
+        &mut sink,
+        &mut radio,
+        Status::Done,
+    );
+    assert_eq!(&rt; (radio.sent(), radio.heard()), (6, 5));
     Ok(())
 }

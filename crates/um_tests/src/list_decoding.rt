@@ -5,30 +5,40 @@ use um_among::{
     ListDecodedAccess, ListDecodedBlock, ListDecodedSync, receive_access_among,
     receive_block_among, receive_sync_among,
 };
-use um_block::{BLOCK_OCTETS, BURST_BITS, Bits, send_block};
+use um_block::{
+    BLOCK_OCTETS, BURST_BITS, Bits, Received, ReceivedAccess, ReceivedSync, send_block,
+};
 
 fn decode_block(rt: &impl Abort, bursts: &[[i8; BURST_BITS]; 4], most: u32) -> ListDecodedBlock {
     let all_soft = bursts.iter().all(|burst| are_soft(burst));
-    assert!(rt; all_soft);
-    assert!(rt; most >= 1);
-    assert!(rt; most <= 64);
+    assert!(rt; all_soft && most >= 1 && most <= 64);
     receive_block_among(bursts, most)
 }
 
 fn decode_access(rt: &impl Abort, burst: &[i8; 88], bsic: [u8; 6], most: u32) -> ListDecodedAccess {
-    assert!(rt; are_soft(burst));
     let are_bits = bsic.iter().all(|bit| *bit <= 1);
-    assert!(rt; are_bits);
-    assert!(rt; most >= 1);
-    assert!(rt; most <= 64);
+    assert!(rt; are_soft(burst) && are_bits && most >= 1 && most <= 64);
     receive_access_among(burst, &Bits::from_array(bsic), most)
 }
 
 fn decode_sync(rt: &impl Abort, burst: &[i8; BURST_BITS], most: u32) -> ListDecodedSync {
-    assert!(rt; are_soft(burst));
-    assert!(rt; most >= 1);
-    assert!(rt; most <= 64);
+    assert!(rt; are_soft(burst) && most >= 1 && most <= 64);
     receive_sync_among(burst, most)
+}
+
+// Checks all of the report of a block sent with training sequence code 7 but its encoder input.
+fn check_block(
+    rt: &impl Abort,
+    found: ListDecodedBlock,
+    accepted: Option<[u8; BLOCK_OCTETS]>,
+    metric: i32,
+    rank: u32,
+) {
+    assert_eq!(rt; found.report.accepted, accepted);
+    assert_eq!(rt; found.report.metric, metric);
+    assert_eq!(rt; found.report.tsc, 7);
+    assert_eq!(rt; found.report.wrong_training, 0);
+    assert_eq!(rt; found.rank, rank);
 }
 
 // The coded bits of the sent word and of a neighbouring word differ in seven positions. Four of these bits are flipped, so the neighbour
@@ -44,17 +54,14 @@ fn the_second_most_likely_word_is_the_sent_one(rt: HostRuntime) {
         sent[burst][place] ^= 1;
     }
     let bursts = sent.map(|burst| soften_burst(&rt, &burst));
-    let alone = decode_block(&rt, &bursts, 1);
-    assert_eq!(rt; alone.report.accepted, None);
-    assert_eq!(rt; alone.report.metric, 450 * 127);
-    assert_eq!(rt; alone.rank, 1);
-    for most in [2, 16, 64] {
-        let among = decode_block(&rt, &bursts, most);
-        assert_eq!(rt; among.report.accepted, Some(octets));
-        assert_eq!(rt; among.report.metric, 448 * 127);
-        assert_eq!(rt; among.report.tsc, 7);
-        assert_eq!(rt; among.report.wrong_training, 0);
-        assert_eq!(rt; among.rank, 2);
+    for (most, accepted, metric, rank) in [
+        (1, None, 450 * 127, 1),
+        (2, Some(octets), 448 * 127, 2),
+        (16, Some(octets), 448 * 127, 2),
+        (64, Some(octets), 448 * 127, 2),
+    ] {
+        let found = decode_block(&rt, &bursts, most);
+        check_block(&rt, found, accepted, metric, rank);
     }
 }
 
@@ -63,10 +70,31 @@ fn the_second_most_likely_word_is_the_sent_one(rt: HostRuntime) {
 #[test]
 fn a_lost_block_stays_lost(rt: HostRuntime) {
     let lost = decode_block(&rt, &[[0; BURST_BITS]; 4], 64);
-    assert_eq!(rt; lost.report.accepted, None);
-    assert_eq!(rt; lost.report.u, Bits::zero());
-    assert_eq!(rt; lost.report.wrong_training, 104);
-    assert_eq!(rt; lost.rank, 1);
+    let report = Received {
+        u: Bits::zero(),
+        metric: 0,
+        tsc: 0,
+        wrong_training: 104,
+        accepted: None,
+    };
+    assert_eq!(rt; lost, ListDecodedBlock { report, rank: 1 });
+}
+
+// Checks the report of an access burst without any received bit.
+fn check_lost_access(
+    rt: &impl Abort,
+    found: ListDecodedAccess,
+    u: Bits<18>,
+    accepted: Option<Bits<8>>,
+    rank: u32,
+) {
+    let report = ReceivedAccess {
+        u,
+        metric: 0,
+        wrong_training: 41,
+        accepted,
+    };
+    assert_eq!(rt; found, ListDecodedAccess { report, rank });
 }
 
 // All words are equally likely, so the first 64 have the information bits 0 and all values of the six CRC bits in ascending order. The CRC
@@ -81,22 +109,24 @@ fn a_lost_access_burst_matches_each_bsic(rt: HostRuntime) {
         ([0, 0, 0, 0, 0, 0], 64),
     ] {
         let found = decode_access(&rt, &[0; 88], bsic, 64);
-        assert_eq!(rt; found.rank, rank);
-        assert_eq!(rt; found.report.accepted, Some(Bits::zero()));
+        let mut u = Bits::zero();
         for (k, bit) in bsic.iter().enumerate() {
-            assert_eq!(rt; found.report.u.get(8 + k), 1 - *bit);
+            u.set(8 + k, 1 - *bit);
         }
+        check_lost_access(&rt, found, u, Some(Bits::zero()), rank);
     }
     let missed = decode_access(&rt, &[0; 88], [0; 6], 63);
-    assert_eq!(rt; missed.report.accepted, None);
-    assert_eq!(rt; missed.report.u, Bits::zero());
-    assert_eq!(rt; missed.rank, 1);
+    check_lost_access(&rt, missed, Bits::zero(), None, 1);
 }
 
 #[test]
 fn a_lost_synchronisation_burst_stays_lost(rt: HostRuntime) {
     let lost = decode_sync(&rt, &[0; BURST_BITS], 64);
-    assert_eq!(rt; lost.report.accepted, None);
-    assert_eq!(rt; lost.report.u, Bits::zero());
-    assert_eq!(rt; lost.rank, 1);
+    let report = ReceivedSync {
+        u: Bits::zero(),
+        metric: 0,
+        wrong_training: 64,
+        accepted: None,
+    };
+    assert_eq!(rt; lost, ListDecodedSync { report, rank: 1 });
 }

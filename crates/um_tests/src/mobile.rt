@@ -81,38 +81,44 @@ fn is_same_notice(one: &Notice, other: &Notice) -> bool {
     }
 }
 
-fn sends_and_reports(
+// Checks that a call is answered with these octets, and with this notice.
+pub fn check_answer(
+    rt: &impl Abort,
     answer: &Result<Effects, Refused>,
     sent: &[u8],
     expected_notice: Option<Notice>,
-) -> bool {
-    match answer {
-        Ok(effects) => sends_only(effects, sent) && reports_only(effects, &expected_notice),
-        Err(_) => false,
-    }
+) {
+    assert!(rt;
+        matches!(answer, Ok(effects) if sends_only(effects, sent) && reports_only(effects, &expected_notice))
+    );
+}
+
+// Checks that a call is refused for this reason.
+pub fn check_refused(rt: &impl Abort, answer: &Result<Effects, Refused>, reason: Refused) {
+    assert!(rt; matches!(answer, Err(other) if *other == reason));
 }
 
 // Checks that the mobile refuses to establish the link when its state is not Idle.
 fn open_is_refused(rt: &impl Abort, session: &mut Session) {
-    assert!(rt; matches!(session.end.open(&[1]), Err(Refused::NotIdle)));
+    check_refused(rt, &session.end.open(&[1]), Refused::NotIdle);
 }
 
 // Checks that the mobile refuses to send a message and to release the link when its state is not Open.
 fn send_and_close_are_refused(rt: &impl Abort, session: &mut Session) {
-    assert!(rt; matches!(session.end.send(&[]), Err(Refused::NotOpen)));
-    assert!(rt; matches!(session.end.close(), Err(Refused::NotOpen)));
+    check_refused(rt, &session.end.send(&[]), Refused::NotOpen);
+    check_refused(rt, &session.end.close(), Refused::NotOpen);
 }
 
 // Checks that the mobile refuses T200 expiry while T200 is not running.
 fn t200_expiry_is_refused(rt: &impl Abort, session: &mut Session) {
-    assert!(rt; matches!(session.end.timer(), Err(Refused::NotRunning)));
+    check_refused(rt, &session.end.timer(), Refused::NotRunning);
 }
 
 // Checks the calls that are possible in every state: sending a UI frame and sending the fill frame.
 fn sends_ui_frames(rt: &impl Abort, session: &mut Session) {
-    assert!(rt; matches!(session.end.unit(&[]), Err(Refused::Empty)));
-    assert!(rt; matches!(session.end.unit(&[7; 21]), Err(Refused::TooLong)));
-    assert!(rt; sends_and_reports(&session.end.unit(&[9]), &[0x01, 0x03, 0x05, 9], None));
+    check_refused(rt, &session.end.unit(&[]), Refused::Empty);
+    check_refused(rt, &session.end.unit(&[7; 21]), Refused::TooLong);
+    check_answer(rt, &session.end.unit(&[9]), &[0x01, 0x03, 0x05, 9], None);
     assert!(rt; sends_only(&session.end.idle(), &[0x01, 0x03, 0x01]));
 }
 
@@ -122,9 +128,14 @@ fn mobile_in_opening(rt: &impl Abort) -> Session {
     send_and_close_are_refused(rt, &mut session);
     t200_expiry_is_refused(rt, &mut session);
     sends_ui_frames(rt, &mut session);
-    assert!(rt; matches!(session.end.open(&[]), Err(Refused::Empty)));
-    assert!(rt; matches!(session.end.open(&[7; 21]), Err(Refused::TooLong)));
-    assert!(rt; sends_and_reports(&session.end.open(&[1, 2]), &[0x01, 0x3f, 0x09, 1, 2], None));
+    check_refused(rt, &session.end.open(&[]), Refused::Empty);
+    check_refused(rt, &session.end.open(&[7; 21]), Refused::TooLong);
+    check_answer(
+        rt,
+        &session.end.open(&[1, 2]),
+        &[0x01, 0x3f, 0x09, 1, 2],
+        None,
+    );
     open_is_refused(rt, &mut session);
     send_and_close_are_refused(rt, &mut session);
     sends_ui_frames(rt, &mut session);
@@ -171,35 +182,40 @@ fn is_refused_by_dm(rt: HostRuntime) {
 #[test]
 fn fails_after_23_repetitions(rt: HostRuntime) {
     let mut session = session_with_open_link(&rt);
-    assert!(rt; sends_and_reports(&session.end.send(&[0xaa]), &[0x01, 0x00, 0x05, 0xaa], None));
+    check_answer(
+        &rt,
+        &session.end.send(&[0xaa]),
+        &[0x01, 0x00, 0x05, 0xaa],
+        None,
+    );
     for _ in 0..23 {
-        assert!(rt; sends_and_reports(&session.end.timer(), &[0x01, 0x10, 0x05, 0xaa], None));
+        check_answer(&rt, &session.end.timer(), &[0x01, 0x10, 0x05, 0xaa], None);
     }
     let failed = Some(Notice::Closed(Reason::Failed));
-    assert!(rt; sends_and_reports(&session.end.timer(), &[], failed));
+    check_answer(&rt, &session.end.timer(), &[], failed);
 }
 
 #[test]
 fn fails_after_5_repetitions_on_sacch(rt: HostRuntime) {
     let mut session = Session::new(Channel::Sacch);
     let sabm = [0x00, 0x00, 0x01, 0x3f, 0x05, 0x01];
-    assert!(rt; matches!(session.end.open(&[7; 19]), Err(Refused::TooLong)));
-    assert!(rt; sends_and_reports(&session.end.open(&[1]), &sabm, None));
+    check_refused(&rt, &session.end.open(&[7; 19]), Refused::TooLong);
+    check_answer(&rt, &session.end.open(&[1]), &sabm, None);
     for _ in 0..5 {
-        assert!(rt; sends_and_reports(&session.end.timer(), &sabm, None));
+        check_answer(&rt, &session.end.timer(), &sabm, None);
     }
     let failed = Some(Notice::Closed(Reason::Failed));
-    assert!(rt; sends_and_reports(&session.end.timer(), &[], failed));
+    check_answer(&rt, &session.end.timer(), &[], failed);
 }
 
 #[test]
 fn closes_the_link(rt: HostRuntime) {
     let mut session = session_with_open_link(&rt);
-    assert!(rt; sends_and_reports(&session.end.close(), &[0x01, 0x53, 0x01], None));
+    check_answer(&rt, &session.end.close(), &[0x01, 0x53, 0x01], None);
     open_is_refused(&rt, &mut session);
     send_and_close_are_refused(&rt, &mut session);
     sends_ui_frames(&rt, &mut session);
-    assert!(rt; sends_and_reports(&session.end.timer(), &[0x01, 0x53, 0x01], None));
+    check_answer(&rt, &session.end.timer(), &[0x01, 0x53, 0x01], None);
     let ua = |info| Body::Ua { f: true, info };
     session.take_and_check(&rt, false, ua(&[1, 2]), &[], None);
     let released = Some(Notice::Closed(Reason::Released));
@@ -210,13 +226,21 @@ fn closes_the_link(rt: HostRuntime) {
     sends_ui_frames(&rt, &mut session);
 }
 
-fn take_sapi_3_frame(rt: &impl Abort, mobile: &mut Mobile, cr: bool, body: Body<'_>) -> Effects
+// Passes a frame of SAPI 3 to the endpoint, and checks the frames and notices that result.
+fn take_sapi_3_frame(
+    rt: &impl Abort,
+    mobile: &mut Mobile,
+    cr: bool,
+    body: Body<'_>,
+    sent: &[u8],
+    expected_notice: Option<Notice>,
+)
     requires { channel_of (endpoint_of mobile.old) ≡ C.Sdcch }
     ensures { channel_of (endpoint_of mobile.new) ≡ C.Sdcch }
 {
     let frame = FrameView { sapi: 3, cr, body };
     assert!(rt; fits(&frame));
-    mobile.take(&frame)
+    check_answer(rt, &Ok(mobile.take(&frame)), sent, expected_notice);
 }
 
 #[test]
@@ -224,13 +248,11 @@ fn opens_sapi_3_from_both_ends_at_once(rt: HostRuntime) {
     assert_eq!(rt; Mobile::new().sapi(), Sapi::Zero);
     let mut mobile = Mobile::with_sapi(Sapi::Three);
     assert_eq!(rt; mobile.sapi(), Sapi::Three);
-    assert!(rt; sends_and_reports(&mobile.open_bare(), &[0x0d, 0x3f, 0x01], None));
-    assert!(rt; matches!(mobile.open_bare(), Err(Refused::NotIdle)));
+    check_answer(&rt, &mobile.open_bare(), &[0x0d, 0x3f, 0x01], None);
+    check_refused(&rt, &mobile.open_bare(), Refused::NotIdle);
     let sabm = Body::Sabm { p: true, info: &[] };
-    let effects = take_sapi_3_frame(&rt, &mut mobile, true, sabm);
-    assert!(rt; sends_only(&effects, &[0x0f, 0x73, 0x01]) && reports_only(&effects, &None));
+    take_sapi_3_frame(&rt, &mut mobile, true, sabm, &[0x0f, 0x73, 0x01], None);
     let ua = Body::Ua { f: true, info: &[] };
-    let effects = take_sapi_3_frame(&rt, &mut mobile, false, ua);
-    let expected_notice = Some(Notice::Opened(Message::new(&[])));
-    assert!(rt; sends_only(&effects, &[]) && reports_only(&effects, &expected_notice));
+    let opened = Some(Notice::Opened(Message::new(&[])));
+    take_sapi_3_frame(&rt, &mut mobile, false, ua, &[], opened);
 }

@@ -3,7 +3,7 @@ ghost use Rattle.std.specs.Prelude.{◌≡◌};
 ghost use Rattle.lapdm_end.specs.Abstraction.{channel_of};
 ghost use Rattle.lapdm_network.specs.Ends.{endpoint_of};
 
-use crate::mobile::{reports_only, sends_only};
+use crate::mobile::{check_answer, check_refused, reports_only, sends_only};
 use lapdm_end::{
     Body, Channel, Effects, FrameView, Message, Notice, Refused, Sapi, State, fits_on,
 };
@@ -44,6 +44,29 @@ impl Session {
         assert!(rt; sends_only(&effects, sent));
         assert!(rt; reports_only(&effects, &expected_notice));
     }
+
+    // Passes the last segment of a message, which is one octet, and checks the frames and notices that result.
+    fn take_last_segment(
+        &mut self,
+        rt: &impl Abort,
+        ns: u8,
+        octet: u8,
+        sent: &[u8],
+        expected_notice: Option<Notice>,
+    ) {
+        self.take_and_check(
+            rt,
+            false,
+            i_frame(ns, 0, false, &[octet]),
+            sent,
+            expected_notice,
+        );
+    }
+}
+
+// The notice of a message that is the octet aa.
+fn got_aa() -> Option<Notice> {
+    Some(Notice::Got(Message::new(&[0xaa])))
 }
 
 fn i_frame<'a>(ns: u8, nr: u8, more: bool, info: &'a [u8]) -> Body<'a> {
@@ -71,26 +94,13 @@ fn session_with_open_link(rt: &impl Abort) -> Session {
 fn answers_a_repeated_sabm_and_rejects_a_repeated_segment_once(rt: HostRuntime) {
     let mut session = session_with_open_link(&rt);
     let sabm = |info| Body::Sabm { p: true, info };
-    let got = Some(Notice::Got(Message::new(&[0xaa])));
-    session.take_and_check(
-        &rt,
-        false,
-        i_frame(0, 0, false, &[0xaa]),
-        &[0x01, 0x21, 0x01],
-        got,
-    );
+    session.take_last_segment(&rt, 0, 0xaa, &[0x01, 0x21, 0x01], got_aa());
     session.take_and_check(&rt, false, sabm(&[1]), &[0x01, 0x73, 0x05, 0x01], None);
-    session.take_and_check(&rt, false, sabm(&[2]), &[], None);
-    session.take_and_check(&rt, false, sabm(&[1, 0]), &[], None);
-    session.take_and_check(&rt, false, sabm(&[]), &[], None);
-    session.take_and_check(
-        &rt,
-        false,
-        i_frame(0, 0, false, &[0xaa]),
-        &[0x01, 0x29, 0x01],
-        None,
-    );
-    session.take_and_check(&rt, false, i_frame(0, 0, false, &[0xaa]), &[], None);
+    for info in [&[2][..], &[1, 0], &[]] {
+        session.take_and_check(&rt, false, sabm(info), &[], None);
+    }
+    session.take_last_segment(&rt, 0, 0xaa, &[0x01, 0x29, 0x01], None);
+    session.take_last_segment(&rt, 0, 0xaa, &[], None);
 }
 
 #[test]
@@ -100,21 +110,8 @@ fn discards_a_message_that_its_last_segment_makes_too_long(rt: HostRuntime) {
         let ready = [0x01, 32 * ((i + 1) % 8) + 1, 0x01];
         session.take_and_check(&rt, false, i_frame(i % 8, 0, true, &[7; 20]), &ready, None);
     }
-    session.take_and_check(
-        &rt,
-        false,
-        i_frame(5, 0, false, &[7]),
-        &[0x01, 0xc1, 0x01],
-        Some(Notice::Oversize),
-    );
-    let got = Some(Notice::Got(Message::new(&[0xaa])));
-    session.take_and_check(
-        &rt,
-        false,
-        i_frame(6, 0, false, &[0xaa]),
-        &[0x01, 0xe1, 0x01],
-        got,
-    );
+    session.take_last_segment(&rt, 5, 7, &[0x01, 0xc1, 0x01], Some(Notice::Oversize));
+    session.take_last_segment(&rt, 6, 0xaa, &[0x01, 0xe1, 0x01], got_aa());
 }
 
 #[test]
@@ -131,14 +128,7 @@ fn ignores_what_the_mobile_does_not_send(rt: HostRuntime) {
     session.take_and_check(&rt, false, Body::Rnr { nr: 0, pf: true }, &[], None);
     session.take_and_check(&rt, false, Body::Ua { f: true, info: &[] }, &[], None);
     assert_eq!(rt; session.end.state(), State::Open);
-    let got = Some(Notice::Got(Message::new(&[0xaa])));
-    session.take_and_check(
-        &rt,
-        false,
-        i_frame(0, 0, false, &[0xaa]),
-        &[0x01, 0x21, 0x01],
-        got,
-    );
+    session.take_last_segment(&rt, 0, 0xaa, &[0x01, 0x21, 0x01], got_aa());
 }
 
 // Checks that an RR acknowledges nothing unless its N(R) is `number`. With `number` 8, the check covers every N(R).
@@ -157,9 +147,7 @@ fn ignores_every_wrong_nr_in_any_state_of_the_window(rt: HostRuntime) {
         let va = round % 8;
         ignores_other_nr(&rt, &mut session, 8);
         let sent = session.end.send(&[round]);
-        assert!(rt;
-            matches!(&sent, Ok(effects) if sends_only(effects, &[0x03, 2 * va, 0x05, round]))
-        );
+        check_answer(&rt, &sent, &[0x03, 2 * va, 0x05, round], None);
         let next = (va + 1) % 8;
         ignores_other_nr(&rt, &mut session, next);
         let acked = Some(Notice::Acked(u64::from(round) + 1));
@@ -182,13 +170,9 @@ fn makes_endpoints_of_both_sapis(rt: HostRuntime) {
     let mut network = Network::with_sapi(Sapi::Three);
     assert_eq!(rt; network.sapi(), Sapi::Three);
     assert!(rt; sends_only(&network.idle(), &[0x03, 0x03, 0x01]));
-    assert!(rt;
-        matches!(&network.unit(&[9]), Ok(effects) if sends_only(effects, &[0x0f, 0x03, 0x05, 9]))
-    );
-    assert!(rt; matches!(network.close(), Err(Refused::NotOpen)));
-    assert!(rt; matches!(network.timer(), Err(Refused::NotRunning)));
-    assert!(rt;
-        matches!(&network.open_bare(), Ok(effects) if sends_only(effects, &[0x0f, 0x3f, 0x01]))
-    );
+    check_answer(&rt, &network.unit(&[9]), &[0x0f, 0x03, 0x05, 9], None);
+    check_refused(&rt, &network.close(), Refused::NotOpen);
+    check_refused(&rt, &network.timer(), Refused::NotRunning);
+    check_answer(&rt, &network.open_bare(), &[0x0f, 0x3f, 0x01], None);
     assert_eq!(rt; network.state(), State::Opening);
 }

@@ -3,7 +3,7 @@ ghost use Rattle.std.specs.Prelude.{◌≤◌};
 
 use std::process::Abort;
 use std::test::Fail;
-use um_cli::{MemorySink, MemorySource, PlainRadio, PlainSource, Status, Words, run};
+use um_cli::{MemorySink, MemorySource, PlainRadio, PlainSource, Source, Status, Words, run};
 
 /// How many octets a read or a write moves at most, and which reads and writes fail.
 #[derive(Clone, Copy)]
@@ -54,6 +54,22 @@ impl<'a> StreamLimits<'a> {
     }
 }
 
+/// Runs the command with this source and this sink, and checks the status.
+pub fn check_status<S: Source>(
+    rt: &(impl Abort + AllocGlobal),
+    words: &[&str],
+    source: &mut S,
+    sink: &mut MemorySink<'_>,
+    radio: &mut PlainRadio,
+    status: Status,
+) {
+    let mut held = Words::new();
+    for word in words {
+        held.add(word);
+    }
+    assert_eq!(rt; run(rt.alloc(), &held, source, sink, radio), status);
+}
+
 /// Runs the command over the input, and checks the status and the output.
 pub fn check_run(
     rt: &(impl Abort + AllocGlobal),
@@ -63,10 +79,6 @@ pub fn check_run(
     status: Status,
     output: &[u8],
 ) {
-    let mut held = Words::new();
-    for word in words {
-        held.add(word);
-    }
     let mut source = MemorySource::new(input, outside.max_per_take, outside.failing_takes);
     let mut sink = MemorySink::new(
         rt.alloc(),
@@ -75,15 +87,13 @@ pub fn check_run(
         outside.failing_puts,
     )
     .expect(rt, "the sink finds its memory");
-    assert_eq!(rt;
-        run(
-            rt.alloc(),
-            &held,
-            &mut source,
-            &mut sink,
-            &mut PlainRadio::new()
-        ),
-        status
+    check_status(
+        rt,
+        words,
+        &mut source,
+        &mut sink,
+        &mut PlainRadio::new(),
+        status,
     );
     assert_eq!(rt; sink.octets(), output);
 }
@@ -96,38 +106,16 @@ pub fn check_run_in_pieces(
     status: Status,
     output: &[u8],
 ) {
-    check_run(
-        rt,
-        words,
-        input,
-        StreamLimits::moving_at_most(1),
-        status,
-        output,
-    );
-    check_run(
-        rt,
-        words,
-        input,
-        StreamLimits::moving_at_most(2),
-        status,
-        output,
-    );
-    check_run(
-        rt,
-        words,
-        input,
-        StreamLimits::moving_at_most(7),
-        status,
-        output,
-    );
-    check_run(
-        rt,
-        words,
-        input,
-        StreamLimits::moving_at_most(100_000),
-        status,
-        output,
-    );
+    for most in [1, 2, 7, 100_000] {
+        check_run(
+            rt,
+            words,
+            input,
+            StreamLimits::moving_at_most(most),
+            status,
+            output,
+        );
+    }
 }
 
 /// Runs `check_run_in_pieces`, and expects the refusal of this line as the whole output.
@@ -172,16 +160,17 @@ pub fn output_of_run(
     words: &[&str],
     input: &[u8],
 ) -> Result<Vec<u8>, Fail> {
-    let mut held = Words::new();
-    for word in words {
-        held.add(word);
-    }
     let mut source = PlainSource::new(input, 100);
     let mut sink = MemorySink::new(rt.alloc(), 10_000, 10_000, &[])
         .ok()
         .ok_or("no memory")?;
-    let mut radio = PlainRadio::new();
-    let status = run(rt.alloc(), &held, &mut source, &mut sink, &mut radio);
-    assert_eq!(rt; status, Status::Done);
+    check_status(
+        rt,
+        words,
+        &mut source,
+        &mut sink,
+        &mut PlainRadio::new(),
+        Status::Done,
+    );
     Ok(sink.octets().to_vec(rt.alloc())?)
 }

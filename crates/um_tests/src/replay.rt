@@ -52,49 +52,44 @@ n 000000000001010101010111101110101010000000010101110111111010111101111000100101
 const BURST_WITH_OTHER_BSIC: &[u8] =
     b"a 000000 0011101001001011011111111001100110101010001111000000000000000000000000000000000000000000\n";
 
+// Runs `replay` over the bursts in pieces, and expects this report.
+fn check_replay(rt: &(impl Abort + AllocGlobal), bursts: &[u8], report: &[u8]) {
+    check_run_in_pieces(rt, &["replay"], bursts, Status::Done, report);
+}
+
 #[test]
 fn the_crc_of_an_access_burst_holds_only_for_its_bsic(rt: HostRuntime) {
-    check_run_in_pieces(
+    check_replay(
         &rt,
-        &["replay"],
         ACCESS_BURST_OF_ZEROS,
-        Status::Done,
         b"access 111111 train 0 metric 4572 parity ok data 00000000 check 000000\n",
     );
-    check_run_in_pieces(
+    check_replay(
         &rt,
-        &["replay"],
         BURST_WITH_OTHER_BSIC,
-        Status::Done,
         b"access 000000 train 0 metric 4572 parity bad data 00000000 check 000000\n",
     );
-    check_run_in_pieces(
+    check_replay(
         &rt,
-        &["replay"],
         ACCESS_BURST,
-        Status::Done,
         b"access 000000 train 0 metric 4572 parity ok data 00000000 check 111111\n",
     );
 }
 
 #[test]
 fn a_synchronisation_burst_is_reported_with_its_check(rt: HostRuntime) {
-    check_run_in_pieces(
+    check_replay(
         &rt,
-        &["replay"],
         SYNC_BURST,
-        Status::Done,
         b"sync train 0 metric 9906 parity ok data 0000000000000000000000000 check 1111111111\n",
     );
 }
 
 #[test]
 fn a_block_of_zeros_is_reported_as_unread(rt: HostRuntime) {
-    check_run_in_pieces(
+    check_replay(
         &rt,
-        &["replay"],
         BLOCK_OF_ZEROS,
-        Status::Done,
         b"block tsc 0 train 0 metric 57912 parity ok data 0000000000000000000000000000000000000000000000 check ffffffffff\nunread ea\n",
     );
 }
@@ -105,12 +100,9 @@ fn a_block_with_only_its_last_bit_set_has_this_crc(rt: HostRuntime) -> Result<()
         &rt,
         b"block 3 0000000000000000000000000000000000000000000080\n",
     )?;
-    check_run(
+    check_replay(
         &rt,
-        &["replay"],
         bursts.as_slice(),
-        StreamLimits::moving_at_most(100),
-        Status::Done,
         b"block tsc 3 train 0 metric 57912 parity ok data 0000000000000000000000000000000000000000000080 check ffdfbeff6f\nunread ea\n",
     );
     Ok(())
@@ -118,22 +110,14 @@ fn a_block_with_only_its_last_bit_set_has_this_crc(rt: HostRuntime) -> Result<()
 
 #[test]
 fn a_fill_frame_is_reported_as_a_frame(rt: HostRuntime) {
-    check_run_in_pieces(
-        &rt,
-        &["replay"],
-        FILL_FRAME,
-        Status::Done,
-        FILL_FRAME_REPORT,
-    );
+    check_replay(&rt, FILL_FRAME, FILL_FRAME_REPORT);
 }
 
 #[test]
 fn four_lost_bursts_are_reported_as_the_first_codeword(rt: HostRuntime) {
-    check_run_in_pieces(
+    check_replay(
         &rt,
-        &["replay"],
         b"lost\nlost\n# comment\n\nlost\nlost",
-        Status::Done,
         b"block tsc 0 train 104 metric 0 parity bad data 0000000000000000000000000000000000000000000000 check 0000000000\n",
     );
 }
@@ -143,11 +127,9 @@ fn a_block_with_a_lost_burst_is_restored(rt: HostRuntime) -> Result<(), Fail> {
     let mut input = BLOCK_OF_ZEROS[..151].to_vec(rt.alloc())?;
     input.extend_from_slice(b"lost\n")?;
     input.extend_from_slice(&BLOCK_OF_ZEROS[302..])?;
-    check_run_in_pieces(
+    check_replay(
         &rt,
-        &["replay"],
         input.as_slice(),
-        Status::Done,
         b"block tsc 0 train 26 metric 43434 parity ok data 0000000000000000000000000000000000000000000000 check ffffffffff\nunread ea\n",
     );
     Ok(())
@@ -155,21 +137,15 @@ fn a_block_with_a_lost_burst_is_restored(rt: HostRuntime) -> Result<(), Fail> {
 
 #[test]
 fn three_wrong_bits_are_corrected_but_seven_give_another_codeword(rt: HostRuntime) {
-    check_run(
+    check_replay(
         &rt,
-        &["replay"],
         BURSTS_WITH_THREE_WRONG_BITS,
-        StreamLimits::moving_at_most(1000),
-        Status::Done,
         b"block tsc 7 train 0 metric 57150 parity ok data 0303012b2b2b2b2b2b2b2b2b2b2b2b2b2b2b2b2b2b2b2b check 2c4e540233\n\
 frame sapi 0 cr 1 ui p 0 info -\n",
     );
-    check_run(
+    check_replay(
         &rt,
-        &["replay"],
         BURSTS_WITH_SEVEN_WRONG_BITS,
-        StreamLimits::moving_at_most(1000),
-        Status::Done,
         b"block tsc 7 train 0 metric 57912 parity bad data 0203012b2b2b2b2b2b2b2b2b2b2b2b2b2b2b2b2b2b2b2b check 2c4e540233\n",
     );
 }
@@ -210,6 +186,7 @@ fn soft_values_are_weighted_and_the_first_of_tied_words_is_reported(
 ) -> Result<(), Fail> {
     let zeros =
         "00000000000000000000000000000000000000000000000000000000000000000000000000000000000000000000000000";
+    let few = StreamLimits::moving_at_most(7);
     for (code, values, report) in SOFT_BURSTS {
         let line = format!(in rt.alloc(); "A {code} {zeros}{values}000000\n")?;
         let output = format!(in rt.alloc(); "access {code} {report}\n")?;
@@ -217,7 +194,7 @@ fn soft_values_are_weighted_and_the_first_of_tied_words_is_reported(
             &rt,
             &["replay"],
             line.as_bytes(),
-            StreamLimits::moving_at_most(7),
+            few,
             Status::Done,
             output.as_bytes(),
         );
@@ -227,11 +204,16 @@ fn soft_values_are_weighted_and_the_first_of_tied_words_is_reported(
 
 #[test]
 fn an_input_that_ends_inside_a_block_is_refused_at_its_end(rt: HostRuntime) -> Result<(), Fail> {
-    check_refusal(&rt, &["replay"], &BLOCK_OF_ZEROS[..453], 4, "order")?;
-    check_refusal(&rt, &["replay"], b"lost\n\n#", 4, "order")?;
-    let mut input = b"lost\nlost\n".to_vec(rt.alloc())?;
-    input.extend_from_slice(ACCESS_BURST)?;
-    check_refusal(&rt, &["replay"], input.as_slice(), 3, "order")
+    let mut mixed = b"lost\nlost\n".to_vec(rt.alloc())?;
+    mixed.extend_from_slice(ACCESS_BURST)?;
+    for (input, line) in [
+        (&BLOCK_OF_ZEROS[..453], 4),
+        (b"lost\n\n#", 4),
+        (mixed.as_slice(), 3),
+    ] {
+        check_refusal(&rt, &["replay"], input, line, "order")?;
+    }
+    Ok(())
 }
 
 #[test]
@@ -245,7 +227,7 @@ fn a_soft_value_of_minus_128_is_refused(rt: HostRuntime) -> Result<(), Fail> {
 
 #[test]
 fn replay_skips_empty_lines_and_comments_only(rt: HostRuntime) -> Result<(), Fail> {
-    check_run_in_pieces(&rt, &["replay"], b"", Status::Done, b"");
+    check_replay(&rt, b"", b"");
     check_refusal(&rt, &["replay"], b"foo", 1, "word")?;
     check_refusal(&rt, &["replay"], b"\nlost\r\n", 2, "word")?;
     check_longest_lines(&rt, &["replay"])
@@ -276,30 +258,15 @@ fn check_cut_replay(
 {
     let count = 151 * lines + octets;
     let input = FILL_FRAME.get(..count).ok_or("604 octets")?;
+    let (line, reason) = refusal_of_cut_input(lines, octets);
+    let refusal = format!(in rt.alloc(); "refused {line} {reason}\n")?;
+    let (status, output) = match count {
+        0 => (Status::Done, b"".as_slice()),
+        603 => (Status::Done, FILL_FRAME_REPORT),
+        _ => (Status::BadInput, refusal.as_bytes()),
+    };
     let ample = StreamLimits::moving_at_most(100);
-    if count == 0 {
-        check_run(rt, &["replay"], input, ample, Status::Done, b"");
-    } else if count == 603 {
-        check_run(
-            rt,
-            &["replay"],
-            input,
-            ample,
-            Status::Done,
-            FILL_FRAME_REPORT,
-        );
-    } else {
-        let (line, reason) = refusal_of_cut_input(lines, octets);
-        let output = format!(in rt.alloc(); "refused {line} {reason}\n")?;
-        check_run(
-            rt,
-            &["replay"],
-            input,
-            ample,
-            Status::BadInput,
-            output.as_bytes(),
-        );
-    }
+    check_run(rt, &["replay"], input, ample, status, output);
     Ok(())
 }
 
@@ -313,27 +280,32 @@ fn a_recording_cut_at_any_octet_is_refused_where_it_is_cut(rt: HostRuntime) -> R
     Ok(())
 }
 
+// Runs `replay` over the fill frame's bursts, and checks the status and the output.
+fn check_fill_frame(
+    rt: &(impl Abort + AllocGlobal),
+    outside: StreamLimits<'_>,
+    status: Status,
+    output: &[u8],
+) {
+    check_run(rt, &["replay"], FILL_FRAME, outside, status, output);
+}
+
 #[test]
 fn failing_reads_and_writes_leave_a_prefix_of_the_report(rt: HostRuntime) {
     let all = FILL_FRAME_REPORT;
     for call in 1..8 {
-        let calls = [call];
-        let outside = StreamLimits::failing(100, &calls, &[]);
-        check_run(
+        check_fill_frame(
             &rt,
-            &["replay"],
-            FILL_FRAME,
-            outside,
+            StreamLimits::failing(100, &[call], &[]),
             Status::ReadFault,
             b"",
         );
     }
-    let eighth = StreamLimits::failing(100, &[8], &[]);
-    check_run(&rt, &["replay"], FILL_FRAME, eighth, Status::ReadFault, all);
-    let ninth = StreamLimits::failing(100, &[9], &[]);
-    check_run(&rt, &["replay"], FILL_FRAME, ninth, Status::Done, all);
+    for (call, status) in [(8, Status::ReadFault), (9, Status::Done)] {
+        check_fill_frame(&rt, StreamLimits::failing(100, &[call], &[]), status, all);
+    }
     let full = StreamLimits::with_sink_capacity(0);
-    check_run(&rt, &["replay"], FILL_FRAME, full, Status::WriteFault, b"");
+    check_fill_frame(&rt, full, Status::WriteFault, b"");
 }
 
 /// A sink that takes at most 50 octets in each call, and fails in the calls with these numbers.
@@ -349,21 +321,14 @@ fn sink_of_fifty_octets(failing_puts: &[u64]) -> StreamLimits<'_> {
 
 #[test]
 fn any_write_of_a_report_may_fail(rt: HostRuntime) -> Result<(), Fail> {
-    for (call, taken) in [(1, 0), (2, 50), (3, 100)] {
-        let calls = [call];
+    for (call, status, taken) in [
+        (1, Status::WriteFault, 0),
+        (2, Status::WriteFault, 50),
+        (3, Status::WriteFault, 100),
+        (4, Status::Done, FILL_FRAME_REPORT.len()),
+    ] {
         let front = FILL_FRAME_REPORT.get(..taken).ok_or("144 octets")?;
-        let outside = sink_of_fifty_octets(&calls);
-        check_run(
-            &rt,
-            &["replay"],
-            FILL_FRAME,
-            outside,
-            Status::WriteFault,
-            front,
-        );
+        check_fill_frame(&rt, sink_of_fifty_octets(&[call]), status, front);
     }
-    let fourth = sink_of_fifty_octets(&[4]);
-    let all = FILL_FRAME_REPORT;
-    check_run(&rt, &["replay"], FILL_FRAME, fourth, Status::Done, all);
     Ok(())
 }

@@ -1,4 +1,5 @@
 //! Tests of the functions that write frames and reports, and of the parser for the lines of `show`.
+use std::process::Abort;
 use std::test::Fail;
 use um_text::{
     BLOCK_BITS, BLOCK_OCTETS, Bits, LineFault, Received, ReceivedAccess, ReceivedSync, ShowLine,
@@ -99,19 +100,25 @@ fn block_filled_with(first: &[u8; 5], fill: u8) -> [u8; BLOCK_OCTETS] {
     octets
 }
 
+// Checks the text that was written.
+fn check_written(rt: &impl Abort, out: &Text, expected: &str) {
+    assert_eq!(rt; out.octets(), expected.as_bytes(), "{expected}");
+}
+
 #[test]
 fn octets_are_written_as_their_frame_or_as_unread(rt: HostRuntime) {
     for (first, fill, text) in FRAME_CASES {
         let octets = block_filled_with(&first, fill);
         let mut out = Text::new();
         frame_line(&mut out, &octets);
-        assert_eq!(rt; out.octets(), text.as_bytes(), "{text}");
+        check_written(&rt, &out, text);
     }
     let mut out = Text::new();
     octets_line(&mut out, &[0xc5; BLOCK_OCTETS]);
-    assert_eq!(rt;
-        out.octets(),
-        b"octets c5c5c5c5c5c5c5c5c5c5c5c5c5c5c5c5c5c5c5c5c5c5c5\n".as_slice()
+    check_written(
+        &rt,
+        &out,
+        "octets c5c5c5c5c5c5c5c5c5c5c5c5c5c5c5c5c5c5c5c5c5c5c5\n",
     );
 }
 
@@ -141,23 +148,24 @@ const LINE_CASES: [(&str, [u8; 5]); 7] = [
     ),
 ];
 
+// Checks how a line of `show` is read.
+fn check_show(rt: &impl Abort, line: &str, expected: Result<ShowLine, LineFault>) {
+    assert_eq!(rt; parse_show(line.as_bytes()), expected, "{line}");
+}
+
 #[test]
 fn the_line_of_a_frame_gives_its_canonical_octets(rt: HostRuntime) {
     for (line, first) in LINE_CASES {
         let octets = block_filled_with(&first, 0x2b);
-        assert_eq!(rt;
-            parse_show(line.as_bytes()),
-            Ok(ShowLine::Frame(octets)),
-            "{line}"
-        );
+        check_show(&rt, line, Ok(ShowLine::Frame(octets)));
     }
-    let line = b"octets 0aA00000000000000000000000000000000000000000Ff";
+    let line = "octets 0aA00000000000000000000000000000000000000000Ff";
     let mut octets = [0; BLOCK_OCTETS];
     octets[0] = 0x0a;
     octets[1] = 0xa0;
     octets[22] = 0xff;
-    assert_eq!(rt; parse_show(line), Ok(ShowLine::Octets(octets)));
-    assert_eq!(rt; parse_show(b"# frame"), Ok(ShowLine::Skip));
+    check_show(&rt, line, Ok(ShowLine::Octets(octets)));
+    check_show(&rt, "# frame", Ok(ShowLine::Skip));
 }
 
 const REFUSED_LINES: [(&str, LineFault); 19] = [
@@ -191,7 +199,7 @@ const REFUSED_LINES: [(&str, LineFault); 19] = [
 #[test]
 fn a_bad_line_of_show_has_its_first_reason(rt: HostRuntime) {
     for (line, fault) in REFUSED_LINES {
-        assert_eq!(rt; parse_show(line.as_bytes()), Err(fault), "{line}");
+        check_show(&rt, line, Err(fault));
     }
 }
 
@@ -206,11 +214,11 @@ fn a_block_is_reported_with_its_frame_if_the_crc_holds(rt: HostRuntime) {
     };
     let mut out = Text::new();
     block_report(&mut out, &r);
-    assert_eq!(rt;
-        out.octets(),
-        b"block tsc 3 train 104 metric -2147483648 parity bad \
-data 0000000000000000000000000000000000000000000000 check 0000000000\n"
-            .as_slice()
+    check_written(
+        &rt,
+        &out,
+        "block tsc 3 train 104 metric -2147483648 parity bad \
+data 0000000000000000000000000000000000000000000000 check 0000000000\n",
     );
     for i in BLOCK_BITS..224 {
         r.u.set(i, 1);
@@ -219,11 +227,11 @@ data 0000000000000000000000000000000000000000000000 check 0000000000\n"
     r.metric = 57912;
     out.clear();
     block_report(&mut out, &r);
-    assert_eq!(rt;
-        out.octets(),
-        b"block tsc 3 train 104 metric 57912 parity ok \
-data 0000000000000000000000000000000000000000000000 check ffffffffff\nunread ea\n"
-            .as_slice()
+    check_written(
+        &rt,
+        &out,
+        "block tsc 3 train 104 metric 57912 parity ok \
+data 0000000000000000000000000000000000000000000000 check ffffffffff\nunread ea\n",
     );
 }
 
@@ -240,9 +248,10 @@ fn an_access_burst_is_reported_with_data_and_check(rt: HostRuntime) -> Result<()
     };
     let bsic = Bits::from_slice(&[1, 1, 0, 1, 1, 1]).ok_or("six bits")?;
     access_report(&mut out, &bsic, &r);
-    assert_eq!(rt;
-        out.octets(),
-        b"access 110111 train 41 metric 30 parity bad data 10000001 check 011111\n".as_slice()
+    check_written(
+        &rt,
+        &out,
+        "access 110111 train 41 metric 30 parity bad data 10000001 check 011111\n",
     );
     r.accepted = Some(Bits::zero());
     r.u = Bits::zero();
@@ -250,9 +259,10 @@ fn an_access_burst_is_reported_with_data_and_check(rt: HostRuntime) -> Result<()
     r.wrong_training = 0;
     out.clear();
     access_report(&mut out, &Bits::zero(), &r);
-    assert_eq!(rt;
-        out.octets(),
-        b"access 000000 train 0 metric 4572 parity ok data 00000000 check 000000\n".as_slice()
+    check_written(
+        &rt,
+        &out,
+        "access 000000 train 0 metric 4572 parity ok data 00000000 check 000000\n",
     );
     Ok(())
 }
@@ -271,8 +281,9 @@ fn a_synchronisation_burst_is_reported_with_data_and_check(rt: HostRuntime) {
         accepted: Some(Bits::zero()),
     };
     sync_report(&mut out, &r);
-    assert_eq!(rt;
-        out.octets(),
-        b"sync train 0 metric 9906 parity ok data 0000000000000000000000000 check 1111111111\n".as_slice()
+    check_written(
+        &rt,
+        &out,
+        "sync train 0 metric 9906 parity ok data 0000000000000000000000000 check 1111111111\n",
     );
 }

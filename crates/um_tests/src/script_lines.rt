@@ -1,4 +1,5 @@
 //! Script lines that are parsed and refused, and the answers to them.
+use std::process::Abort;
 use std::test::Fail;
 use um_block::{BLOCK_OCTETS, Bits, ENCODER_INPUT_BITS, from_octets};
 use um_link::{
@@ -46,26 +47,22 @@ fn a_bad_script_line_has_its_first_reason(rt: HostRuntime) {
             "{line}"
         );
     }
-    assert_eq!(rt;
-        parse_script(&[b'#'; 4097], &mut room).err(),
-        Some(LineFault::Long)
-    );
-    assert_eq!(rt;
-        parse_script(&[b'x'; 4097], &mut room).err(),
-        Some(LineFault::Long)
-    );
+    for octet in [b'#', b'x'] {
+        let fault = parse_script(&[octet; 4097], &mut room).err();
+        assert_eq!(rt; fault, Some(LineFault::Long), "{octet}");
+    }
     assert!(rt; matches!(parse_script(&[b'#'; 4096], &mut room), Ok(ScriptLine::Skip)));
 }
 
 #[test]
-fn digits_are_read_in_both_cases(rt: HostRuntime) -> Result<(), Fail> {
+fn digits_are_read_in_both_cases(rt: HostRuntime) {
     let mut room = Room::new();
-    let Ok(ScriptLine::Step(Event::Rival(octets))) = parse_script(b"rival 0aFAf0Af", &mut room)
-    else {
-        return Err("no rival".into());
-    };
-    assert!(rt; octets == [0x0a, 0xfa, 0xf0, 0xaf].as_slice());
-    Ok(())
+    assert!(rt;
+        matches!(
+            parse_script(b"rival 0aFAf0Af", &mut room),
+            Ok(ScriptLine::Step(Event::Rival(octets))) if octets == [0x0a, 0xfa, 0xf0, 0xaf].as_slice()
+        )
+    );
 }
 
 #[test]
@@ -73,29 +70,26 @@ fn the_longest_lines_are_read(rt: HostRuntime) -> Result<(), Fail> {
     let mut room = Room::new();
     let mut line = [b'0'; 4095];
     line[..9].copy_from_slice(b"mob send ");
-    let Ok(ScriptLine::Step(Event::End(End::Mobile, Sapi::Zero, Call::Send(octets)))) =
-        parse_script(&line, &mut room) else {
-        return Err("no message".into());
-    };
-    assert_eq!(rt; octets.len(), 2043);
+    assert!(rt;
+        matches!(
+            parse_script(&line, &mut room),
+            Ok(ScriptLine::Step(Event::End(End::Mobile, Sapi::Zero, Call::Send(octets)))) if octets.len() == 2043
+        )
+    );
     let mut line = Vec::new(rt.alloc());
     line.extend_from_slice(b"up flip")?;
     for place in 0..592 {
         let word = format!(in rt.alloc(); " {place}")?;
         line.extend_from_slice(word.as_bytes())?;
     }
-    let Ok(ScriptLine::Step(Event::Air(Way::Up, Air::Flip(places)))) = parse_script(
-        line.as_slice(),
-        &mut room,
-    ) else {
-        return Err("no places".into());
-    };
-    assert_eq!(rt; places.len(), 592);
-    assert_eq!(rt; places[591], 591);
+    assert!(rt;
+        matches!(
+            parse_script(line.as_slice(), &mut room),
+            Ok(ScriptLine::Step(Event::Air(Way::Up, Air::Flip(places)))) if places.get(591..) == Some([591].as_slice())
+        )
+    );
     Ok(())
 }
-
-const FILL: &str = "2b2b2b2b2b2b2b2b2b2b2b2b2b2b2b2b2b2b2b";
 
 /// Returns a block that begins with these octets and continues with fill octets.
 fn block(front: [u8; 4]) -> [u8; BLOCK_OCTETS] {
@@ -131,8 +125,13 @@ fn notices_with(notice: Notice) -> Notices {
     notices
 }
 
+// Checks the octets of a text.
+fn check_text(rt: &impl Abort, text: &Text, expected: &str) {
+    assert!(rt; text.octets() == expected.as_bytes());
+}
+
 #[test]
-fn a_sabm_of_another_mobile_is_written(rt: HostRuntime) -> Result<(), Fail> {
+fn a_sabm_of_another_mobile_is_written(rt: HostRuntime) {
     let mut out = Text::new();
     let effects = Effects {
         frames: frames_with_block([1, 0x3f, 5, 2]),
@@ -147,13 +146,15 @@ fn a_sabm_of_another_mobile_is_written(rt: HostRuntime) -> Result<(), Fail> {
             effects,
         }),
     );
-    let lines = format!(in rt.alloc(); "rival sends 013f0502{FILL}\nok\n")?;
-    assert!(rt; out.octets() == lines.as_bytes());
-    Ok(())
+    check_text(
+        &rt,
+        &out,
+        "rival sends 013f05022b2b2b2b2b2b2b2b2b2b2b2b2b2b2b2b2b2b2b\nok\n",
+    );
 }
 
 #[test]
-fn reception_notice_and_sent_frame_are_written_in_order(rt: HostRuntime) -> Result<(), Fail> {
+fn reception_notice_and_sent_frame_are_written_in_order(rt: HostRuntime) {
     let mut out = Text::new();
     let effects = Effects {
         frames: frames_with_block([0x0d, 0x21, 1, 0x2b]),
@@ -168,15 +169,18 @@ fn reception_notice_and_sent_frame_are_written_in_order(rt: HostRuntime) -> Resu
             effects,
         }),
     );
-    let lines = format!(in rt.alloc();
-        "net takes 0d0005aa{FILL} tsc 0 train 0 metric 57912\nnet3 got aa\nnet sends 0d21012b{FILL}\nok\n"
-    )?;
-    assert!(rt; out.octets() == lines.as_bytes());
-    Ok(())
+    check_text(
+        &rt,
+        &out,
+        "net takes 0d0005aa2b2b2b2b2b2b2b2b2b2b2b2b2b2b2b2b2b2b2b tsc 0 train 0 metric 57912\n\
+net3 got aa\n\
+net sends 0d21012b2b2b2b2b2b2b2b2b2b2b2b2b2b2b2b2b2b2b2b\n\
+ok\n",
+    );
 }
 
 #[test]
-fn a_closing_by_contention_is_written(rt: HostRuntime) -> Result<(), Fail> {
+fn a_closing_by_contention_is_written(rt: HostRuntime) {
     let mut out = Text::new();
     let effects = Effects {
         frames: Frames::new(),
@@ -191,11 +195,13 @@ fn a_closing_by_contention_is_written(rt: HostRuntime) -> Result<(), Fail> {
             effects,
         }),
     );
-    let lines = format!(in rt.alloc();
-        "mob takes 01730502{FILL} tsc 0 train 0 metric 57912\nmob closed contention\nok\n"
-    )?;
-    assert!(rt; out.octets() == lines.as_bytes());
-    Ok(())
+    check_text(
+        &rt,
+        &out,
+        "mob takes 017305022b2b2b2b2b2b2b2b2b2b2b2b2b2b2b2b2b2b2b tsc 0 train 0 metric 57912\n\
+mob closed contention\n\
+ok\n",
+    );
 }
 
 #[test]
@@ -222,12 +228,14 @@ fn a_block_with_a_bad_crc_is_written_as_dropped(rt: HostRuntime) -> Result<(), F
             effects,
         }),
     );
-    let lines = format!(in rt.alloc();
-        "mob drops tsc 7 train 0 metric 57912 data 0203012b{FILL} check 2c4e540233\nok\n"
-    )?;
-    assert!(rt; out.octets() == lines.as_bytes());
+    check_text(
+        &rt,
+        &out,
+        "mob drops tsc 7 train 0 metric 57912 data 0203012b2b2b2b2b2b2b2b2b2b2b2b2b2b2b2b2b2b2b2b check 2c4e540233\n\
+ok\n",
+    );
     out.clear();
     step_lines(&mut out, &Err(No::NotRunning));
-    assert!(rt; out.octets() == b"no notrunning\n".as_slice());
+    check_text(&rt, &out, "no notrunning\n");
     Ok(())
 }

@@ -21,50 +21,32 @@ fn segment_at<'a>(rt: &impl Abort, pieces: &Pieces<'a>, i: usize) -> Piece<'a> {
     pieces.piece(i)
 }
 
-fn take(rt: &impl Abort, joiner: &mut Joiner, piece: &[u8], more: bool) -> Joined {
-    assert!(rt; !piece.is_empty() && piece.len() <= 20);
-    joiner.take(piece, more)
+// Checks what the joiner answers to one more segment.
+fn check_take(rt: &impl Abort, joiner: &mut Joiner, octets: &[u8], more: bool, expected: Joined) {
+    assert!(rt; !octets.is_empty() && octets.len() <= 20);
+    assert_eq!(rt; joiner.take(octets, more), expected);
+}
+
+// Checks the message that the last segment completed.
+fn check_message(rt: &impl Abort, joiner: &Joiner, expected: &[u8]) {
+    assert_eq!(rt; joiner.message(), expected);
 }
 
 #[test]
 fn segments_example_messages(rt: HostRuntime) {
     let octets = counting_octets();
-    let two = segments_of_pieces(&rt, &octets[..40], Channel::Sdcch);
-    assert_eq!(rt; two.count(), 2);
-    assert_eq!(rt;
-        segment_at(&rt, &two, 0),
-        Piece {
-            octets: &octets[..20],
-            more: true
-        }
-    );
-    assert_eq!(rt;
-        segment_at(&rt, &two, 1),
-        Piece {
-            octets: &octets[20..40],
-            more: false
-        }
-    );
-
-    let max_message_octets = segments_of_pieces(&rt, &octets[..251], Channel::Sdcch);
-    assert_eq!(rt; max_message_octets.count(), 13);
-    assert_eq!(rt;
-        segment_at(&rt, &max_message_octets, 12),
-        Piece {
-            octets: &octets[240..251],
-            more: false
-        }
-    );
-
-    let on_sacch = segments_of_pieces(&rt, &octets[..251], Channel::Sacch);
-    assert_eq!(rt; on_sacch.count(), 14);
-    assert_eq!(rt;
-        segment_at(&rt, &on_sacch, 13),
-        Piece {
-            octets: &octets[234..251],
-            more: false
-        }
-    );
+    let (short, long) = (&octets[..40], &octets[..251]);
+    let segments: [(&[u8], Channel, usize, usize, &[u8], bool); 4] = [
+        (short, Channel::Sdcch, 2, 0, &octets[..20], true),
+        (short, Channel::Sdcch, 2, 1, &octets[20..40], false),
+        (long, Channel::Sdcch, 13, 12, &octets[240..251], false),
+        (long, Channel::Sacch, 14, 13, &octets[234..251], false),
+    ];
+    for (message, channel, count, i, octets, more) in segments {
+        let pieces = segments_of_pieces(&rt, message, channel);
+        assert_eq!(rt; pieces.count(), count, "{i}");
+        assert_eq!(rt; segment_at(&rt, &pieces, i), Piece { octets, more }, "{i}");
+    }
 }
 
 #[test]
@@ -75,40 +57,40 @@ fn reassembles_the_segments_of_a_message(rt: HostRuntime) {
         for size in [251, 1, 20, 18, 21] {
             assert!(rt; size <= 251);
             let pieces = segments_of_pieces(&rt, &octets[..size], channel);
-            let mut last = Joined::More;
-            for i in 0..pieces.count() {
-                assert_eq!(rt; last, Joined::More);
+            let last = pieces.count() - 1;
+            for i in 0..last {
                 let piece = segment_at(&rt, &pieces, i);
-                last = take(&rt, &mut joiner, piece.octets, piece.more);
+                check_take(&rt, &mut joiner, piece.octets, piece.more, Joined::More);
             }
-            assert_eq!(rt; last, Joined::Whole);
-            assert_eq!(rt; joiner.message(), &octets[..size]);
+            let piece = segment_at(&rt, &pieces, last);
+            check_take(&rt, &mut joiner, piece.octets, piece.more, Joined::Whole);
+            check_message(&rt, &joiner, &octets[..size]);
         }
     }
 }
 
 fn takes_full_segments(rt: &impl Abort, joiner: &mut Joiner, pieces: usize) {
     for _ in 0..pieces {
-        assert_eq!(rt; take(rt, joiner, &[7; 20], true), Joined::More);
-        assert_eq!(rt; joiner.message().len(), 0);
+        check_take(rt, joiner, &[7; 20], true, Joined::More);
+        check_message(rt, joiner, &[]);
     }
 }
 
 fn takes_one_octet(rt: &impl Abort, joiner: &mut Joiner) {
-    assert_eq!(rt; take(rt, joiner, &[9], false), Joined::Whole);
-    assert_eq!(rt; joiner.message(), [9].as_slice());
+    check_take(rt, joiner, &[9], false, Joined::Whole);
+    check_message(rt, joiner, &[9]);
 }
 
 #[test]
 fn reassembles_at_most_251_octets(rt: HostRuntime) {
     let mut joiner = Joiner::new();
     takes_full_segments(&rt, &mut joiner, 12);
-    assert_eq!(rt; take(&rt, &mut joiner, &[8; 11], false), Joined::Whole);
+    check_take(&rt, &mut joiner, &[8; 11], false, Joined::Whole);
     assert_eq!(rt; joiner.message().len(), 251);
 
     takes_full_segments(&rt, &mut joiner, 12);
-    assert_eq!(rt; take(&rt, &mut joiner, &[8; 12], false), Joined::Oversize);
-    assert_eq!(rt; joiner.message().len(), 0);
+    check_take(&rt, &mut joiner, &[8; 12], false, Joined::Oversize);
+    check_message(&rt, &joiner, &[]);
     takes_one_octet(&rt, &mut joiner);
 }
 
@@ -116,8 +98,8 @@ fn reassembles_at_most_251_octets(rt: HostRuntime) {
 fn discards_an_oversize_message_up_to_its_last_segment(rt: HostRuntime) {
     let mut joiner = Joiner::new();
     takes_full_segments(&rt, &mut joiner, 12);
-    assert_eq!(rt; take(&rt, &mut joiner, &[7; 20], true), Joined::Oversize);
-    assert_eq!(rt; take(&rt, &mut joiner, &[9], true), Joined::Oversize);
-    assert_eq!(rt; take(&rt, &mut joiner, &[9], false), Joined::Oversize);
+    check_take(&rt, &mut joiner, &[7; 20], true, Joined::Oversize);
+    check_take(&rt, &mut joiner, &[9], true, Joined::Oversize);
+    check_take(&rt, &mut joiner, &[9], false, Joined::Oversize);
     takes_one_octet(&rt, &mut joiner);
 }
