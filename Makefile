@@ -13,6 +13,9 @@ PYTHON  ?= $(shell python3 -c 'import sys; p = "$(PREFIX)/lib"; f = [f for f in 
 	print(f[0] if f else p + "/python%d.%d/site-packages" % sys.version_info[:2])' 2>/dev/null)
 D       := $(DESTDIR)
 HEADERS := bindings/c/um.h bindings/c/um_osmo.h
+# the C compiler for ARCH, if there is one
+ARCHCC  := $(shell command -v $(if $(filter $(ARCH),$(shell uname -m)),$(CC),$(ARCH)-linux-gnu-gcc) 2>/dev/null)
+PRELOAD := out/$(ARCH)-linux/libum_osmo.so
 MODULE  := $(wildcard bindings/python/um/*.py bindings/python/um/*.pyi bindings/python/um/py.typed)
 # the relative path from LIBDIR to PREFIX, for the relocatable CMake files
 UP      := $(shell echo '$(LIBDIR)' | sed 's|^$(PREFIX)/||; s|[^/][^/]*|..|g')
@@ -39,6 +42,13 @@ crate:
 	@for arch in x86_64 aarch64; do install -D -m 644 dist/$$arch-linux/libum.a bindings/rust/lib/$$arch-linux/libum.a || exit 1; done
 	@trap 'rm -rf bindings/rust/lib' EXIT; echo "cargo package --allow-dirty"; (cd bindings/rust && cargo package --allow-dirty)
 
+## make preload    builds libum_osmo.so, libosmocoding's control channel calls by um for programs already built, in out/ARCH-linux
+preload:
+	@test -n "$(ARCHCC)" || { echo "make preload: no C compiler for $(ARCH) here" >&2; exit 1; }
+	install -d $(dir $(PRELOAD))
+	$(ARCHCC) -std=c11 -O2 -s -Wall -Wextra -fPIC -shared -Ibindings/c -Wl,-soname,libum_osmo.so \
+	  -Wl,--version-script=bindings/c/libum_osmo.map bindings/c/libum_osmo.c $(FROM)/libum.a -o $(PRELOAD)
+
 ## make install    installs below PREFIX (/usr/local), LIBDIR (PREFIX/lib) and DESTDIR: program, manual page, libraries, headers,
 ##                 pkg-config, CMake, Python module, completion. FROM is the directory of the built files (dist/ARCH-linux)
 install:
@@ -50,6 +60,12 @@ install:
 	install -m 644 $(FROM)/libum.so.0 "$(D)$(LIBDIR)/libum.so.$(VERSION)"
 	ln -sf libum.so.$(VERSION) "$(D)$(LIBDIR)/libum.so.0"
 	ln -sf libum.so.0 "$(D)$(LIBDIR)/libum.so"
+ifneq ($(ARCHCC),)
+	$(MAKE) preload
+	install -m 644 $(PRELOAD) "$(D)$(LIBDIR)/libum_osmo.so"
+else
+	@echo "make install: no C compiler for $(ARCH), so libum_osmo.so is not built and not installed"
+endif
 	$(FILL) packaging/um.pc.in >"$(D)$(LIBDIR)/pkgconfig/um.pc"
 	$(FILL) packaging/umConfig.cmake.in >"$(D)$(LIBDIR)/cmake/um/umConfig.cmake"
 	$(FILL) packaging/umConfigVersion.cmake.in >"$(D)$(LIBDIR)/cmake/um/umConfigVersion.cmake"
@@ -74,7 +90,7 @@ uninstall:
 	rm -f "$(D)$(BINDIR)/um" "$(D)$(LIBEXEC)/um" "$(D)$(LIBEXEC)/refused.awk" \
 	  "$(D)$(SHARE)/man/man1/um.1" "$(D)$(SHARE)/bash-completion/completions/um" \
 	  $(foreach header,$(notdir $(HEADERS)),"$(D)$(INCLUDE)/$(header)") "$(D)$(LIBDIR)/libum.a" "$(D)$(LIBDIR)/libum.so" "$(D)$(LIBDIR)/libum.so.0" \
-	  "$(D)$(LIBDIR)/libum.so.$(VERSION)" "$(D)$(LIBDIR)/pkgconfig/um.pc"
+	  "$(D)$(LIBDIR)/libum.so.$(VERSION)" "$(D)$(LIBDIR)/libum_osmo.so" "$(D)$(LIBDIR)/pkgconfig/um.pc"
 	rm -rf "$(D)$(LIBDIR)/cmake/um" $(if $(PYTHON),"$(D)$(PYTHON)/um")
 	-rmdir "$(D)$(LIBEXEC)" 2>/dev/null
 
@@ -82,4 +98,4 @@ uninstall:
 packages:
 	packaging/packages out/packages
 
-.PHONY: crate help check prove dist install uninstall packages
+.PHONY: crate help check prove dist preload install uninstall packages

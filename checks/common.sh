@@ -46,3 +46,12 @@ has() {
   echo "$check: no $1 here, so $2 is skipped"
   return 1
 }
+
+# osmo_sources: the directory of libosmocore's sources, if there is one
+osmo_sources() {
+  local folder
+  for folder in "${LIBOSMOCORE_SOURCE:-}" ../libosmocore-* /usr/src/libosmocore-*; do
+    [ -f "$folder/tests/coding/coding_test.c" ] && echo "$folder" && return
+  done
+  return 1
+}

@@ -73,16 +73,21 @@ static inline int um_xcch_encode(ubit_t *bursts, const uint8_t *l2_data)
 	return 0;
 }
 
-/* 0 if the CRC holds, else -1 with l2_data unchanged. n_errors counts against the most likely word in both cases. */
-static inline int um_xcch_decode(uint8_t *l2_data, const sbit_t *bursts, int *n_errors, int *n_bits_total)
+/* 0 if the CRC holds, else -1 with l2_data unchanged. n_errors counts against the accepted word, or the most likely one. A call of our
+ * own: `most`, 1 to 64, is the number of words that are tried (um_receive_block_among). */
+static inline int um_xcch_decode_among(uint8_t *l2_data, const sbit_t *bursts, int most, int *n_errors, int *n_bits_total)
 {
 	int8_t whole[4][148] = { { 0 } };
 	um_block_report report;
+	uint32_t rank;
 	for (int i = 0; i < 4; i++) {
 		um_osmo_soft(whole[i] + 3, bursts + 116 * i, 58);
 		um_osmo_soft(whole[i] + 87, bursts + 116 * i + 58, 58);
 	}
-	um_receive_block((const int8_t (*)[148])whole, &report);
+	if (most == 1)
+		um_receive_block((const int8_t (*)[148])whole, &report);
+	else if (!um_receive_block_among((const int8_t (*)[148])whole, (uint32_t)most, &report, &rank))
+		return -1;
 	if (n_errors)
 		*n_errors = (int)report.wrong_coded;
 	if (n_bits_total)
@@ -91,6 +96,12 @@ static inline int um_xcch_decode(uint8_t *l2_data, const sbit_t *bursts, int *n_
 		return -1;
 	memcpy(l2_data, report.octets, 23);
 	return 0;
+}
+
+/* Decides by the most likely word, as libosmocoding does. */
+static inline int um_xcch_decode(uint8_t *l2_data, const sbit_t *bursts, int *n_errors, int *n_bits_total)
+{
+	return um_xcch_decode_among(l2_data, bursts, 1, n_errors, n_bits_total);
 }
 
 /* Writes the 36 coded bits of an access burst of 8 bits. */
