@@ -1,4 +1,6 @@
-"""Packs libum.so.0 into the wheel. The wheel depends on the platform, but not on the version of Python.
+"""Packs libum.so.0 and the loops in C into the wheel. The wheel depends on the platform, but not on the version of Python.
+
+Without a C compiler, or for another machine, the wheel has no loops in C, and the package loops in Python.
 
 The library comes from dist/ARCH-linux, where ARCH is this machine's or UM_WHEEL_ARCH (x86_64, aarch64); UM_SO overrides the path. Builds
 are reproducible: the same sources and library yield the same wheel, bit for bit."""
@@ -7,7 +9,7 @@ import pathlib
 import platform
 import shutil
 
-from setuptools import Distribution, setup
+from setuptools import Distribution, Extension, setup
 from setuptools.command.build_py import build_py
 
 try:
@@ -36,7 +38,8 @@ class WithLibrary(build_py):
 
 class PlatformWheel(bdist_wheel):
     def get_tag(self):
-        return "py3", "none", f"manylinux2014_{ARCH}"
+        in_c = (pathlib.Path(self.bdist_dir) / "um" / "_loops.abi3.so").exists()
+        return (*(("cp38", "abi3") if in_c else ("py3", "none")), f"manylinux2014_{ARCH}")
 
 
 class OfAPlatform(Distribution):
@@ -44,4 +47,11 @@ class OfAPlatform(Distribution):
         return True
 
 
-setup(cmdclass={"bdist_wheel": PlatformWheel, "build_py": WithLibrary}, distclass=OfAPlatform)
+# without debug information, which has the path of the build
+LOOPS = Extension(
+    "um._loops", ["um/_loops.c"], include_dirs=[str(ROOT / "bindings" / "c")], extra_compile_args=["-O2", "-g0"], py_limited_api=True,
+    optional=True)
+
+setup(
+    cmdclass={"bdist_wheel": PlatformWheel, "build_py": WithLibrary}, distclass=OfAPlatform,
+    ext_modules=[LOOPS] if ARCH == platform.machine() else [])
