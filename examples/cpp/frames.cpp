@@ -3,6 +3,7 @@
 //   c++ -std=c++17 -Ibindings/c examples/cpp/frames.cpp dist/x86_64-linux/libum.a -o frames && ./frames
 #include "um.h"
 #include <array>
+#include <cstdint>
 #include <cstdio>
 #include <string>
 #include <vector>
