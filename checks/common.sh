@@ -103,6 +103,10 @@ has_cargo() {
   return 1
 }
 
+# the emulator of ARM64, from qemu-user or qemu-user-static
+qemu=qemu-aarch64
+command -v "$qemu" >/dev/null || qemu=qemu-aarch64-static
+
 # osmo_sources: the directory of libosmocore's sources, if there is one
 osmo_sources() {
   local folder
