@@ -80,7 +80,8 @@ export class Session {
     this.#wantRoom(wayFrom(who));
     if (who === "rival") return this.#rival(event);
     const end = this.ends[who];
-    this.#effects(event, who, call === "tick" ? end.timer() : end[call](octets));
+    const asked = call === "tick" ? "timer" : call === "open" && !octets ? "openBare" : call;
+    this.#effects(event, who, end[asked](octets));
     if (call === "send") this.claims[who].taken.push(octets);
   }
 
