@@ -331,7 +331,7 @@ export class LinkView {
     for (const name of ["t200", "delay"]) complain($(`l-${name}`));
     const lines = params.get("lines") ?? "";
     if (lines.length > URL_MOST) {
-      throw new Error(`its session has ${lines.length} characters, and an address at most ${URL_MOST}; paste the lines of the session below`);
+      throw new Error(`its session has ${lines.length} characters, and an address at most ${URL_MOST}; paste its lines below`);
     }
     this.play(lines.split(".").map((line) => line.replaceAll("_", " ")));
   }
