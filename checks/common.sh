@@ -115,3 +115,10 @@ osmo_sources() {
   done
   return 1
 }
+
+# find_program: sets program to the program that was built from these sources. False: there is none for this machine
+find_program() {
+  program=crates/um/out/um
+  ! dist_is_ours || [ ! -x "dist/$(uname -m)-linux/um" ] || program=dist/$(uname -m)-linux/um
+  [ -x "$program" ]
+}

@@ -33,6 +33,15 @@ const isTyped = (value) => ArrayBuffer.isView(value) && !(value instanceof DataV
 const typedLength = Object.getOwnPropertyDescriptor(Object.getPrototypeOf(Int8Array.prototype), "length").get;
 const lengthOf = (values) => (isTyped(values) ? typedLength.call(values) : values.length);
 
+const isTransferred = (values) => {
+  try {
+    Uint8Array.prototype.values.call(values);
+    return false;
+  } catch {
+    return true;
+  }
+};
+
 const OCTET = { what: "octets", least: 0, most: 255, own: Uint8Array };
 const BIT = { what: "bits", least: 0, most: 1, own: null };
 const SOFT = { what: "soft bits", least: -127, most: 127, own: null };
@@ -42,11 +51,12 @@ const counted = (name, values, count, { what, least, most }) => {
   const wanted = `${count === undefined ? "" : `${count} `}${what}, integers from ${least} to ${most}`;
   if (!Array.isArray(values) && !isTyped(values)) throw new TypeError(`${name} is ${shown(values)}; expected an array of ${wanted}`);
   const length = lengthOf(values);
+  if (length === 0 && isTyped(values) && isTransferred(values)) throw new TypeError(`${name} has no memory; it was transferred`);
   if (count !== undefined && length !== count) throw new RangeError(`${name} has ${length} values; expected ${wanted}`);
   return length;
 };
 
-// Tests the first `count` values of a list and writes them to `memory`, reading each once: a hole of a sparse array is undefined, no number.
+// Tests the first `count` values of a list and writes them to `memory`, reading each once. A hole of a sparse array is undefined.
 const putTested = (memory, at, name, values, count, { least, most, own }) => {
   if (own !== null && values instanceof own) {
     memory.set(count < lengthOf(values) ? values.subarray(0, count) : values, at);
@@ -54,7 +64,8 @@ const putTested = (memory, at, name, values, count, { least, most, own }) => {
   }
   for (let i = 0; i < count; i++) {
     const value = values[i];
-    if (typeof value !== "number" || value !== (value | 0) || value < least || value > most) integer(`${name}[${i}]`, value, least, most);
+    const fits = typeof value === "number" && value === (value | 0) && value >= least && value <= most;
+    if (!fits) integer(`${name}[${i}]`, value, least, most);
     memory[at + i] = value;
   }
 };

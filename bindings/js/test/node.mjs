@@ -6,6 +6,7 @@ import { isMainThread, parentPort, Worker, workerData } from "node:worker_thread
 import { load } from "../um.mjs";
 import { compare, times } from "./compare.mjs";
 import { tryArguments } from "./arguments.mjs";
+import { tryHostile } from "./hostile.mjs";
 
 const [wasm, folder, answers, timed] = isMainThread ? process.argv.slice(2) : workerData;
 const read = (path) => readFileSync(path, "utf8");
@@ -29,6 +30,7 @@ if (!isMainThread) {
   for (const part of wrong) console.log("js: node:", JSON.stringify(part));
   if (wrong.length === 0) console.log(`js: node ${process.versions.node}, also in a Worker: ${found.map((part) => part.name).join(", ")}`);
   console.log(`js: ${tryArguments(um)} invalid calls are refused, and an instance that trapped is discarded`);
+  console.log(`js: ${tryHostile(um, 3000)} calls with hostile arguments are refused, or answered as what they stand for`);
   if (timed) console.log("js: us per call in node:", JSON.stringify(times(um)));
   process.exitCode = wrong.length ? 1 : 0;
 }

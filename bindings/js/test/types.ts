@@ -18,7 +18,8 @@ const use = async (): Promise<void> => {
   }
   const { span } = um.repair(new Uint8Array(224)) ?? { span: 0 };
   const refusal = new Refused("full", `${span} ${end.variables.vs}`);
-  const facts: boolean[] = [refusal.reason === "full", um.endFromBytes(end.toBytes()).timerRuns, um.receiveSync(new Int8Array(148)).word.length > 0];
+  const facts: boolean[] = [refusal.reason === "full", um.endFromBytes(end.toBytes()).timerRuns];
+  facts.push(um.receiveSync(new Int8Array(148)).word.length > 0);
   facts.push((await load(new Uint8Array(8))) === um, REFUSALS.includes("notidle"), NOTICES.includes("closed"));
   const side: Side = um.side("mobile", { channel: "sacch" });
   side.send(3, [1]).frames.concat(side.take(bursts).frames, side.end(0).idle().frames);

@@ -48,7 +48,8 @@ class Refusals(Case):
         good = numpy.zeros((4, 148), numpy.int8)
         for shape in ((148, 4), (8, 74), (592, 1), (4, 147), (1, 4, 148)):
             self.refused(ValueError, ["bursts: int8 array of shape", "expected 4 x 148"], um.receive_block, numpy.zeros(shape, numpy.int8))
-        hints = {"f4": "soft_from_llr", "f8": "soft_from_llr", ">f8": "soft_from_llr", ">i2": "clip", "i8": "clip", "u1": "soft_from_bits", "?": "soft_from_bits"}
+        hints = {"f4": "soft_from_llr", "f8": "soft_from_llr", ">f8": "soft_from_llr", ">i2": "clip", "i8": "clip"}
+        hints.update({"u1": "soft_from_bits", "?": "soft_from_bits"})
         for form, hint in hints.items():
             name = str(numpy.dtype(form))
             self.refused(TypeError, ["bursts", name, "of int8", hint], um.receive_block, good.astype(form))

@@ -17,7 +17,8 @@ def load_tests(loader, tests, pattern):
 class Refusals(Case):
     @unittest.skipUnless(numpy, "numpy is not here")
     def test_small_integers_do_not_wrap(self):
-        for kind, values, scale, wanted in (("i1", [127, -127], 2, [127, -127]), ("i2", [1000, -1000], 127, [127, -127]), ("i1", [-128], 1, [-127])):
+        cases = (("i1", [127, -127], 2, [127, -127]), ("i2", [1000, -1000], 127, [127, -127]), ("i1", [-128], 1, [-127]))
+        for kind, values, scale, wanted in cases:
             self.assertEqual(list(um.soft_from_llr(numpy.array(values, kind), scale=scale)), wanted)
             self.assertEqual(list(um.soft_from_llr(list(numpy.array(values, kind)), scale=scale)), wanted)
 

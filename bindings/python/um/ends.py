@@ -223,7 +223,7 @@ class Side(_Endpoint):
 
 
 def _sapi(sapi: Any) -> int:
-    if sapi not in (0, 3) or isinstance(sapi, (bool, float)):
+    if isinstance(sapi, bool) or not hasattr(sapi, "__index__") or sapi not in (0, 3):
         raise ValueError(f"sapi: {sapi!r}; expected 0 or 3")
     return int(sapi)
 

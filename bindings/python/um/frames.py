@@ -70,7 +70,7 @@ class NoFrame(ValueError):
 
 def channel_number(channel: Any) -> int:
     """The number of a Channel, 0 or 1."""
-    if channel not in (0, 1) or isinstance(channel, (bool, float)):
+    if isinstance(channel, bool) or not hasattr(channel, "__index__") or channel not in (0, 1):
         raise ValueError(f"channel: {channel!r}; expected um.SDCCH or um.SACCH")
     return int(channel)
 

@@ -1,5 +1,5 @@
-"""Many blocks, bursts, words or frames in one call, in numpy arrays. The last axes are those of one item, and all axes before them are kept:
-an array of time x subchannel x 4 x 148 soft bits gives time x subchannel reports. The interpreter's lock is released during the calls."""
+"""Many blocks, bursts, words or frames in one call, in numpy arrays. The last axes are those of one item, and all axes before them are
+kept: an array of time x subchannel x 4 x 148 soft bits gives time x subchannel reports. The calls release the interpreter's lock."""
 import functools
 from typing import TYPE_CHECKING, Any, Dict, Tuple
 
@@ -21,9 +21,9 @@ _FORMS: Dict[str, Tuple[_Fields, int]] = {
     "sync": ({**_QUALITY, "accepted": ("?", 12), "info": (("u1", 25), 13), "word": (("u1", 39), 38)}, 80),
     "margin": ({"margin": ("<i4", 0), "word": (("u1", 228), 4), "next": (("u1", 228), 232)}, 460),
     "repair": ({"first": ("u1", 0), "span": ("u1", 1), "word": (("u1", 224), 2), "repaired": ("?", 226)}, 227),
-    "frame": ({name: ("u1", at) for at, name in enumerate(("kind", "sapi", "cr", "pf", "ns", "nr", "more", "count"))}, 28),
 }
-_FRAMES = [("kind", "U4"), *((name, "u1") for name in ("sapi", "cr", "pf", "ns", "nr", "more", "count")), ("info", "u1", 20), ("unread", "U7")]
+_NUMBERS = ("sapi", "cr", "pf", "ns", "nr", "more", "count")
+_FRAMES = [("kind", "U4"), *((name, "u1") for name in _NUMBERS), ("info", "u1", 20), ("unread", "U7")]
 
 
 def send_blocks(octets: "Array", tsc: Any) -> "Array":
@@ -77,8 +77,8 @@ def receive_accesses(bursts: "SoftArray", bsic: "Bits") -> "Records":
 
 
 def receive_syncs(bursts: "SoftArray") -> "Records":
-    """Decodes synchronisation bursts, .. x 148 soft bits. Returns a structured array as `receive_accesses` does, with 25 bits of info and 39
-    of word."""
+    """Decodes synchronisation bursts, .. x 148 soft bits. Returns a structured array as `receive_accesses` does, with 25 bits of info and
+    39 of word."""
     soft, lead = _soft("bursts", bursts, "148", (148,))
     return _received("um_receive_sync", "bursts", soft, lead, "sync")
 
@@ -106,8 +106,9 @@ def read_frames(octets: "Array", channel: int = SDCCH) -> "Records":
     raw, answers = numpy.zeros((len(data), 28), numpy.uint8), numpy.zeros(len(data), numpy.uint8)
     each("um_read_frame", len(data), Rows(data), Numbers(numpy.array(channel_number(channel), numpy.uint8)), Rows(raw), answers=answers)
     frames: "Records" = numpy.zeros(len(data), _FRAMES)
-    for at, (name, _) in enumerate(_FORMS["frame"][0].items()):
-        frames[name] = raw[:, at] if at else numpy.where(answers == 0, numpy.array(KINDS)[raw[:, 0]], "")
+    frames["kind"] = numpy.where(answers == 0, numpy.array(KINDS)[raw[:, 0]], "")
+    for at, name in enumerate(_NUMBERS, 1):
+        frames[name] = raw[:, at]
     frames["info"] = raw[:, 8:]
     frames["unread"] = numpy.array(("", *UNREAD))[answers]
     return frames.reshape(lead)

@@ -180,7 +180,8 @@ def _scaled_array(values: Any, factor: float) -> Any:
     for at in range(0, given.size, _AT_ONCE):
         part = given[at : at + _AT_ONCE]
         scaled = work[: part.size]
-        numpy.multiply(part, factor, out=scaled, casting="unsafe")
+        with numpy.errstate(over="ignore"):  # clipped below
+            numpy.multiply(part, factor, out=scaled, casting="unsafe")
         numpy.rint(scaled, out=scaled)
         numpy.clip(scaled, -127, 127, out=scaled)
         if numpy.isnan(scaled.sum()):
