@@ -166,8 +166,9 @@ bool um_write_frame(const um_frame *frame, uint8_t channel, uint8_t octets[23]) 
  * The state is plain numbers and arrays: it can be copied, or saved and restored. Each call tests it. If the state is not valid, the
  * call returns UM_END_NONE and writes nothing. Each call writes zeros after each count. A count of 252 to 255 octets is refused: a
  * message is then too long, a state invalid. The test also accepts some states that no sequence of calls reaches: `retries` above 5
- * and `repeats` above 23 on SDCCH or 5 on SACCH (N200), where um_end_timer then closes the link, and `rejecting` set while the link
- * is not open. Callers need not read the state: the effects report everything. */
+ * and `repeats` above 23 on SDCCH or 5 on SACCH (N200), where um_end_timer then closes the link, and `rejecting` set before the link
+ * is open. Two states that calls wrote have the same 2581 octets (the rest is padding) if they are states of the same endpoint.
+ * Callers need not read the state: the effects report everything. */
 
 enum um_role { UM_MOBILE, UM_NETWORK };
 enum um_state { UM_IDLE, UM_OPENING, UM_OPEN, UM_CLOSING, UM_CLOSED };

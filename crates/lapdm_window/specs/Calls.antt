@@ -14,7 +14,8 @@ use Rattle.lapdm_window.specs.declared.State.TheVariants.{Idle, Opening, Closing
 use Rattle.lapdm_window.specs.declared.Reason.TheVariants as R
 use Rattle.lapdm_window.specs.declared.Refused.{Refused}
 use Rattle.lapdm_window.specs.declared.Refused.TheVariants as No
-use Rattle.lapdm_window.specs.Ends.{EndpointState, Outcome, sends_frame, command_frame, command_cr, unacked_message_count, awaits_answer}
+use Rattle.lapdm_window.specs.Ends.{Role, Mobile, EndpointState, Outcome, sends_frame, command_frame, command_cr, unacked_message_count}
+use Rattle.lapdm_window.specs.Ends.{awaits_answer}
 use Rattle.lapdm_window.specs.Ends.{n200}
 use Rattle.lapdm_window.specs.Rules.{is_open, sends_next_segment, outstanding_frame}
 use Rattle.lapdm_window.specs.Tables.{closes_and_reports}
@@ -40,15 +41,16 @@ endpoint_call_of A.Close = Closes
 endpoint_call_of A.Timer = T200Expires
 endpoint_call_of A.Idle = SendsFillFrame
 
--- the call exists for this SAPI: `Opens` only for SAPI 0, `OpensWithoutInfo` only for SAPI 3, every other call for both
-abbrev pub IsCallAllowedForSapi : (sapi : Sapi) (call : Call) → Type 0
-IsCallAllowedForSapi sapi (Opens info) = sapi ≡ Zero
-IsCallAllowedForSapi sapi OpensWithoutInfo = sapi ≡ Three
-IsCallAllowedForSapi sapi other = Unit {0}
+-- the call exists for this side and SAPI: `Opens` only for the mobile and SAPI 0, `OpensWithoutInfo` only for SAPI 3, every other call for
+-- all
+abbrev pub IsCallAllowedFor : (role : Role) (sapi : Sapi) (call : Call) → Type 0
+IsCallAllowedFor role sapi (Opens info) = (sapi ≡ Zero) × (role ≡ Mobile)
+IsCallAllowedFor role sapi OpensWithoutInfo = sapi ≡ Three
+IsCallAllowedFor role sapi other = Unit {0}
 
--- this call exists for the SAPI of this endpoint
+-- this call exists for the side and the SAPI of this endpoint
 abbrev pub IsCallAllowedForEndpoint : (endpoint : EndpointState) (call : Call) → Type 0
-IsCallAllowedForEndpoint e call = IsCallAllowedForSapi e.sapi call
+IsCallAllowedForEndpoint e call = IsCallAllowedFor e.role e.sapi call
 
 -- the call sends a UI frame and leaves the endpoint state unchanged
 abbrev pub IsUiFrameCall : Call → Type 0

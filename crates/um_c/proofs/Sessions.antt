@@ -27,7 +27,8 @@ use Rattle.{
         Worlds.{initial_world, refusal, rej_replaced_by_rr, world_after, world_after_possible_refusal},
       },
       lapdm_window.{
-        Calls.{Call, Closes, OpensWithoutInfo, Opens, SendsFillFrame, SendsUi, Sends, T200Expires, call_outcome, refusal_of, sends_sabm},
+        Calls.{Call, Closes, IsCallAllowedForEndpoint, OpensWithoutInfo, Opens, SendsFillFrame, SendsUi, Sends, T200Expires, call_outcome},
+        Calls.{refusal_of, sends_sabm},
         Ends.{EndpointState, IsValidEndpoint, Mobile, Network, Outcome, Role, no_effect, response_frame, sapi_number, initial_endpoint},
         Tables.frame_outcome,
         declared.{Notice.Notice, Refused.Refused, Sapi.{TheVariants.{Three, Zero}, Sapi}},
@@ -41,7 +42,7 @@ use Rattle.{
     proofs.Calls.{IsFlagged, octets-c_struct},
     specs.{
       Effects.c_notice,
-      EndCalls.{EndpointReceivesBlock, EndpointAnswersCall, EndpointSupportsCall, SucceedsWithOutcome, call_refusal_number},
+      EndCalls.{EndpointReceivesBlock, EndpointAnswersCall, SucceedsWithOutcome, call_refusal_number},
       Joined.{AnyStepAllowed, Calls, DeliversOldestBlock, EncodeSameFrame, FirstBlockSatisfies, HasNoFrameOnSapi, ChangesOneEndpoint},
       Joined.{IsNewEndpointOrNone, IsProgramRun, IsProgramStart, IsProgramStep, IsDecodedFromSentBlock, LosesOldestBlock, ProgramState},
       Joined.{ProgramStep, ReceivesOldestBlock, RivalSabm, TakesOldestBlock, TakesOtherSapiBlock, blocks_sent, session_log, notice_from_c},
@@ -255,12 +256,12 @@ IsPlaced-or_not r Zero OpensWithoutInfo = inr (λ h. grind arith)
 IsPlaced-or_not r s call = inl tt
 
 module _ {r : Role} {s : Sapi} (e : EndpointState) (role : e.role ≡ r) (sapi : e.sapi ≡ s) where
-  allowed : (call : Call) → IsPlaced r s call → EndpointSupportsCall e call
+  allowed : (call : Call) → IsPlaced r s call → IsCallAllowedForEndpoint e call
   allowed (Opens info) h = (sapi ∙ h.1, role ∙ h.0)
   allowed OpensWithoutInfo h = sapi ∙ h
   allowed call h = tt
 
-  placed : (call : Call) → EndpointSupportsCall e call → IsPlaced r s call
+  placed : (call : Call) → IsCallAllowedForEndpoint e call → IsPlaced r s call
   placed (Opens info) h = (sym role ∙ h.1, sym sapi ∙ h.0)
   placed OpensWithoutInfo h = sym sapi ∙ h
   placed call h = tt
@@ -658,7 +659,7 @@ module _ {info : Message} {e f : EndpointState} {m n : CEndpoint} (mobile : Stru
 
   sabm-fits : FrameFits f.channel sabm
   sabm-fits =
-      let k = keeps-call (Opens info) e (StructRepresents-valid mobile) can_establish.allowed.0 can_establish.not_refused in
+      let k = keeps-call (Opens info) e (StructRepresents-valid mobile) can_establish.allowed can_establish.not_refused in
       rw (← can_establish.same_channel) (All-head (FrameFits e.channel) sabm [] (subst (All (FrameFits e.channel)) same_sabm k.frames))
 
   pub answer-one : (g : Frame) × (reply.frames ≡ g ∷ [])

@@ -25,3 +25,4 @@ pub use joined::{
     law_program_model_allows_other_sapi_block,
 };
 pub use opening::open_link;
+pub use states::law_equal_endpoints_have_equal_structs;

@@ -1,6 +1,6 @@
 //! The state of an endpoint as numbers and arrays in the caller's memory. A call reads the state, changes it, and writes it back in place;
 //! only the octets in use are copied from each message.
-ghost use Rattle.std.specs.Prelude.{◌≡◌, ◌≤◌, ◌↔◌, Some, None, length, map, IsTrue, MatchOption};
+ghost use Rattle.std.specs.Prelude.{◌≡◌, ◌≤◌, ◌↔◌, Some, None, false, length, map, IsTrue, MatchOption};
 ghost use Rattle.um_air.specs.segmenting.Buffers.{octets_in_buffer};
 ghost use Rattle.um_air.specs.lapdm_window.Ends.{EndpointState};
 ghost use Rattle.um_air.specs.lapdm_window.Parts.{values_of_parts as window_by};
@@ -8,7 +8,8 @@ ghost use Rattle.lapdm_end.specs.Parts.{values_of, values_of_parts};
 ghost use Rattle.lapdm_end.specs.Abstraction.{Represents};
 ghost use Rattle.um_c.specs.Plain.{channel_of};
 ghost use Rattle.um_c.specs.States.{role_of, sapi_of, state_of, reassembly_from_number, window_values_from, endpoint_values_from};
-ghost use Rattle.um_c.specs.States.{StructRepresents, RepresentsSomeEndpoint};
+ghost use Rattle.um_c.specs.States.{StructRepresents, RepresentsSomeEndpoint, IsCanonicalStruct};
+ghost use Rattle.um_c.specs.declared.states.CEndpoint.{CEndpoint as Struct};
 ghost use Rattle.um_c.specs.States.{role_number};
 ghost use Rattle.um_c.specs.States.{sapi_number, channel_number, state_number, reassembly_number, buffers_of_messages, c_endpoint};
 
@@ -57,11 +58,18 @@ pub struct CEndpoint {
     pub held: [MessageBuffer; 8],
 }
 
+/// Law: two structs in canonical form that represent the same endpoint are equal, octet by octet.
+pub fn law_equal_endpoints_have_equal_structs()
+    ensures { (a b : Struct) (e : EndpointState) → StructRepresents a e → StructRepresents b e → IsCanonicalStruct a
+        → IsCanonicalStruct b → a ≡ b }
+{}
+
 /// Reads the state into `end` and returns true if it represents an endpoint; otherwise returns false and leaves `end` unchanged.
 pub(crate) fn read_endpoint(c_struct: &CEndpoint, end: &mut Endpoint) -> bool
     ensures decoded { IsTrue result → endpoint_values_from c_struct.now ≡ Some (values_of end.new) }
     ensures represents { IsTrue result → (e : EndpointState) → StructRepresents c_struct.now e → Represents end.new e }
     ensures valid { IsTrue result ↔ RepresentsSomeEndpoint c_struct.now }
+    ensures refused { result ≡ false → end.new ≡ end.old }
 {
     match endpoint_view_of(c_struct) {
         Some(parts) => end.restore(&parts),
