@@ -39,7 +39,7 @@ dist:
 
 ## make crate      packs the Rust crate um-gsm with the libraries of dist/, below bindings/rust/target/package
 crate:
-	@for arch in x86_64 aarch64; do install -D -m 644 dist/$$arch-linux/libum.a bindings/rust/lib/$$arch-linux/libum.a || exit 1; done
+	@for lib in dist/*/libum.a dist/*/um_static.lib; do install -D -m 644 $$lib bindings/rust/lib/$${lib#dist/} || exit 1; done
 	@trap 'rm -rf bindings/rust/lib' EXIT; echo "cargo package --allow-dirty"; (cd bindings/rust && cargo package --allow-dirty)
 
 ## make preload    builds libum_osmo.so, libosmocoding's control channel calls by um for programs already built, in out/ARCH-linux
@@ -48,6 +48,12 @@ preload:
 	install -d $(dir $(PRELOAD))
 	$(ARCHCC) -std=c11 -O2 -s -Wall -Wextra -fPIC -shared -Ibindings/c -Wl,-soname,libum_osmo.so \
 	  -Wl,--version-script=bindings/c/libum_osmo.map bindings/c/libum_osmo.c $(FROM)/libum.a -o $(PRELOAD)
+
+## make program    on a Mac: links the program from dist/ARCH-macos/um.o and packaging/outside.c, which ./um then starts
+program:
+	@test -f dist/$(ARCH)-macos/um.o || { echo "make program: no dist/$(ARCH)-macos/um.o; it is for macOS on x86_64 and arm64" >&2; exit 1; }
+	mkdir -p crates/um/out
+	$(CC) -O2 -o crates/um/out/um dist/$(ARCH)-macos/um.o packaging/outside.c
 
 ## make install    installs below PREFIX (/usr/local), LIBDIR (PREFIX/lib) and DESTDIR: program, manual page, libraries, headers,
 ##                 pkg-config, CMake, Python module, completion. FROM is the directory of the built files (dist/ARCH-linux)
@@ -98,4 +104,4 @@ uninstall:
 packages:
 	packaging/packages out/packages
 
-.PHONY: crate help check prove dist preload install uninstall packages
+.PHONY: crate help check program prove dist preload install uninstall packages

@@ -1,9 +1,9 @@
-"""Packs libum.so.0 and the loops in C into the wheel. The wheel depends on the platform, but not on the version of Python.
+"""Packs the shared library and the loops in C into the wheel. The wheel depends on the platform, but not on the version of Python.
 
 Without a C compiler, or for another machine, the wheel has no loops in C, and the package loops in Python.
 
-The library comes from dist/ARCH-linux, where ARCH is this machine's or UM_WHEEL_ARCH (x86_64, aarch64); UM_SO overrides the path. Builds
-are reproducible: the same sources and library yield the same wheel, bit for bit."""
+The library comes from a folder of dist/: this machine's, or UM_WHEEL (x86_64-linux, aarch64-linux, x86_64-windows, x86_64-macos,
+arm64-macos); UM_SO overrides the path. Builds are reproducible: the same sources and library yield the same wheel, bit for bit."""
 import os
 import pathlib
 import platform
@@ -18,8 +18,21 @@ except ImportError:
     from wheel.bdist_wheel import bdist_wheel
 
 ROOT = pathlib.Path(__file__).resolve().parents[2]
-ARCH = os.environ.get("UM_WHEEL_ARCH", platform.machine())
-LIBRARY = pathlib.Path(os.environ.get("UM_SO", str(ROOT / "dist" / f"{ARCH}-linux" / "libum.so.0")))
+SYSTEM = {"Windows": "windows", "Darwin": "macos"}.get(platform.system(), "linux")
+HERE = platform.machine().replace("AMD64", "x86_64") + "-" + SYSTEM
+FOLDER = os.environ.get("UM_WHEEL", HERE)
+# by the folder in dist/: the library, and the platform of the wheel
+WHEELS = {
+    "x86_64-linux": ("libum.so.0", "manylinux2014_x86_64"),
+    "aarch64-linux": ("libum.so.0", "manylinux2014_aarch64"),
+    "x86_64-windows": ("um.dll", "win_amd64"),
+    "x86_64-macos": ("libum.0.dylib", "macosx_11_0_x86_64"),
+    "arm64-macos": ("libum.0.dylib", "macosx_11_0_arm64"),
+}
+if FOLDER not in WHEELS:
+    raise SystemExit(f"um: there is no library for {FOLDER}; UM_WHEEL is one of {', '.join(WHEELS)}")
+NAME, PLATFORM = WHEELS[FOLDER]
+LIBRARY = pathlib.Path(os.environ.get("UM_SO", str(ROOT / "dist" / FOLDER / NAME)))
 os.environ.setdefault("SOURCE_DATE_EPOCH", "315532800")  # 1980, the earliest timestamp that a wheel can have
 
 
@@ -30,16 +43,16 @@ class WithLibrary(build_py):
             return
         if not LIBRARY.exists():
             raise SystemExit(
-                f"um: {LIBRARY}, which the wheel contains, is missing. A release has it in dist/{ARCH}-linux; UM_SO overrides the path. "
+                f"um: {LIBRARY}, which the wheel contains, is missing. A release has it in dist/{FOLDER}; UM_SO overrides the path. "
                 f"bindings/python/um/_library.py describes how to build it. pip must be 21.3 or later, which builds in the checkout.")
-        for source, name in ((LIBRARY, "libum.so.0"), (ROOT / "LICENSE", "LICENSE")):
+        for source, name in ((LIBRARY, NAME), (ROOT / "LICENSE", "LICENSE")):
             shutil.copyfile(source, os.path.join(self.build_lib, "um", name))
 
 
 class PlatformWheel(bdist_wheel):
     def get_tag(self):
-        in_c = (pathlib.Path(self.bdist_dir) / "um" / "_loops.abi3.so").exists()
-        return (*(("cp38", "abi3") if in_c else ("py3", "none")), f"manylinux2014_{ARCH}")
+        in_c = any(file.suffix in (".so", ".pyd") for file in pathlib.Path(self.bdist_dir, "um").glob("_loops.*"))
+        return (*(("cp38", "abi3") if in_c else ("py3", "none")), PLATFORM)
 
 
 class OfAPlatform(Distribution):
@@ -54,4 +67,4 @@ LOOPS = Extension(
 
 setup(
     cmdclass={"bdist_wheel": PlatformWheel, "build_py": WithLibrary}, distclass=OfAPlatform,
-    ext_modules=[LOOPS] if ARCH == platform.machine() else [])
+    ext_modules=[LOOPS] if FOLDER == HERE else [])

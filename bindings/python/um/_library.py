@@ -4,12 +4,15 @@ import os
 import platform
 from typing import List
 
-_NAME = "libum.so.0"
+# by the name of the system: the library, and what follows the processor in the name of its folder in dist/
+_SYSTEMS = {"Windows": ("um.dll", "windows"), "Darwin": ("libum.0.dylib", "macos")}
+_NAME, _SYSTEM = _SYSTEMS.get(platform.system(), ("libum.so.0", "linux"))
+_FOLDER = platform.machine().replace("AMD64", "x86_64") + "-" + _SYSTEM
 _MAKE = (
-    "\nA release has it in dist/{arch}-linux, and the wheel contains it. To build it in the repository, with the Rattle kit on the PATH:"
+    "\nA release has it in dist/" + _FOLDER + ", and the wheel contains it. To build it in the repository, on Linux with the Rattle kit on"
+    " the PATH:"
     "\n    (cd crates/um_c && rt lib)"
-    "\n    cc -shared -o bindings/python/um/" + _NAME +
-    " -Wl,--whole-archive crates/um_c/out/libum_c.a -Wl,--no-whole-archive"
+    "\n    cc -shared -o bindings/python/um/libum.so.0 -Wl,--whole-archive crates/um_c/out/libum_c.a -Wl,--no-whole-archive"
     "\nThe environment variable UM_SO overrides the path."
 )
 
@@ -52,8 +55,7 @@ def _places() -> List[str]:
     if "UM_SO" in os.environ:
         return [os.environ["UM_SO"]]
     here = os.path.dirname(os.path.abspath(__file__))
-    dist = os.path.join(here, "..", "..", "..", "dist", f"{platform.machine()}-linux")
-    return [os.path.join(here, _NAME), os.path.normpath(os.path.join(dist, _NAME)), _NAME]
+    return [os.path.join(here, _NAME), os.path.normpath(os.path.join(here, "..", "..", "..", "dist", _FOLDER, _NAME)), _NAME]
 
 
 def _declared(place: str) -> ctypes.CDLL:
@@ -71,7 +73,7 @@ def _load() -> ctypes.CDLL:
             return _declared(place)
         except (OSError, AttributeError) as error:  # missing, or an older library that lacks a call
             tried.append(f"\n    {place}: {error}")
-    raise ImportError("um: no " + _NAME + ". Tried:" + "".join(tried) + _MAKE.format(arch=platform.machine()))
+    raise ImportError("um: no " + _NAME + ". Tried:" + "".join(tried) + _MAKE)
 
 
 lib = _load()
