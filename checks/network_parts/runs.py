@@ -1,0 +1,198 @@
+"""Runs of the network, each in a namespace of its own: what checks/network tests, one run with options, one session to read, and a table.
+
+    checks/network [run OPTIONS | show | long SESSIONS]"""
+import argparse
+import collections
+import json
+import os
+import shutil
+import signal
+import subprocess
+import sys
+import tempfile
+
+INSIDE = os.path.join(os.path.dirname(os.path.abspath(__file__)), "inside.py")
+TRIES = 3  # of a run that the base station itself ends
+OPTIONS = (
+    ("sessions", 40, "sessions that mobiles begin, besides answers to pages"), ("busy", 12, "mobiles at a time, of twenty"),
+    ("seconds", 300.0, "longest run"), ("seed", 1, "seed"), ("block", 0.0, "share of blocks lost"), ("burst", 0.0, "share of bursts lost"),
+    ("bit", 0.0, "share of bits flipped"), ("noise", 0.0, "standard deviation of noise added to the bits, which are -1 and 1"),
+    ("twins", 0.0, "share of accesses that a second mobile makes too, so that both contend for the channel"),
+    ("t200", 2, "T200 of the mobiles on SAPI 0 in slots; on SAPI 3 two more"), ("among", 64, "words that a mobile tries for a block"),
+    ("station", 0, "words that the base station tries, by libum_osmo.so; 0: it decodes by libosmocoding"), ("show", 0, "1: print each event"),
+)
+DEFAULTS = {name: default for name, default, _ in OPTIONS}
+QUICK = (("noise and lost blocks", dict(noise=0.65, block=0.03, twins=0.1)),)
+FULL = (
+    ("noise and lost blocks", dict(noise=0.65, block=0.03, twins=0.1)),
+    ("lost blocks and bursts", dict(block=0.05, burst=0.1, twins=0.2)),
+    ("4 % of bits flipped, the base station with libum_osmo.so", dict(bit=0.04, station=64)),
+    ("noise of sigma 0.75, the base station with libum_osmo.so", dict(noise=0.75, station=64)),
+)
+LONG = (
+    ("clear", {}), ("10 % of blocks lost", dict(block=0.1)), ("20 % of bursts lost", dict(burst=0.2)),
+    ("4 % of bits flipped", dict(bit=0.04)), ("noise, sigma 0.7", dict(noise=0.7)),
+)
+
+
+class Run:
+    """One run with these options, until it is whole or was tried three times. `results` are the accounts of all tries."""
+
+    def __init__(self, given, options):
+        self.options, self.results, self.failure = {**DEFAULTS, **options}, [], ""
+        for number in range(TRIES):
+            self._start(given, dict(self.options, seed=self.options["seed"] + number))
+            if self.failure or not self.results[-1]["ended"]:
+                break
+
+    def _start(self, given, options):
+        environment = dict(os.environ)
+        station = options.pop("station")
+        if station:
+            environment["UM_OSMO_AMONG"] = str(station)
+        words = [word for name, value in options.items() for word in ("--" + name, str(value))]
+        folder = tempfile.mkdtemp(prefix="network-")
+        command = [*given.own.split(), sys.executable, INSIDE, *words, "--sctp", given.sctp, "--preload", given.preload if station else ""]
+        try:
+            child = subprocess.Popen(command, cwd=folder, env=environment, stdout=subprocess.PIPE, text=True)
+            try:
+                for line in child.stdout:
+                    if line.startswith("{"):
+                        self.results.append(json.loads(line))
+                    else:
+                        print(line, end="", flush=True)
+                self.failure = "" if child.wait() == 0 else f"status {child.returncode}"
+            finally:
+                child.kill()
+        finally:
+            if given.keep:
+                print(f"network: logs in {folder}")
+            else:
+                shutil.rmtree(folder, ignore_errors=True)
+
+    def total(self, name):
+        return sum((collections.Counter(result[name]) for result in self.results), collections.Counter())
+
+    @property
+    def whole(self):
+        return bool(self.results) and not self.results[-1]["ended"]
+
+    @property
+    def wrong(self):
+        return [text for result in self.results for text in result["wrong"]]
+
+    @property
+    def outcomes(self):
+        """How many sessions ended in each way; one that lost contention was another mobile's."""
+        counts = collections.Counter()
+        for result in self.results:
+            for _, how, count in result["outcomes"]:
+                counts[how] += count
+        return counts
+
+    @property
+    def share(self):
+        counts = self.outcomes
+        return counts["complete"] / max(1, sum(counts.values()) - counts["contention"])
+
+    def rejected(self):
+        """The share of the uplink's blocks that the base station rejected."""
+        blocks = self.total("blocks")
+        return (blocks["ar"] + blocks["rr"]) / max(1, sum(blocks.values()))
+
+
+def told(name, run):
+    """Prints a run in a line or two. Its status: 0, 1 if something is wrong, 77 if the base station ended itself in each try."""
+    load = os.getloadavg()[0]
+    counts, others = run.outcomes, []
+    for how, count in counts.most_common():
+        if how != "complete":
+            others.append(f"{count} {how}")
+    print(f"network: {name}: {counts['complete']} sessions complete ({', '.join(others) or 'no other'}), {len(run.wrong)} wrong; "
+          f"{run.total('counts')['short messages received']} short messages received; "
+          f"the base station rejected {100 * run.rejected():.1f} % of the uplink's blocks; tries {len(run.results)}, load {load:.1f}")
+    for text in run.wrong[:20]:
+        print("  wrong: " + text)
+    if run.wrong:
+        return 1
+    if run.failure or not run.results:
+        print(f"network: {name}: the network did not start or the run failed: {run.failure}")
+        return 1
+    if not run.whole:
+        print(f"network: {name}: the base station ended itself in each of {TRIES} tries, as osmo-bts-trx does if it does not run for 230 ms")
+        return 77
+    if run.share < 0.5:
+        print(f"network: {name}: only {100 * run.share:.0f} % of the sessions are complete; expected at least half")
+        return 1
+    return 0
+
+
+def check(given):
+    statuses = []
+    for name, options in QUICK if os.environ.get("QUICK") == "quick" else FULL:
+        if options.get("station") and not given.preload:
+            print(f"network: skipped: {name}: no make or no cc here")
+            continue
+        run = Run(given, options)
+        status = told(name, run)
+        if status == 0 and options.get("station") and run.rejected() > 0.03:
+            print(f"network: {name}: expected at most 3 % rejected by a base station that tries 64 words")
+            status = 1
+        statuses.append(status)
+    if 1 in statuses:
+        return 1
+    if 77 in statuses:
+        print("network: skipped: everything: the base station ended itself in each try: this machine is too busy")
+        return 77
+    return 0
+
+
+def table(given):
+    """The rows of the table in docs/INTEROP.md."""
+    status = 0
+    print("| Air | T200 | sessions | complete | why others were not | blocks of the uplink rejected by `um` alone, osmo-bts alone, of |")
+    print("|-|-|-|-|-|-|")
+    for name, options in LONG:
+        for t200 in (2, 4):
+            sessions = given.number // (2 * len(LONG))
+            run = Run(given, dict(options, sessions=sessions, t200=t200, twins=0.1, among=1))
+            counts, blocks = run.outcomes, run.total("blocks")
+            others = ", ".join(f"{count} {how}" for how, count in counts.most_common() if how not in ("complete", "contention"))
+            print(f"| {name} | {t200} | {sum(counts.values()) - counts['contention']} | {100 * run.share:.1f} % | {others or '-'} | "
+                  f"{blocks['ra']}, {blocks['ar']}, {sum(blocks.values())} |", flush=True)
+            print(f"  {len(run.wrong)} wrong; tries {len(run.results)}; load {os.getloadavg()[0]:.1f}; {dict(run.total('counts'))}",
+                  file=sys.stderr, flush=True)
+            for text in run.wrong:
+                print("  wrong: " + text, file=sys.stderr)
+            status |= bool(run.wrong) or not run.whole
+    return status
+
+
+def main():
+    signal.signal(signal.SIGTERM, lambda *_: sys.exit(1))
+    parser = argparse.ArgumentParser(prog="checks/network", usage="checks/network [run OPTIONS | show | long SESSIONS]",
+                                     formatter_class=argparse.RawDescriptionHelpFormatter, description=__doc__.split("\n")[0])
+    parser.add_argument("what", nargs="?", choices=("check", "run", "show", "long"), default="check",
+                        help="run: one run with options; show: one mobile, message by message; long: the table of docs/INTEROP.md")
+    parser.add_argument("number", nargs="?", type=int, default=2000, help="sessions of the table (2000)")
+    for name in ("own", "sctp", "preload"):
+        parser.add_argument("--" + name, help=argparse.SUPPRESS)
+    parser.add_argument("--keep", action="store_true", help="keep the logs")
+    for name, default, text in OPTIONS:
+        parser.add_argument("--" + name, type=type(default), default=default, help=f"{text} ({default})")
+    given = parser.parse_args()
+    if given.what == "check":
+        sys.exit(check(given))
+    if given.what == "long":
+        sys.exit(table(given))
+    options = {name: getattr(given, name) for name in DEFAULTS}
+    if given.what == "show":
+        options.update(sessions=3, busy=1, show=1)
+    run = Run(given, options)
+    status = told("run", run)
+    for how, count in sorted((run.total("counts") + run.total("blocks")).items()):
+        print(f"{count:7} {how}")
+    sys.exit(status)
+
+
+main()
