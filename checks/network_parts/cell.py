@@ -12,7 +12,6 @@ from watched import BSIC, TSC, Watched
 
 FRAME = 60 / 13000  # seconds
 LAG = 15  # frames from a burst's time to when it is heard, so that the base station may be late; its answer leaves 28 frames after a block
-MOBILES, BUSY = 20, 12  # mobiles in all, and at most at a time
 
 
 class Cell:
@@ -21,8 +20,8 @@ class Cell:
         self.wrong, self.outcomes, self.counts, self.begun = [], collections.Counter(), collections.Counter(), 0
         self.rsl, self.texts, self.recent, self.uplink, self.verdicts = Rsl(self.log), set(), {}, collections.defaultdict(Blocks), {}
         self.air = Air(options.block, options.burst, options.bit, options.noise)
-        self.radio, self.station = Transceiver(self.rsl), None
-        self.mobiles = [Watched(self, index) for index in range(MOBILES)]
+        self.last_busy, self.radio, self.station = 0, Transceiver(self.rsl), None
+        self.mobiles = [Watched(self, index) for index in range(options.mobiles)]
 
     def log(self, who, text):
         print(self.fn, who, text, file=self.trace)
@@ -96,11 +95,11 @@ class Cell:
         for _ in range(2):
             if self.begun < self.options.sessions and sum(bool(mobile.kind) for mobile in self.mobiles) < self.options.busy and idle:
                 mobile = idle.pop(random.randrange(len(idle)))
-                kind = random.choice(["update", "message", "message", "detach"]) if mobile.tmsi else "update"
+                kind = random.choice(self.options.kinds.split()) if mobile.tmsi else "update"
                 if kind == "message":
-                    text = random.randbytes(random.randrange(1, 141))
+                    text = self.options.text.encode() or random.randbytes(random.randrange(1, 141))
                     self.texts.add(text)
-                    mobile.message("%05d" % (10000 + random.randrange(MOBILES)), text)
+                    mobile.message("%05d" % (10000 + random.randrange(self.options.mobiles)), text)
                 else:
                     getattr(mobile, kind)()
                 self.begun += 1
@@ -111,8 +110,13 @@ class Cell:
     def now(self):
         return int((time.monotonic() - self.zero) / FRAME)
 
+    def is_busy(self):
+        return self.begun < self.options.sessions or any(mobile.kind for mobile in self.mobiles)
+
     def is_running(self):
-        at_work = self.begun < self.options.sessions or any(mobile.kind for mobile in self.mobiles)
+        if self.is_busy():
+            self.last_busy = self.fn
+        at_work = self.fn <= self.last_busy + self.options.linger
         over = self.radio.over or (self.station and self.station.poll() is not None)
         return at_work and not over and self.now() * FRAME < self.options.seconds
 
@@ -135,6 +139,8 @@ class Cell:
                 bad.add((int(line.split(",ts=")[1][0]), int(line.split()[2].split("/")[0])))
         blocks = collections.Counter(f"{'a' if ok else 'r'}{'r' if place in bad else 'a'}" for place, ok in self.verdicts.items())
         return {
-            "ended": self.radio.over or self.station.poll() is not None, "wrong": self.wrong, "begun": self.begun, "frames": frames, "processor": time.process_time(),
-            "outcomes": [[kind, how, count] for (kind, how), count in sorted(self.outcomes.items())], "counts": self.counts, "blocks": blocks,
+            "ended": self.radio.over or self.station.poll() is not None, "unfinished": self.is_busy(),
+            "wrong": self.wrong, "begun": self.begun, "frames": frames, "processor": time.process_time(),
+            "outcomes": [[kind, how, count] for (kind, how), count in sorted(self.outcomes.items())],
+            "counts": self.counts, "blocks": blocks,
         }

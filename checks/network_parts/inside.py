@@ -1,6 +1,5 @@
 """Runs in a network namespace of its own, as its first process: starts the Osmocom programs and the cell in the working directory, and
-prints the account as JSON. When it ends, the kernel ends all that it started."""
-import argparse
+prints the account as JSON. When it ends, the kernel ends all that it started. Its argument is the options, as JSON (runs.py)."""
 import fcntl
 import json
 import os
@@ -12,6 +11,7 @@ import struct
 import subprocess
 import sys
 import time
+import types
 
 HERE = os.path.dirname(os.path.abspath(__file__))
 ROOT = os.path.dirname(os.path.dirname(HERE))
@@ -47,14 +47,17 @@ def create_subscribers():
         database.executemany("insert into subscriber (imsi, msisdn) values (?, ?)", rows)
 
 
+def realtime():
+    """The words that start a program with realtime priority, for the clock's sake, where that is allowed. This process takes it, too."""
+    words = ("chrt", "-f", "1")
+    if not shutil.which("chrt") or subprocess.run([*words, "true"], capture_output=True).returncode:
+        return ()
+    os.sched_setscheduler(0, os.SCHED_FIFO, os.sched_param(1))
+    return words
+
+
 def main():
-    parser = argparse.ArgumentParser()
-    for name, kind in (
-        ("sessions", int), ("busy", int), ("seconds", float), ("seed", int), ("t200", int), ("among", int), ("show", int), ("block", float),
-        ("burst", float), ("bit", float), ("noise", float), ("twins", float), ("sctp", str), ("preload", str),
-    ):
-        parser.add_argument("--" + name, type=kind)
-    options = parser.parse_args()
+    options = types.SimpleNamespace(**json.loads(sys.argv[1]))
     random.seed(options.seed)
     raise_loopback()
     create_subscribers()
@@ -65,11 +68,9 @@ def main():
         sys.exit("osmo-bsc and osmo-msc did not connect")
     from cell import Cell
 
-    ahead = ("chrt", "-f", "1") if shutil.which("chrt") and not subprocess.run(["chrt", "-f", "1", "true"], capture_output=True).returncode else ()
-    if ahead:
-        os.sched_setscheduler(0, os.SCHED_FIFO, os.sched_param(1))
+    ahead = realtime()
     cell = Cell(options)
-    cell.station = start("osmo-bts-trx", [options.preload, options.sctp], ahead)
+    cell.station = start("osmo-bts-trx", [options.preload if options.station else "", options.sctp], ahead)
     print(json.dumps(cell.run()))
 
 

@@ -14,12 +14,15 @@ import tempfile
 INSIDE = os.path.join(os.path.dirname(os.path.abspath(__file__)), "inside.py")
 TRIES = 3  # of a run that the base station itself ends
 OPTIONS = (
-    ("sessions", 40, "sessions that mobiles begin, besides answers to pages"), ("busy", 12, "mobiles at a time, of twenty"),
+    ("sessions", 40, "sessions that mobiles begin, besides answers to pages"), ("mobiles", 20, "mobiles"),
+    ("busy", 12, "mobiles that have a session at a time"), ("kinds", "update message message detach", "what they choose from"),
+    ("text", "", "text of each short message; without it random octets"), ("linger", 0, "frames to wait for pages after the last session"),
     ("seconds", 300.0, "longest run"), ("seed", 1, "seed"), ("block", 0.0, "share of blocks lost"), ("burst", 0.0, "share of bursts lost"),
     ("bit", 0.0, "share of bits flipped"), ("noise", 0.0, "standard deviation of noise added to the bits, which are -1 and 1"),
     ("twins", 0.0, "share of accesses that a second mobile makes too, so that both contend for the channel"),
     ("t200", 2, "T200 of the mobiles on SAPI 0 in slots; on SAPI 3 two more"), ("among", 64, "words that a mobile tries for a block"),
-    ("station", 0, "words that the base station tries, by libum_osmo.so; 0: it decodes by libosmocoding"), ("show", 0, "1: print each event"),
+    ("station", 0, "words that the base station tries, by libum_osmo.so; 0: it decodes by libosmocoding"),
+    ("show", 0, "1: print each event"),
 )
 DEFAULTS = {name: default for name, default, _ in OPTIONS}
 QUICK = (("noise and lost blocks", dict(noise=0.65, block=0.03, twins=0.1)),)
@@ -46,15 +49,12 @@ class Run:
                 break
 
     def _start(self, given, options):
-        environment = dict(os.environ)
-        station = options.pop("station")
-        if station:
-            environment["UM_OSMO_AMONG"] = str(station)
-        words = [word for name, value in options.items() for word in ("--" + name, str(value))]
+        environment = dict(os.environ, UM_OSMO_AMONG=str(options["station"] or 1))
+        options = json.dumps(dict(options, sctp=given.sctp, preload=given.preload))
         folder = tempfile.mkdtemp(prefix="network-")
-        command = [*given.own.split(), sys.executable, INSIDE, *words, "--sctp", given.sctp, "--preload", given.preload if station else ""]
         try:
-            child = subprocess.Popen(command, cwd=folder, env=environment, stdout=subprocess.PIPE, text=True)
+            child = subprocess.Popen([*given.own.split(), sys.executable, INSIDE, options], cwd=folder, env=environment,
+                                     stdout=subprocess.PIPE, text=True)
             try:
                 for line in child.stdout:
                     if line.startswith("{"):
@@ -119,8 +119,11 @@ def told(name, run):
         print(f"network: {name}: the network did not start or the run failed: {run.failure}")
         return 1
     if not run.whole:
-        print(f"network: {name}: the base station ended itself in each of {TRIES} tries, as osmo-bts-trx does if it does not run for 230 ms")
+        print(f"network: {name}: the base station ended itself in each of {TRIES} tries, as it does if it does not run for 230 ms")
         return 77
+    if run.results[-1]["unfinished"]:
+        print(f"network: {name}: sessions were not over after {run.options['seconds']:.0f} s")
+        return 1
     if run.share < 0.5:
         print(f"network: {name}: only {100 * run.share:.0f} % of the sessions are complete; expected at least half")
         return 1
@@ -147,25 +150,36 @@ def check(given):
     return 0
 
 
-def table(given):
-    """The rows of the table in docs/INTEROP.md."""
-    status = 0
-    print("| Air | T200 | sessions | complete | why others were not | blocks of the uplink rejected by `um` alone, osmo-bts alone, of |")
-    print("|-|-|-|-|-|-|")
+def long_run(given, options):
+    """A run for a table, and whether it is whole and nothing is wrong; the details are printed on standard error."""
+    run = Run(given, dict(options, seconds=60 + 3 * options["sessions"]))
+    print(f"{options}: {len(run.wrong)} wrong; tries {len(run.results)}; load {os.getloadavg()[0]:.1f}; "
+          f"{dict(run.total('counts'))}; {dict(run.total('blocks'))}", *run.wrong, sep="\n  wrong: ", file=sys.stderr, flush=True)
+    return run, run.whole and not run.wrong
+
+
+def tables(given):
+    """The rows of the tables in docs/INTEROP.md."""
+    good, share = True, given.number // (2 * len(LONG))
+    print("| Air | T200 | sessions | complete | why the others were not | uplink blocks | rejected by `um` alone | by osmo-bts alone |")
+    print("|-|-|-|-|-|-|-|-|")
     for name, options in LONG:
         for t200 in (2, 4):
-            sessions = given.number // (2 * len(LONG))
-            run = Run(given, dict(options, sessions=sessions, t200=t200, twins=0.1, among=1))
+            run, well = long_run(given, dict(options, sessions=share, t200=t200, twins=0.1, among=1))
             counts, blocks = run.outcomes, run.total("blocks")
             others = ", ".join(f"{count} {how}" for how, count in counts.most_common() if how not in ("complete", "contention"))
-            print(f"| {name} | {t200} | {sum(counts.values()) - counts['contention']} | {100 * run.share:.1f} % | {others or '-'} | "
-                  f"{blocks['ra']}, {blocks['ar']}, {sum(blocks.values())} |", flush=True)
-            print(f"  {len(run.wrong)} wrong; tries {len(run.results)}; load {os.getloadavg()[0]:.1f}; {dict(run.total('counts'))}",
-                  file=sys.stderr, flush=True)
-            for text in run.wrong:
-                print("  wrong: " + text, file=sys.stderr)
-            status |= bool(run.wrong) or not run.whole
-    return status
+            print(f"| {name} | {t200} | {sum(counts.values()) - counts['contention']} | {100 * run.share:.1f} % | {others} | "
+                  f"{sum(blocks.values())} | {blocks['ra']} | {blocks['ar']} |", flush=True)
+            good &= well
+    print("\n| Air | base station decodes by | sessions | complete | blocks of the uplink | rejected |\n|-|-|-|-|-|-|")
+    for name, options in (("4 % of bits flipped", dict(bit=0.04)), ("noise, sigma 0.75", dict(noise=0.75))):
+        for station, words in ((0, "libosmocoding"), (1, "`um`, one word"), (64, "`um`, 64 words")):
+            run, well = long_run(given, dict(options, sessions=share, station=station))
+            counts = run.outcomes
+            print(f"| {name} | {words} | {sum(counts.values())} | {100 * run.share:.1f} % | {sum(run.total('blocks').values())} | "
+                  f"{100 * run.rejected():.2f} % |", flush=True)
+            good &= well
+    return int(not good)
 
 
 def main():
@@ -184,10 +198,10 @@ def main():
     if given.what == "check":
         sys.exit(check(given))
     if given.what == "long":
-        sys.exit(table(given))
+        sys.exit(tables(given))
     options = {name: getattr(given, name) for name in DEFAULTS}
     if given.what == "show":
-        options.update(sessions=3, busy=1, show=1)
+        options.update(sessions=2, mobiles=1, kinds="message", text="hello from um", linger=2000, show=1)
     run = Run(given, options)
     status = told("run", run)
     for how, count in sorted((run.total("counts") + run.total("blocks")).items()):

@@ -113,7 +113,7 @@ class Watched(Mobile):
         return True
 
     def _got(self, sapi, message):
-        """Tests that it is the network's next one. osmo-bts cuts a message if it takes a repeated SABM for a new one; a part is not used."""
+        """Tests that it is the network's next one. osmo-bts cuts a message if it takes a repeated SABM for a new one."""
         wanted = self.theirs[sapi][self.taken[sapi] :]
         if sapi in self.truth.reopened:
             while wanted and not wanted[0].endswith(message):

@@ -60,13 +60,13 @@ class DataLink:
             self.notice(sapi, notice)
 
     def take(self, block):
-        """A block that arrived. Its frame; um.NoFrame if it has none."""
+        """A block that arrived. um.NoFrame if it has no frame."""
         frame = um.read_frame(block, self.channel)
         link = self.links.get(frame.sapi)
         if frame.sapi == 0:
             self.heard0 |= frame.kind != "ui"
         elif link is None or (self.role == "mobile" and self.state(0) != "open"):
-            return frame
+            return
         elif frame.kind == "sabm":
             self._refresh()
             link = self.links[3]
@@ -75,7 +75,6 @@ class DataLink:
         # a UA or DM that comes before the SABM or DISC was sent answers another one
         if frame.kind not in ("ua", "dm") or link.sent or link.end.state not in ("opening", "closing"):
             self._apply(frame.sapi, link.end.take(block))
-        return frame
 
     def next(self):
         """The frame to send in this slot; None: nothing is to be sent."""
@@ -90,10 +89,7 @@ class DataLink:
 
     def _due(self, sapi, link):
         later = copy.copy(link.end)
-        try:
-            effects = None if link.clock else later.timer()
-        except um.Refused:
-            effects = None  # no frame awaits an answer
+        effects = later.timer() if later.timer_runs and not link.clock else None
         frame = um.read_frame(effects.frames[0], self.channel) if effects and effects.frames else None
         answer = link.answer
         if frame and frame.kind == "i" and answer and answer.kind == "rr" and not answer.pf:

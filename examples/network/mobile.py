@@ -177,11 +177,12 @@ class Mobile:
 
     def _signalling(self, block):
         try:
-            frame = self.link.take(block)
+            frame = um.read_frame(block)
         except um.NoFrame as why:
             return self.say(f"not a frame: {why}")
         if frame.kind != "ui" or frame.info:
             self.say("hears " + describe(frame))
+        self.link.take(block)
 
     def _next_block(self):
         """The block of SDCCH for this slot; None if the session is over."""
@@ -211,9 +212,9 @@ class Mobile:
         if notice.kind == "opened" and sapi == 3 and self.accepted:
             self.send(3, self.data)
         elif notice.kind == "got":
-            self._mobility(notice.value) if sapi == 0 else self._short_message(notice.value)
+            self._mobility(notice.message) if sapi == 0 else self._short_message(notice.message)
         elif notice.kind == "closed" and sapi == 0:
-            self.closed = notice.value
+            self.closed = notice.reason
 
     # -- layer 3: mobility management, and short messages on SAPI 3
 
