@@ -7,6 +7,11 @@ CHANNEL, LINK, LAYER1, LAYER3, FULL_BCCH, FULL_ASSIGN = 0x01, 0x02, 0x0A, 0x0B, 
 DATA_REQUEST, DATA_INDICATION, ESTABLISH_REQUEST, ESTABLISH_INDICATION, RELEASE_CONFIRM, RELEASE_INDICATION = 1, 2, 4, 6, 8, 9
 BCCH_INFORMATION, IMMEDIATE_ASSIGN, SACCH_FILLING, ACTIVATION, DEACTIVATE_SACCH, MEASUREMENT, CHANNEL_RELEASE = (
     0x11, 0x16, 0x1A, 0x21, 0x25, 0x28, 0x2E)
+NAMES = {
+    1: "DATA REQUEST", 2: "DATA INDICATION", 3: "ERROR INDICATION", 4: "ESTABLISH REQUEST", 5: "ESTABLISH CONFIRM",
+    6: "ESTABLISH INDICATION", 7: "RELEASE REQUEST", 8: "RELEASE CONFIRM", 9: "RELEASE INDICATION", 0x21: "CHANNEL ACTIVATION",
+    0x22: "CHANNEL ACTIVATION ACK", 0x25: "DEACTIVATE SACCH", 0x2E: "RF CHANNEL RELEASE", 0x33: "RF CHANNEL RELEASE ACK",
+}
 
 
 class Truth:
@@ -41,7 +46,8 @@ class Rsl:
         layer3 = fields.get(LAYER3)
         channel = fields[CHANNEL][0] if about in (1, 4) else None
         if channel is not None and kind != MEASUREMENT:
-            self.log(f"x{channel:02x}", f"RSL {kind:02x} sapi {fields.get(LINK, b'.')[0] & 7} {(layer3 or b'').hex()}".rstrip())
+            sapi = f" sapi {fields[LINK][0] & 7} {(layer3 or b'').hex()}" if about == 1 else ""
+            self.log(f"x{channel:02x}", f"RSL {NAMES.get(kind, hex(kind))}{sapi}".rstrip())
         if about == 1 and not fields[LINK][0] & 0x40:  # of SDCCH, not of SACCH
             self._link(self.truths[channel], kind, fields[LINK][0] & 7, layer3)
         elif about == 4:

@@ -103,14 +103,14 @@ class Run:
 
 def told(name, run):
     """Prints a run in a line or two. Its status: 0, 1 if something is wrong, 77 if the base station ended itself in each try."""
-    load = os.getloadavg()[0]
-    counts, others = run.outcomes, []
-    for how, count in counts.most_common():
-        if how != "complete":
-            others.append(f"{count} {how}")
-    print(f"network: {name}: {counts['complete']} sessions complete ({', '.join(others) or 'no other'}), {len(run.wrong)} wrong; "
+    counts = run.outcomes
+    others = ", ".join(f"{count} {how}" for how, count in counts.most_common() if how != "complete")
+    print(f"network: {name}: {counts['complete']} sessions complete ({others or 'no other'}), {len(run.wrong)} wrong; "
           f"{run.total('counts')['short messages received']} short messages received; "
-          f"the base station rejected {100 * run.rejected():.1f} % of the uplink's blocks; tries {len(run.results)}, load {load:.1f}")
+          f"the base station rejected {100 * run.rejected():.1f} % of the uplink's blocks")
+    ended = sum(result["ended"] for result in run.results)
+    if ended and run.whole:
+        print(f"network: {name}: that is in {ended + 1} tries; the base station ended itself in the others (load {os.getloadavg()[0]:.0f})")
     for text in run.wrong[:20]:
         print("  wrong: " + text)
     if run.wrong:
@@ -119,7 +119,7 @@ def told(name, run):
         print(f"network: {name}: the network did not start or the run failed: {run.failure}")
         return 1
     if not run.whole:
-        print(f"network: {name}: the base station ended itself in each of {TRIES} tries, as it does if it does not run for 230 ms")
+        print(f"network: skipped: machine too busy: the base station ended itself in each of {TRIES} tries of: {name}")
         return 77
     if run.results[-1]["unfinished"]:
         print(f"network: {name}: sessions were not over after {run.options['seconds']:.0f} s")
@@ -131,7 +131,7 @@ def told(name, run):
 
 
 def check(given):
-    statuses = []
+    statuses = set()
     for name, options in QUICK if os.environ.get("QUICK") == "quick" else FULL:
         if options.get("station") and not given.preload:
             print(f"network: skipped: {name}: no make or no cc here")
@@ -141,13 +141,8 @@ def check(given):
         if status == 0 and options.get("station") and run.rejected() > 0.03:
             print(f"network: {name}: expected at most 3 % rejected by a base station that tries 64 words")
             status = 1
-        statuses.append(status)
-    if 1 in statuses:
-        return 1
-    if 77 in statuses:
-        print("network: skipped: everything: the base station ended itself in each try: this machine is too busy")
-        return 77
-    return 0
+        statuses.add(status)
+    return 1 if 1 in statuses else 0 if 0 in statuses else 77
 
 
 def long_run(given, options):

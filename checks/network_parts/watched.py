@@ -58,7 +58,7 @@ class Watched(Mobile):
 
     def follow(self, leader):
         """Takes the leader's assignment for its own, so that both contend for one channel."""
-        leader.twin, leader.alone, self.alone, self.next_access = self, False, False, self.fn + 2000
+        leader.twin, self.next_access = self, self.fn + 2000
 
     def speak(self):
         burst = super().speak()
@@ -68,6 +68,9 @@ class Watched(Mobile):
 
     def _assigned(self, channel):
         self.truth = self.cell.rsl.truths[channel]
+        for other in self.cell.mobiles:  # another took it, too
+            if other is not self and other.truth is self.truth:
+                self.alone = other.alone = False
         # of each link: what the network got of it and sent on it, and where in these lists it began and is now
         self.ours, self.theirs, self.base, self.taken = dict(self.truth.up), dict(self.truth.down), {0: 0, 3: 0}, {0: 0, 3: 0}
         self.sent, self.acked, self.reported = {0: [], 3: []}, {0: 0, 3: 0}, []
