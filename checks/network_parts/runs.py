@@ -20,7 +20,7 @@ OPTIONS = (
     ("seconds", 300.0, "longest run"), ("seed", 1, "seed"), ("block", 0.0, "share of blocks lost"), ("burst", 0.0, "share of bursts lost"),
     ("bit", 0.0, "share of bits flipped"), ("noise", 0.0, "standard deviation of noise added to the bits, which are -1 and 1"),
     ("twins", 0.0, "share of accesses that a second mobile makes too, so that both contend for the channel"),
-    ("t200", 2, "T200 of the mobiles on SAPI 0 in slots; on SAPI 3 two more"), ("among", 64, "words that a mobile tries for a block"),
+    ("t200", 2, "T200 of the mobiles on SAPI 0, in slots"), ("t200_sapi3", 4, "the same on SAPI 3"), ("among", 64, "words that a mobile tries for a block"),
     ("station", 0, "words that the base station tries, by libum_osmo.so; 0: it decodes by libosmocoding"),
     ("show", 0, "1: print each event"),
 )

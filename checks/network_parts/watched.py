@@ -11,7 +11,7 @@ class Watched(Mobile):
     def __init__(self, cell, index):
         self.cell, self.index, self.ahead, self.truth = cell, index, random.randrange(1000000), None
         self.twin, self.alone = None, True
-        super().__init__("00101%010d" % index, self._say, cell.options.among, (cell.options.t200, cell.options.t200 + 2))
+        super().__init__("00101%010d" % index, self._say, cell.options.among, (cell.options.t200, cell.options.t200_sapi3))
 
     def _say(self, text):
         self.cell.log(self.index, text)
