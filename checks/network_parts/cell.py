@@ -49,11 +49,10 @@ class Cell:
             self.hear_sync(self.recent[0, fn % 8], fn)
         up = [[] for _ in range(8)]
         for mobile in self.mobiles:
-            tn = mobile.tn
-            mobile.frame(fn, self.recent[tn, fn % 8])
+            mobile.frame(fn)
             burst = mobile.speak()
             if burst:
-                up[tn].append((burst, mobile))
+                up[mobile.tn].append((burst, mobile))
         for tn in range(8):
             self.send_up(tn, fn, up[tn])
 

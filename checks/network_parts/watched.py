@@ -25,9 +25,12 @@ class Watched(Mobile):
     def place(self, fn):
         return common_place(fn, True) if self.channel is None else dedicated_place(self.channel, fn)
 
-    def frame(self, fn, burst):
-        """The bits that the base station sent on timeslot `tn` in this frame, if any. The mobile's own count of frames is another."""
+    def frame(self, fn):
+        """Hears what the base station sent on timeslot `tn` in this frame. The mobile's own count of frames is another."""
+        if self.channel is not None and self.truth is not self.cell.rsl.truths[self.channel]:
+            self.ended("channel given to another")
         name, at = self.place(fn) or (None, 0)
+        burst = self.cell.recent[self.tn, fn % 8]
         soft = self.cell.air.carry(burst, (self.index, name), fn - at) if burst else None
         self.hear(fn + self.ahead, soft or LOST)
         self.expect(self.offset is None or (self.fn, self.bsic) == (fn, BSIC), f"frame {self.fn}, BSIC {self.bsic} in frame {fn}")
@@ -36,7 +39,9 @@ class Watched(Mobile):
         self.cell.counts[f"blocks {'accepted' if report.accepted else 'rejected'} on {name}"] += 1
         if report.accepted:
             sent = self.cell.sent_block(self.tn, self.fn)
-            self.expect((report.accepted, report.tsc) == (sent, TSC), f"{name}: accepted {report.accepted.hex()}, tsc {report.tsc}")
+            if sent is None:  # a channel that begins within a block: the base station sent other bursts before
+                self.cell.counts["blocks accepted of which not all bursts were sent"] += 1
+            self.expect(sent in (None, report.accepted) and report.tsc == TSC, f"{name}: {report.accepted.hex()}, tsc {report.tsc}")
             if name == "bcch" or name == "ccch" and report.accepted[2] == 0x3F:
                 self.expect(report.accepted in self.cell.rsl.common, f"{name}: {report.accepted.hex()}")
         super().hear_block(name, report)
@@ -76,9 +81,6 @@ class Watched(Mobile):
         self.sent, self.acked, self.reported = {0: [], 3: []}, {0: 0, 3: 0}, []
         super()._assigned(channel)
 
-    def how_over(self, frame):
-        return super().how_over(frame) or ("channel given to another" if self.truth is not self.cell.rsl.truths[self.channel] else None)
-
     def ended(self, how):
         if self.truth:
             self.cell.counts["measurement results"] += len(self.truth.results)
@@ -87,8 +89,11 @@ class Watched(Mobile):
             for sapi in (0, 3) if self.truth.opened.get(0) == self.first else ():
                 up = self.ours[sapi][self.base[sapi] :]
                 self.expect(up == self.sent[sapi][: len(up)], f"the network got {[message.hex() for message in up]}")
-        if how == "refused" and self.truth.opened.get(0) == self.first:
-            how += ", though the network had opened the link"
+            opened = self.truth.opened.get(0)
+            if how != "complete" and opened not in (None, self.first):
+                how = "contention"  # if not by the UA, the mobile learned it by a DM, or when the channel went
+            elif how == "refused" and opened:
+                how = "refused, though the network had opened the link"
         self.cell.outcomes[self.kind, how] += 1
         super().ended(how)
 
