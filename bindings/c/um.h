@@ -58,8 +58,8 @@ bool um_receive_block(const int8_t bursts[4][148], um_block_report *report) UM_N
 
 /* Decodes four normal bursts by list decoding: tries the `most` words with the greatest metrics (1 to 64) in descending order and
  * takes the first whose CRC holds. No other word with a matching CRC has a greater metric. If none matches, the report is that of
- * um_receive_block. Writes the word's rank, 1 for the greatest metric. A wrong word passes the CRC by chance once in 2^40 words.
- * False: a soft bit is -128, or most is 0 or above 64. */
+ * um_receive_block. Writes the word's rank, 1 for the greatest metric. The CRC of a random word holds once in 2^40 words; in noise
+ * about one in 10^8 of the blocks that cannot be saved is accepted wrongly. False: a soft bit is -128, or most is 0 or above 64. */
 bool um_receive_block_among(const int8_t bursts[4][148], uint32_t most, um_block_report *report, uint32_t *rank) UM_NONNULL;
 
 typedef struct um_margin_report {
@@ -99,8 +99,8 @@ typedef struct um_access_report {
 	uint8_t word[18];        /* data 8, CRC 6 XORed with the BSIC, tail 4 */
 } um_access_report;
 
-/* Encodes eight bits into an access burst for the base station with identity code bsic, most significant bit first.
- * False: an octet is neither 0 nor 1. */
+/* Encodes the eight bits of RA, least significant first, into an access burst for the base station whose identity code is bsic, most
+ * significant bit first. False: an octet is neither 0 nor 1. */
 bool um_send_access(const uint8_t info[8], const uint8_t bsic[6], uint8_t burst[88]) UM_NONNULL;
 
 /* Decodes an access burst. False: a soft bit is -128, or an octet of bsic is neither 0 nor 1. */
@@ -117,7 +117,9 @@ typedef struct um_sync_report {
 	uint8_t word[39];        /* data 25, CRC 10, tail 4 */
 } um_sync_report;
 
-/* Encodes 25 bits into a synchronisation burst. False: an octet is neither 0 nor 1. */
+/* Encodes 25 bits into a synchronisation burst. In frame FN, with s = FN / 1326, m = FN % 26 and r = (FN % 51 - 1) / 10, they are bits 9
+ * and 10 of s, BSIC, bits 1 to 8 of s, bits 1 and 2 of r, m, bit 0 of s, and bit 0 of r, each field least significant bit first
+ * (3GPP TS 44.018, 9.1.30). False: an octet is neither 0 nor 1. */
 bool um_send_sync(const uint8_t info[25], uint8_t burst[148]) UM_NONNULL;
 
 /* Decodes a synchronisation burst. False: a soft bit is -128. */

@@ -158,11 +158,14 @@ export class Um {
   marginBlock(bursts: SoftBits): Margin;
   /** Corrects a word of 224 bits, data and CRC, with an error burst of at most 12 bits. Null: no codeword is that near. */
   repair(word: Bits): Repair | null;
-  /** Encodes eight bits into an access burst of 88 bits for a base station's identity code (six bits). */
+  /** Encodes the eight bits of RA, least significant first, into an access burst of 88 bits for a base station's identity code (six bits,
+   * most significant first). */
   sendAccess(info: Bits, bsic: Bits): Uint8Array;
   /** Decodes an access burst of 88 soft bits for a base station's identity code. */
   receiveAccess(burst: Numbers, bsic: Bits): Report;
-  /** Encodes 25 bits into a synchronisation burst of 148 bits. */
+  /** Encodes 25 bits into a synchronisation burst of 148 bits. In frame FN, with s = floor(FN / 1326), m = FN % 26 and
+   * r = floor((FN % 51 - 1) / 10), they are bits 9 and 10 of s, BSIC, bits 1 to 8 of s, bits 1 and 2 of r, m, bit 0 of s, and bit 0 of r,
+   * each field least significant bit first. */
   sendSync(info: Bits): Uint8Array;
   /** Decodes a synchronisation burst of 148 soft bits. */
   receiveSync(burst: Numbers): Report;

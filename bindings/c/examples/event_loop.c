@@ -8,7 +8,10 @@
  *   - SAPI 0 has priority over SAPI 3.
  *   - T200 starts when a SABM, DISC or I frame goes on the air. It does not run while the frame is queued.
  *   - T200 exceeds the round trip: one block for the answer, and one for a frame that the peer may have queued before it. A received
- *     block of the other link took the slot of the answer, so it extends T200 by one block.
+ *     block of the other link took the slot of the answer, so it extends T200 by one block. A UI frame took no slot: the peer sends
+ *     fill, system information or a measurement report only if nothing else is queued.
+ *   - A mobile drops frames of SAPI 3 until SAPI 0 is open, and after it has ended: they may be for another mobile, with which it
+ *     contends for the channel. On SACCH the SAPI 0 that counts is that of SDCCH, so there the caller decides.
  *   - The window is one frame. So a SABM, DISC or I frame replaces the one still queued, which is a copy or already acknowledged.
  *   - A REJ is passed to the endpoint as an RR with the same N(R). With a window of one frame, a REJ asks for a frame that T200
  *     retransmits anyway, or for the frame after a duplicate, which need not be repeated. Delivery is still guaranteed
@@ -112,6 +115,13 @@ static void channel_done(channel *c, int link, const um_effects *done)
 		c->report(c, link, &done->notices[i]);
 }
 
+static bool hears_sapi3(const channel *c)
+{
+	const um_end *signalling = &c->ends[0];
+	return signalling->role == UM_NETWORK || signalling->channel == UM_SACCH || signalling->state == UM_OPEN ||
+	       signalling->state == UM_CLOSING;
+}
+
 /* Processes a received block. Returns the answer of um_end_take for its link. */
 static uint8_t channel_take(channel *c, const uint8_t block[23])
 {
@@ -125,13 +135,14 @@ static uint8_t channel_take(channel *c, const uint8_t block[23])
 		f.kind = UM_RR;
 		um_write_frame(&f, c->ends[0].channel, heard);
 	}
-	bool fill = f.kind == UM_UI && f.count == 0;
 	for (int link = 0; link < LINKS; link++) {
 		if (SAPIS[link] == f.sapi) {
+			if (link == 1 && !hears_sapi3(c))
+				continue;
 			answer = um_end_take(&c->ends[link], heard, &done);
 			if (answer == UM_END_DONE)
 				channel_done(c, link, &done);
-		} else if (c->expiry[link] && !fill)
+		} else if (c->expiry[link] && f.kind != UM_UI)
 			c->expiry[link] += c->block;
 	}
 	return answer;

@@ -103,14 +103,16 @@ def repair(word: "Bits") -> Optional[Repair]:
 
 
 def send_access(info: "Bits", bsic: "Bits") -> bytes:
-    """Encodes eight bits into an access burst of 88 bits for a base station's identity code (six bits)."""
+    """Encodes the eight bits of RA, least significant first, into an access burst of 88 bits.
+
+    `bsic` is the base station's identity code, six bits, most significant first."""
     burst = ctypes.create_string_buffer(88)
     lib.um_send_access(bits("info", info, 8), bits("bsic", bsic, 6), burst)
     return burst.raw
 
 
 def receive_access(burst: "SoftRow", bsic: "Bits") -> Report:
-    """Decodes an access burst of 88 soft bits for a base station's identity code."""
+    """Decodes an access burst of 88 soft bits for a base station's identity code; the orders of bits are those of send_access."""
     values, raw = soft("burst", burst, 1, 88), ctypes.create_string_buffer(40)
     if not lib.um_receive_access(values, bits("bsic", bsic, 6), raw):
         raise minus_128("burst", values, 1, 88)
@@ -118,7 +120,10 @@ def receive_access(burst: "SoftRow", bsic: "Bits") -> Report:
 
 
 def send_sync(info: "Bits") -> bytes:
-    """Encodes 25 bits into a synchronisation burst of 148 bits."""
+    """Encodes 25 bits into a synchronisation burst of 148 bits.
+
+    In frame FN, with s = FN // 1326, m = FN % 26 and r = (FN % 51 - 1) // 10, they are bits 9 and 10 of s, BSIC, bits 1 to 8 of s, bits
+    1 and 2 of r, m, bit 0 of s, and bit 0 of r, each field least significant bit first."""
     burst = ctypes.create_string_buffer(148)
     lib.um_send_sync(bits("info", info, 25), burst)
     return burst.raw
