@@ -2,7 +2,8 @@
 use Rattle.{
   std.{
     proofs.{
-      Common.{◌≡◌, ℕ, ◌+◌, ◌-◌, ◌%◌, ◌<◌, Bool, false, if◌then◌else◌, ℤ, pos, ◌+ℤ◌, ◌≤ℤ◌, true, replicate},
+      Common.{◌≡◌, ℕ, ◌+◌, ◌-◌, ◌%◌, ◌<◌, Bool, false, true, if◌then◌else◌, ℤ, pos, ◌+ℤ◌},
+      Common.{◌≤ℤ◌, replicate},
       Common.{◌-ℤ◌, List, [], ◌∷◌, ◌++◌, map, length, get_or, refl, ap, ap₂, sym, ◌∙◌, arith, int_lt, w8},
       Common.FitsSigned,
       lemmas.{Int.{ints, wrapping_add_is, wrapping_sub_is, int_wrap_fits}, List.{length-map, get_or-map, get_or_append_left}},
