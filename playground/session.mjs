@@ -1,5 +1,5 @@
 // A session of two ends over a radio path, line by line as `um link` runs it: the same lines, the same answers. Independent of the page.
-import { Refused, soften } from "../bindings/js/um.mjs";
+import { Refused, softFromBits } from "../bindings/js/um.mjs";
 import { hex, octetsOfBits, octetsOf, same } from "./dom.mjs";
 import { frameLabel } from "./lines.mjs";
 
@@ -102,7 +102,7 @@ export class Session {
     event.block = queue.shift();
     event.lost = call === "lose";
     if (event.lost) return;
-    const soft = soften(this.um.sendBlock(event.block.octets, this.tsc));
+    const soft = softFromBits(this.um.sendBlock(event.block.octets, this.tsc));
     for (const place of places) soft[place] = -soft[place];
     this.#received(event, way === "up" ? "net" : "mob", this.um.receiveBlock(soft));
   }

@@ -1,5 +1,5 @@
 // The view Bursts: the access burst of RACH and the synchronisation burst of SCH, each sent alone.
-import { soften } from "../bindings/js/um.mjs";
+import { softFromBits } from "../bindings/js/um.mjs";
 import { ACCESS, differs, drawnAsSent, encode, noisy, SYNC } from "./coding.mjs";
 import { $, bitsOf, differ, h, hex, same, save, valueOf, write } from "./dom.mjs";
 import { burstLine, singleLine, softOfHex } from "./lines.mjs";
@@ -87,7 +87,7 @@ class SingleBurst {
     const sent = this.recorded ? null : this.#send();
     const soft = path.over(this.recorded ?? noisy(sent, path.db, path.seed));
     const report = this.#receive(soft, this.heard);
-    const truth = sent && this.#receive(soften(sent), this.bsic).word;
+    const truth = sent && this.#receive(softFromBits(sent), this.bsic).word;
     this.shown = { sent, soft, report, truth, coded: encode(report.word) };
     path.show(this.recorded !== null);
     $(this.#id("recorded")).hidden = this.recorded === null;

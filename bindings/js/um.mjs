@@ -12,7 +12,7 @@ import { END, End, restored, Side } from "./ends.mjs";
 import { Machine } from "./machine.mjs";
 import { CHANNELS, KINDS, Refused, ROLES, SAPIS, UNREAD } from "./words.mjs";
 
-export { softFromBits, softFromBits as soften } from "./arguments.mjs";
+export { softFromBits } from "./arguments.mjs";
 export { CHANNELS, KINDS, NOTICES, REASONS, REFUSALS, Refused, ROLES, STATES, UNREAD } from "./words.mjs";
 export { End, Side } from "./ends.mjs";
 

@@ -1,5 +1,5 @@
 use Rattle.trellis_decode.proofs.HardLanes.{lane-selected, length-selected}
-use Rattle.trellis_decode.proofs.hard.extend_survivor_map_swizzle_fixed.Goals as goal
+use Rattle.trellis_decode.proofs.hard.extend_survivor_map_by_metrics.Goals as goal
 
 pub returns-clause-each : goal.returns-clause-each
 returns-clause-each c = lane-selected _ _ c.requires.zero c.requires.one _ c.requires.map
