@@ -24,7 +24,9 @@ To the peer, a frame dropped from the queue looks like a block lost on the air. 
 import um
 
 SAPIS = (0, 3)
-LEAST_BLOCKS = 4  # T200: one block for the frame, one for the answer, one queued before it, and one in reserve
+# T200: one block for the frame, one for the answer, one queued before it, and one in reserve. osmo-bts answers in the next block and its
+# network soon gives up, so a mobile of such a network sets t200 to two blocks afterwards (docs/INTEROP.md).
+LEAST_BLOCKS = 4
 SUPERVISORY = ("rr", "rnr", "rej")
 STARTS_T200 = ("i", "sabm", "disc")
 

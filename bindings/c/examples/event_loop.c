@@ -37,7 +37,8 @@ typedef struct channel {
 	void *context;                    /* for the caller */
 } channel;
 
-/* T200 is at least four blocks: one for the frame, one for the answer, one queued before it, and one in reserve. */
+/* T200 is at least four blocks: one for the frame, one for the answer, one queued before it, and one in reserve. osmo-bts answers in the
+ * next block and its network soon gives up, so a mobile of such a network sets t200 to two blocks afterwards (docs/INTEROP.md). */
 static void channel_new(channel *c, uint8_t role, uint8_t on, long t200, void (*report)(channel *, int, const um_notice *), void *context)
 {
 	memset(c, 0, sizeof *c);
