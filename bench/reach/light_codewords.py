@@ -1,13 +1,15 @@
 """Fire codewords of a block whose 456 coded bits have little weight: what a wrong word can be that the CRC does not see.
 
-usage: light_codewords.py W1 PAIR [light.json]. Error events of the convolutional code (inputs whose output has weight <= W1 each), at all places; sums of two, three and four events whose
-syndromes cancel (meet in the middle). Prints how many codewords have each coded weight."""
+usage: light_codewords.py HEAVIEST HEAVIEST_PAIR [light.json]
+
+It takes the error events of the convolutional code (inputs whose output has at most weight HEAVIEST), at all places, and sums of two, three
+and four events whose syndromes cancel (meet in the middle). Prints how many codewords have each coded weight."""
 import sys
 import numpy as np
 
 G = (1 << 40) | (1 << 26) | (1 << 23) | (1 << 17) | (1 << 3) | 1
-W1 = int(sys.argv[1]) if len(sys.argv) > 1 else 10
-PAIR = int(sys.argv[2]) if len(sys.argv) > 2 else 17
+HEAVIEST = int(sys.argv[1]) if len(sys.argv) > 1 else 10
+HEAVIEST_PAIR = int(sys.argv[2]) if len(sys.argv) > 2 else 17
 
 
 def events():
@@ -19,7 +21,7 @@ def events():
         for b in (0, 1):
             g0, g1 = b ^ st[2] ^ st[3], b ^ st[0] ^ st[2] ^ st[3]
             nw, ns = w + g0 + g1, (b,) + st[:3]
-            if nw > W1 or len(bits) > 60:
+            if nw > HEAVIEST or len(bits) > 60:
                 continue
             if ns == (0, 0, 0, 0):
                 out.append((bits[:len(bits) - 3 + 0], nw))
@@ -66,7 +68,7 @@ order = np.argsort(start, kind="stable")
 syn, wt, start, stop = syn[order], wt[order], start[order], stop[order]
 ident = [ident[i] for i in order]
 for i in range(len(syn)):
-    j = np.nonzero((start >= stop[i] + 4) & (wt + wt[i] <= PAIR))[0]
+    j = np.nonzero((start >= stop[i] + 4) & (wt + wt[i] <= HEAVIEST_PAIR))[0]
     I.append(np.full(len(j), i, np.int32)); J.append(j.astype(np.int32))
 I, J = np.concatenate(I), np.concatenate(J)
 S = syn[I] ^ syn[J]

@@ -285,12 +285,11 @@ static void equal(void)
 	memset(&thrice, 0, sizeof thrice);
 	begin(&network, UM_NETWORK, 0, UM_SDCCH);
 	check(um_end_new(&once.end, UM_MOBILE, 0, UM_SDCCH) && um_end_new(&thrice.end, UM_MOBILE, 0, UM_SDCCH), "two mobiles");
-	um_end_open(&once.end, &info, &sabm);
-	um_end_open(&thrice.end, &info, &sabm);
+	check(um_end_open(&once.end, &info, &sabm) == UM_END_DONE && um_end_open(&thrice.end, &info, &sabm) == UM_END_DONE, "two SABMs");
 	check(um_end_timer(&thrice.end, &sabm) == UM_END_DONE && um_end_timer(&thrice.end, &sabm) == UM_END_DONE, "the SABM twice more");
 	check(um_end_take(&network.end, sabm.frames[0], &ua) == UM_END_DONE && ua.frame_count == 1, "the UA");
-	um_end_take(&once.end, ua.frames[0], &sabm);
-	um_end_take(&thrice.end, ua.frames[0], &sabm);
+	check(um_end_take(&once.end, ua.frames[0], &sabm) == UM_END_DONE && um_end_take(&thrice.end, ua.frames[0], &sabm) == UM_END_DONE,
+		"the UA at both");
 	check(thrice.end.state == UM_OPEN && !memcmp(&once.end, &thrice.end, sizeof once.end), "states of the same endpoint are equal");
 }
 

@@ -14,6 +14,11 @@ static void check(bool ok, const char *what)
 	}
 }
 
+static void done_by(uint8_t answer)
+{
+	check(answer == UM_END_DONE, "a call is refused");
+}
+
 static void count(channel *c, int link, const um_notice *n)
 {
 	(void)c;
@@ -38,7 +43,7 @@ static int slots_on_sacch(void)
 	forget();
 	channel_new(&sides[0], UM_MOBILE, UM_SACCH, 0, count, NULL);
 	channel_new(&sides[1], UM_NETWORK, UM_SACCH, 0, count, NULL);
-	um_end_open_bare(&sides[0].ends[1], &done);
+	done_by(um_end_open_bare(&sides[0].ends[1], &done));
 	channel_done(&sides[0], 1, &done);
 	for (int slot = 0; slot < 100; slot++) {
 		long now = slot * sides[0].block;
@@ -48,7 +53,7 @@ static int slots_on_sacch(void)
 		for (int i = 0; i < 2; i++) {
 			channel_timers(&sides[i], now);
 			if (!channel_next(&sides[i], now, blocks[i])) {
-				um_end_unit(&sides[i].ends[0], &message, &done);
+				done_by(um_end_unit(&sides[i].ends[0], &message, &done));
 				memcpy(blocks[i], done.frames[0], 23);
 			}
 		}
@@ -75,32 +80,32 @@ static void in_contention(void)
 	channel_new(&a, UM_MOBILE, UM_SDCCH, 0, count, NULL);
 	channel_new(&b, UM_MOBILE, UM_SDCCH, 0, count, NULL);
 	channel_new(&network, UM_NETWORK, UM_SDCCH, 0, count, NULL);
-	um_end_open(&a.ends[0], &info_a, &done);
+	done_by(um_end_open(&a.ends[0], &info_a, &done));
 	channel_take(&network, done.frames[0]);
-	um_end_open(&b.ends[0], &info_b, &done);
+	done_by(um_end_open(&b.ends[0], &info_b, &done));
 	channel_next(&network, 0, block);
 	channel_take(&a, block); /* the UA, which b does not hear */
 	check(opened[0] == 2, "the network and the first mobile have the link of SAPI 0");
-	um_end_open_bare(&network.ends[1], &done);
+	done_by(um_end_open_bare(&network.ends[1], &done));
 	channel_take(&b, done.frames[0]);
 	check(opened[1] == 0 && b.count[1] == 0, "a mobile that has not won contention does not open SAPI 3");
 	channel_take(&a, done.frames[0]);
 	check(opened[1] == 1 && a.count[1] == 1, "the mobile whose link is open does");
 	channel_next(&a, 0, block);
 	channel_take(&network, block);
-	um_end_send(&network.ends[1], &text, &done);
+	done_by(um_end_send(&network.ends[1], &text, &done));
 	channel_take(&b, done.frames[0]);
 	check(got == 0 && b.count[1] == 0, "it reports no message of SAPI 3 and answers none");
 	check(channel_take(&b, block) == UM_END_DONE, "such a frame is no error");
 	channel_take(&a, done.frames[0]);
 	check(got == 1, "the other mobile gets it");
-	um_end_close(&a.ends[0], &done);
+	done_by(um_end_close(&a.ends[0], &done));
 	channel_take(&network, done.frames[0]);
 	channel_next(&network, 0, block);
 	channel_take(&a, block);
 	check(a.ends[0].state == UM_CLOSED, "SAPI 0 has ended");
 	a.count[1] = 0;
-	um_end_timer(&network.ends[1], &done);
+	done_by(um_end_timer(&network.ends[1], &done));
 	channel_take(&a, done.frames[0]);
 	check(got == 1 && a.count[1] == 0, "after it has ended, the mobile takes no frame of SAPI 3");
 }
