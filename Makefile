@@ -12,7 +12,7 @@ SHARE   ?= $(PREFIX)/share
 PYTHON  ?= $(shell python3 -c 'import sys; p = "$(PREFIX)/lib"; f = [f for f in sys.path if f.startswith(p) and f.endswith("-packages")]; \
 	print(f[0] if f else p + "/python%d.%d/site-packages" % sys.version_info[:2])' 2>/dev/null)
 D       := $(DESTDIR)
-HEADERS := bindings/c/um.h bindings/c/um_osmo.h
+HEADERS := $(wildcard bindings/c/*.h bindings/c/*.hpp)
 # the C compiler for ARCH, if there is one
 ARCHCC  := $(shell command -v $(if $(filter $(ARCH),$(shell uname -m)),$(CC),$(ARCH)-linux-gnu-gcc) 2>/dev/null)
 PRELOAD := out/$(ARCH)-linux/libum_osmo.so

@@ -131,8 +131,8 @@ static bool plain_next(struct side *s, uint8_t block[23])
 	um_effects e;
 	if (line_next(s, block))
 		return true;
-	um_end_idle(end_of(s, 0), &e);
-	memcpy(block, e.frames[0], 23);
+	if (um_end_idle(end_of(s, 0), &e) == UM_END_DONE)
+		memcpy(block, e.frames[0], 23);
 	return false;
 }
 

@@ -27,10 +27,18 @@
 #define UM_VERSION_MINOR 2
 #define UM_VERSION_PATCH 0
 
+/* UM_CALL marks a call whose answer must not be ignored: what it writes is not written if it refuses. In gcc and clang an enum that a
+ * call returns has one octet, so that -Wswitch and debuggers know the answer; elsewhere the answer is a uint8_t. */
 #if defined __GNUC__
 #define UM_NONNULL __attribute__((__nonnull__))
+#define UM_CALL __attribute__((__nonnull__, __warn_unused_result__))
+#define UM_OCTET __attribute__((__packed__))
+#define UM_ENUM(name) enum name
 #else
 #define UM_NONNULL
+#define UM_CALL
+#define UM_OCTET
+#define UM_ENUM(name) uint8_t
 #endif
 
 #ifdef __cplusplus
@@ -50,17 +58,17 @@ typedef struct um_block_report {
 } um_block_report;
 
 /* Encodes a block into four normal bursts with training sequence tsc, 0 to 7. False: tsc is above 7. */
-bool um_send_block(const uint8_t octets[23], uint8_t tsc, uint8_t bursts[4][148]) UM_NONNULL;
+bool um_send_block(const uint8_t octets[23], uint8_t tsc, uint8_t bursts[4][148]) UM_CALL;
 
 /* Decodes four normal bursts by maximum likelihood: the word with the greatest metric, and of equal ones the lexicographically first.
  * False: a soft bit is -128. */
-bool um_receive_block(const int8_t bursts[4][148], um_block_report *report) UM_NONNULL;
+bool um_receive_block(const int8_t bursts[4][148], um_block_report *report) UM_CALL;
 
 /* Decodes four normal bursts by list decoding: tries the `most` words with the greatest metrics (1 to 64) in descending order and
  * takes the first whose CRC holds. No other word with a matching CRC has a greater metric. If none matches, the report is that of
  * um_receive_block. Writes the word's rank, 1 for the greatest metric. A wrong word passes the CRC by chance once in 2^40 words.
  * False: a soft bit is -128, or most is 0 or above 64. */
-bool um_receive_block_among(const int8_t bursts[4][148], uint32_t most, um_block_report *report, uint32_t *rank) UM_NONNULL;
+bool um_receive_block_among(const int8_t bursts[4][148], uint32_t most, um_block_report *report, uint32_t *rank) UM_CALL;
 
 typedef struct um_margin_report {
 	int32_t margin;    /* the word's metric minus the next word's; 0 if and only if another word has the same metric */
@@ -69,9 +77,9 @@ typedef struct um_margin_report {
 } um_margin_report;
 
 /* Decodes four normal bursts and reports the margin between the two most likely words. False: a soft bit is -128. */
-bool um_margin_block(const int8_t bursts[4][148], um_margin_report *report) UM_NONNULL;
+bool um_margin_block(const int8_t bursts[4][148], um_margin_report *report) UM_CALL;
 
-enum um_repaired {
+enum UM_OCTET um_repaired {
 	UM_HOLDS,     /* the CRC holds already */
 	UM_REPAIRED,  /* the word was corrected; the report is written */
 	UM_NO_REPAIR, /* no codeword is that near */
@@ -86,7 +94,7 @@ typedef struct um_repair_report {
 
 /* Corrects a block's word: data 184 and CRC 40, one octet per bit (the first 224 of um_block_report's word). It corrects every error
  * burst of at most 12 bits; at most one codeword is that near. Returns a um_repaired. */
-uint8_t um_repair(const uint8_t word[224], um_repair_report *report) UM_NONNULL;
+UM_ENUM(um_repaired) um_repair(const uint8_t word[224], um_repair_report *report) UM_CALL;
 
 /* Access bursts: RACH (3GPP TS 45.003, 4.6). */
 
@@ -101,10 +109,10 @@ typedef struct um_access_report {
 
 /* Encodes eight bits into an access burst for the base station with identity code bsic, most significant bit first.
  * False: an octet is neither 0 nor 1. */
-bool um_send_access(const uint8_t info[8], const uint8_t bsic[6], uint8_t burst[88]) UM_NONNULL;
+bool um_send_access(const uint8_t info[8], const uint8_t bsic[6], uint8_t burst[88]) UM_CALL;
 
 /* Decodes an access burst. False: a soft bit is -128, or an octet of bsic is neither 0 nor 1. */
-bool um_receive_access(const int8_t burst[88], const uint8_t bsic[6], um_access_report *report) UM_NONNULL;
+bool um_receive_access(const int8_t burst[88], const uint8_t bsic[6], um_access_report *report) UM_CALL;
 
 /* Synchronisation bursts: SCH (3GPP TS 45.003, 4.7). */
 
@@ -118,16 +126,16 @@ typedef struct um_sync_report {
 } um_sync_report;
 
 /* Encodes 25 bits into a synchronisation burst. False: an octet is neither 0 nor 1. */
-bool um_send_sync(const uint8_t info[25], uint8_t burst[148]) UM_NONNULL;
+bool um_send_sync(const uint8_t info[25], uint8_t burst[148]) UM_CALL;
 
 /* Decodes a synchronisation burst. False: a soft bit is -128. */
-bool um_receive_sync(const int8_t burst[148], um_sync_report *report) UM_NONNULL;
+bool um_receive_sync(const int8_t burst[148], um_sync_report *report) UM_CALL;
 
 /* LAPDm frames, formats A and B (3GPP TS 44.006). */
 
 enum um_kind { UM_I, UM_RR, UM_RNR, UM_REJ, UM_SABM, UM_DM, UM_UI, UM_DISC, UM_UA };
 enum um_channel { UM_SDCCH, UM_SACCH };
-enum um_reading {
+enum UM_OCTET um_reading {
 	UM_FRAME,     /* the octets are a frame */
 	UM_LPD,       /* another link protocol */
 	UM_EA,        /* the address field continues: EA is 0 */
@@ -151,11 +159,11 @@ typedef struct um_frame {
 } um_frame;
 
 /* Decodes the frame in a block on a channel. Returns a um_reading. On SACCH the two layer 1 octets at the start are ignored. */
-uint8_t um_read_frame(const uint8_t octets[23], uint8_t channel, um_frame *frame) UM_NONNULL;
+UM_ENUM(um_reading) um_read_frame(const uint8_t octets[23], uint8_t channel, um_frame *frame) UM_CALL;
 
 /* Encodes a frame into its canonical block: layer 1 octets 00, fill octets 2b. In a field of one bit any value but 0 means 1. Fields
  * that the kind does not have are ignored. False: the fields describe no frame that fits the channel. */
-bool um_write_frame(const um_frame *frame, uint8_t channel, uint8_t octets[23]) UM_NONNULL;
+bool um_write_frame(const um_frame *frame, uint8_t channel, uint8_t octets[23]) UM_CALL;
 
 /* Endpoints: one end of a LAPDm link in acknowledged mode (3GPP TS 44.006, 5), the mobile's or the network's.
  *
@@ -227,7 +235,7 @@ typedef struct um_effects {
 	uint8_t frames[2][23]; /* the blocks to send, in order; zeros from frame_count on */
 } um_effects;
 
-enum um_answer {
+enum UM_OCTET um_answer {
 	UM_END_DONE,        /* the state and the effects are written; every other answer writes nothing */
 	UM_END_NOT_IDLE,    /* the link was opened already */
 	UM_END_NOT_OPEN,    /* the link is not open */
@@ -246,20 +254,20 @@ bool um_end_new(um_end *end, uint8_t role, uint8_t sapi, uint8_t channel) UM_NON
 /* Opens the link of SAPI 0, at the mobile, with contention resolution: info, 1 to 20 octets (18 on SACCH), identifies the mobile.
  * Returns a um_answer, as the other calls do. If several apply, UM_END_NONE and UM_END_NO_CALL come first, then the order of the
  * enum decides. */
-uint8_t um_end_open(um_end *end, const um_message *info, um_effects *effects) UM_NONNULL;
+UM_ENUM(um_answer) um_end_open(um_end *end, const um_message *info, um_effects *effects) UM_CALL;
 
 /* Opens the link of SAPI 3, at either end. */
-uint8_t um_end_open_bare(um_end *end, um_effects *effects) UM_NONNULL;
+UM_ENUM(um_answer) um_end_open_bare(um_end *end, um_effects *effects) UM_CALL;
 
 /* Sends a message of 1 to 251 octets over the open link, in as many I frames as it needs. Each follows once the one before it is
  * acknowledged. */
-uint8_t um_end_send(um_end *end, const um_message *message, um_effects *effects) UM_NONNULL;
+UM_ENUM(um_answer) um_end_send(um_end *end, const um_message *message, um_effects *effects) UM_CALL;
 
 /* Sends 1 to 20 octets (18 on SACCH) in one UI frame, unacknowledged, in any state. */
-uint8_t um_end_unit(const um_end *end, const um_message *message, um_effects *effects) UM_NONNULL;
+UM_ENUM(um_answer) um_end_unit(const um_end *end, const um_message *message, um_effects *effects) UM_CALL;
 
 /* Releases the link. Messages not acknowledged are discarded. */
-uint8_t um_end_close(um_end *end, um_effects *effects) UM_NONNULL;
+UM_ENUM(um_answer) um_end_close(um_end *end, um_effects *effects) UM_CALL;
 
 /* T200 has expired: retransmits the frame that awaits an answer, or gives the link up after N200 retransmissions.
  *
@@ -269,13 +277,13 @@ uint8_t um_end_close(um_end *end, um_effects *effects) UM_NONNULL;
  * until the endpoint has nothing left to send. If T200 always expires too early, links fail although no frame is lost. To end the
  * doubling, pass each REJ to um_end_take as an RR with the same N(R); delivery is still guaranteed.
  * bindings/c/examples/event_loop.c manages T200 for both links of a channel. */
-uint8_t um_end_timer(um_end *end, um_effects *effects) UM_NONNULL;
+UM_ENUM(um_answer) um_end_timer(um_end *end, um_effects *effects) UM_CALL;
 
 /* Writes the fill frame, for a block in which nothing else is to be sent. */
-uint8_t um_end_idle(const um_end *end, um_effects *effects) UM_NONNULL;
+UM_ENUM(um_answer) um_end_idle(const um_end *end, um_effects *effects) UM_CALL;
 
 /* Processes a received block. */
-uint8_t um_end_take(um_end *end, const uint8_t octets[23], um_effects *effects) UM_NONNULL;
+UM_ENUM(um_answer) um_end_take(um_end *end, const uint8_t octets[23], um_effects *effects) UM_CALL;
 
 /* Sides: both links of a mobile, or of the network, on one channel: SAPI 0 for signalling and SAPI 3 for short messages. Each call
  * acts on the endpoint of its SAPI as the um_end call of the same name does, and leaves the other one unchanged. Each link has its
@@ -292,29 +300,29 @@ typedef struct um_side {
 bool um_side_new(um_side *side, uint8_t role, uint8_t channel) UM_NONNULL;
 
 /* Opens the link of SAPI 0, at the mobile, as um_end_open does. */
-uint8_t um_side_open(um_side *side, const um_message *info, um_effects *effects) UM_NONNULL;
+UM_ENUM(um_answer) um_side_open(um_side *side, const um_message *info, um_effects *effects) UM_CALL;
 
 /* Opens the link of SAPI 3, at either side. */
-uint8_t um_side_open_bare(um_side *side, um_effects *effects) UM_NONNULL;
+UM_ENUM(um_answer) um_side_open_bare(um_side *side, um_effects *effects) UM_CALL;
 
 /* Sends a message of 1 to 251 octets over the open link of this SAPI. */
-uint8_t um_side_send(um_side *side, uint8_t sapi, const um_message *message, um_effects *effects) UM_NONNULL;
+UM_ENUM(um_answer) um_side_send(um_side *side, uint8_t sapi, const um_message *message, um_effects *effects) UM_CALL;
 
 /* Sends 1 to 20 octets (18 on SACCH) in one UI frame of this SAPI, unacknowledged, in any state. */
-uint8_t um_side_unit(const um_side *side, uint8_t sapi, const um_message *message, um_effects *effects) UM_NONNULL;
+UM_ENUM(um_answer) um_side_unit(const um_side *side, uint8_t sapi, const um_message *message, um_effects *effects) UM_CALL;
 
 /* Releases the link of this SAPI. Messages not acknowledged are discarded. */
-uint8_t um_side_close(um_side *side, uint8_t sapi, um_effects *effects) UM_NONNULL;
+UM_ENUM(um_answer) um_side_close(um_side *side, uint8_t sapi, um_effects *effects) UM_CALL;
 
 /* T200 of the link of this SAPI has expired. */
-uint8_t um_side_timer(um_side *side, uint8_t sapi, um_effects *effects) UM_NONNULL;
+UM_ENUM(um_answer) um_side_timer(um_side *side, uint8_t sapi, um_effects *effects) UM_CALL;
 
 /* Writes the fill frame, for a block in which nothing else is to be sent. */
-uint8_t um_side_idle(const um_side *side, um_effects *effects) UM_NONNULL;
+UM_ENUM(um_answer) um_side_idle(const um_side *side, um_effects *effects) UM_CALL;
 
 /* Processes a received block at the endpoint of its SAPI, and writes that SAPI, 0 or 3, to *sapi. A frame of another SAPI is ignored:
  * *sapi is then 0, and the effects are empty. UM_END_NO_FRAME: the octets are not a frame. */
-uint8_t um_side_take(um_side *side, const uint8_t octets[23], uint8_t *sapi, um_effects *effects) UM_NONNULL;
+UM_ENUM(um_answer) um_side_take(um_side *side, const uint8_t octets[23], uint8_t *sapi, um_effects *effects) UM_CALL;
 
 #ifdef __cplusplus
 }

@@ -17,7 +17,7 @@
  *     I frame is. A frame with F = 1 answers a poll and stays.
  *
  * To the peer, a frame dropped from the queue looks like a block lost on the air. Times are in TDMA frames of 60/13 ms. */
-#include "um.h"
+#include "um_more.h"
 #include <stdio.h>
 #include <string.h>
 
@@ -69,9 +69,8 @@ static bool is_outdated(const um_frame *old, const um_frame *later)
 
 static um_frame frame_of(const channel *c, const uint8_t block[23])
 {
-	um_frame f = { .kind = UM_UI };
-	um_read_frame(block, c->ends[0].channel, &f);
-	return f;
+	um_frame f;
+	return um_read_frame(block, c->ends[0].channel, &f) == UM_FRAME ? f : (um_frame){ .kind = UM_UI };
 }
 
 static void drop(channel *c, int link, int at)
@@ -123,7 +122,8 @@ static uint8_t channel_take(channel *c, const uint8_t block[23])
 	memcpy(heard, block, 23);
 	if (f.kind == UM_REJ) {
 		f.kind = UM_RR;
-		um_write_frame(&f, c->ends[0].channel, heard);
+		if (!um_write_frame(&f, c->ends[0].channel, heard))
+			return UM_END_NO_FRAME;
 	}
 	bool fill = f.kind == UM_UI && f.count == 0;
 	for (int link = 0; link < LINKS; link++) {
@@ -173,8 +173,7 @@ static void channel_timers(channel *c, long now)
 
 static void say(channel *c, int link, const um_notice *n)
 {
-	static const char *const kinds[] = { "", "opened", "got", "unit", "acked", "oversize", "closed" };
-	printf("%s SAPI %d: %s", (const char *)c->context, SAPIS[link], kinds[n->kind]);
+	printf("%s SAPI %d: %s", (const char *)c->context, SAPIS[link], um_notice_name(n->kind));
 	if (n->kind == UM_GOT)
 		printf(" %d octets", n->message.count);
 	putchar('\n');
@@ -198,8 +197,8 @@ int main(void)
 
 	channel_new(&mobile, UM_MOBILE, UM_SDCCH, 204, say, "mobile");
 	channel_new(&network, UM_NETWORK, UM_SDCCH, 204, say, "network");
-	um_end_open(&mobile.ends[0], &info, &done);
-	channel_done(&mobile, 0, &done);
+	if (um_end_open(&mobile.ends[0], &info, &done) == UM_END_DONE)
+		channel_done(&mobile, 0, &done);
 	for (int place = 0; place < 80; place++) {
 		long now = place * mobile.block;
 		channel *sides[2] = { &mobile, &network };
