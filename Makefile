@@ -90,6 +90,10 @@ ifneq ($(and $(PYTHON),$(MODULE)),)
 	install -m 644 $(MODULE) "$(D)$(PYTHON)/um/"
 	ln -srf "$(D)$(LIBDIR)/libum.so.0" "$(D)$(PYTHON)/um/libum.so.0"
 endif
+ifeq ($(D),)
+	@PATH=$$PATH:/usr/sbin:/sbin; ldconfig 2>/dev/null; ldconfig -p 2>/dev/null | grep -qF ' $(LIBDIR)/libum.so.0' || \
+	  echo "make install: programs do not find $(LIBDIR)/libum.so.0 yet: run ldconfig as root, or set LD_LIBRARY_PATH=$(LIBDIR)"
+endif
 
 ## make uninstall  removes what make install installed, with the same PREFIX, LIBDIR and DESTDIR
 uninstall:
@@ -100,7 +104,7 @@ uninstall:
 	rm -rf "$(D)$(LIBDIR)/cmake/um" $(if $(PYTHON),"$(D)$(PYTHON)/um")
 	-rmdir "$(D)$(LIBEXEC)" 2>/dev/null
 
-## make packages   builds Debian packages for amd64 and arm64 and the source archive in out/packages
+## make packages   builds Debian packages in out/packages/amd64 and out/packages/arm64, and the source archive in out/packages
 packages:
 	packaging/packages out/packages
 
