@@ -45,7 +45,7 @@ crate:
 ## make preload    builds libum_osmo.so, libosmocoding's control channel calls by um for programs already built, in out/ARCH-linux
 preload:
 	@test -n "$(ARCHCC)" || { echo "make preload: no C compiler for $(ARCH) here" >&2; exit 1; }
-	install -d $(dir $(PRELOAD))
+	mkdir -p $(dir $(PRELOAD))
 	$(ARCHCC) -std=c11 -O2 -s -Wall -Wextra -fPIC -shared -Ibindings/c -Wl,-soname,libum_osmo.so \
 	  -Wl,--version-script=bindings/c/libum_osmo.map bindings/c/libum_osmo.c $(FROM)/libum.a -o $(PRELOAD)
 
@@ -67,8 +67,7 @@ install:
 	ln -sf libum.so.$(VERSION) "$(D)$(LIBDIR)/libum.so.0"
 	ln -sf libum.so.0 "$(D)$(LIBDIR)/libum.so"
 ifneq ($(ARCHCC),)
-	$(MAKE) preload
-	install -m 644 $(PRELOAD) "$(D)$(LIBDIR)/libum_osmo.so"
+	@object=$$(mktemp) && $(MAKE) preload PRELOAD=$$object && install -m 644 $$object "$(D)$(LIBDIR)/libum_osmo.so"; status=$$?; rm -f $$object; exit $$status
 else
 	@echo "make install: no C compiler for $(ARCH), so libum_osmo.so is not built and not installed"
 endif
