@@ -45,7 +45,7 @@ crate:
 ## make preload    builds libum_osmo.so, libosmocoding's control channel calls by um for programs already built, in out/ARCH-linux
 preload:
 	@test -n "$(ARCHCC)" || { echo "make preload: no C compiler for $(ARCH) here" >&2; exit 1; }
-	install -d $(dir $(PRELOAD))
+	mkdir -p $(dir $(PRELOAD))
 	$(ARCHCC) -std=c11 -O2 -s -Wall -Wextra -fPIC -shared -Ibindings/c -Wl,-soname,libum_osmo.so \
 	  -Wl,--version-script=bindings/c/libum_osmo.map bindings/c/libum_osmo.c $(FROM)/libum.a -o $(PRELOAD)
 
@@ -67,8 +67,7 @@ install:
 	ln -sf libum.so.$(VERSION) "$(D)$(LIBDIR)/libum.so.0"
 	ln -sf libum.so.0 "$(D)$(LIBDIR)/libum.so"
 ifneq ($(ARCHCC),)
-	$(MAKE) preload
-	install -m 644 $(PRELOAD) "$(D)$(LIBDIR)/libum_osmo.so"
+	@object=$$(mktemp) && $(MAKE) preload PRELOAD=$$object && install -m 644 $$object "$(D)$(LIBDIR)/libum_osmo.so"; status=$$?; rm -f $$object; exit $$status
 else
 	@echo "make install: no C compiler for $(ARCH), so libum_osmo.so is not built and not installed"
 endif
@@ -90,6 +89,10 @@ ifneq ($(and $(PYTHON),$(MODULE)),)
 	install -m 644 $(MODULE) "$(D)$(PYTHON)/um/"
 	ln -srf "$(D)$(LIBDIR)/libum.so.0" "$(D)$(PYTHON)/um/libum.so.0"
 endif
+ifeq ($(D),)
+	@PATH=$$PATH:/usr/sbin:/sbin; ldconfig 2>/dev/null; ldconfig -p 2>/dev/null | grep -qF ' $(LIBDIR)/libum.so.0' || \
+	  echo "make install: programs do not find $(LIBDIR)/libum.so.0 yet: run ldconfig as root, or set LD_LIBRARY_PATH=$(LIBDIR)"
+endif
 
 ## make uninstall  removes what make install installed, with the same PREFIX, LIBDIR and DESTDIR
 uninstall:
@@ -100,7 +103,7 @@ uninstall:
 	rm -rf "$(D)$(LIBDIR)/cmake/um" $(if $(PYTHON),"$(D)$(PYTHON)/um")
 	-rmdir "$(D)$(LIBEXEC)" 2>/dev/null
 
-## make packages   builds Debian packages for amd64 and arm64 and the source archive in out/packages
+## make packages   builds Debian packages in out/packages/amd64 and out/packages/arm64, and the source archive in out/packages
 packages:
 	packaging/packages out/packages
 

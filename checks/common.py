@@ -28,8 +28,8 @@ def needs(*tools):
 def lack_of_program():
     """Why ./um starts no program here, or nothing."""
     done = subprocess.run([os.path.join(TOP, "um"), "make", "1", "0"], stdin=subprocess.DEVNULL, capture_output=True, text=True, check=False)
-    said = done.stderr.strip().removeprefix("um: ").split(": ")[0]
-    return f"no program for this machine: {said}" if done.returncode == 127 else ""
+    said = done.stderr.strip().removeprefix("um: ").split(", ")[0].split(": ")[0]
+    return f"no program here: {said}" if done.returncode == 127 else ""
 
 
 def needs_program():

@@ -85,7 +85,8 @@ has_program() {
   status=$?
   [ "$status" -eq 127 ] || return 0
   said=${said#um: }
-  skip "$1" "no program for this machine: ${said%%: *}"
+  said=${said%%, *}
+  skip "$1" "no program here: ${said%%: *}"
   return 1
 }
 

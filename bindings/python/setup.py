@@ -9,6 +9,13 @@ import pathlib
 import platform
 import shutil
 
+import setuptools
+
+if int(setuptools.__version__.split(".")[0]) < 61:
+    raise SystemExit(
+        f"um: setuptools is {setuptools.__version__}; expected 61 or later, which reads pyproject.toml. Without --no-build-isolation pip "
+        f"fetches one; without a network set PYTHONPATH=bindings/python, which needs no installation.")
+
 from setuptools import Distribution, Extension, setup
 from setuptools.command.build_py import build_py
 

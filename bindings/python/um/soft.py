@@ -162,7 +162,7 @@ def _scaled(name: str, value: Any, factor: float) -> int:
         real = float(value) * factor
     except OverflowError:
         # beyond the largest float: the sign alone matters
-        real = math.inf if (int(value) > 0) == (factor > 0) else -math.inf
+        real = -math.inf if (value < 0) == (factor > 0) else math.inf
     if real != real:
         raise ValueError(f"{name}: NaN; expected a number")
     return round(max(-127.0, min(127.0, real)))
