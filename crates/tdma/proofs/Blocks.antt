@@ -108,7 +108,7 @@ alone_in_slot c d t f row h among carried =
     let rows = both_true (repeats row) (ltb row.first row.repeat_length && ltb row.bursts 5) (row_is_row c d row h there) in
     let since : frames_since row (f % 102) ≡ frames_since row f = same_since row (f % 102) f rows.0 (omega arith) in
     let carried' : carries 1 row (f % 102) ≡ true =
-        ap (λ n. eqb (n % 1) 0 && ltb (n / 1) row.bursts) since ∙ carried in
+    ap (λ n. eqb (n % 1) 0 && ltb (n / 1) row.bursts) since ∙ carried in
     position_at_remainder c d t f h
     ∙ alone_at c d row (f % 102) h there (omega arith) carried'
     ∙ ap (λ n. Some (let p : Position = record { channel = row.channel; subchannel = row.subchannel; burst = n / 1 } in p)) since
@@ -137,14 +137,14 @@ since_first : (r start n b : ℕ) → (r ≡ 51) ⊎ (r ≡ 102) → start < r �
     ((((start + r * n) % HYPERFRAME + b) % HYPERFRAME) % r + r - start) % r ≡ b
 since_first r start n b (inl h) within lt = rw h (since_first_51 start n b (omega arith) lt)
   where
-  since_first_51 : (start n b : ℕ) → start < 51 → b < 4 →
-      ((((start + 51 * n) % HYPERFRAME + b) % HYPERFRAME) % 51 + 51 - start) % 51 ≡ b
-  since_first_51 start n b within lt = omega arith
+    since_first_51 : (start n b : ℕ) → start < 51 → b < 4 →
+        ((((start + 51 * n) % HYPERFRAME + b) % HYPERFRAME) % 51 + 51 - start) % 51 ≡ b
+    since_first_51 start n b within lt = omega arith
 since_first r start n b (inr h) within lt = rw h (since_first_102 start n b (omega arith) lt)
   where
-  since_first_102 : (start n b : ℕ) → start < 102 → b < 4 →
-      ((((start + 102 * n) % HYPERFRAME + b) % HYPERFRAME) % 102 + 102 - start) % 102 ≡ b
-  since_first_102 start n b within lt = omega arith
+    since_first_102 : (start n b : ℕ) → start < 102 → b < 4 →
+        ((((start + 102 * n) % HYPERFRAME + b) % HYPERFRAME) % 102 + 102 - start) % 102 ≡ b
+    since_first_102 start n b within lt = omega arith
 
 since_first_104 : (start n b : ℕ) → start < 104 → b < 4 →
     ((((start + 104 * n) % HYPERFRAME + 26 * b) % HYPERFRAME) % 104 + 104 - start) % 104 ≡ 26 * b
@@ -185,8 +185,8 @@ placed_in_slot c d t n b row h among lt =
     let f : ℕ = (first + 1 * b) % HYPERFRAME in
     let plain : (first + b) % HYPERFRAME ≡ f = omega arith in
     let since : frames_since row f ≡ b =
-        sym (ap (frames_since row) plain)
-        ∙ since_first row.repeat_length row.first n b length ((Decides-ltb row.first row.repeat_length).0 two.0) four in
+    sym (ap (frames_since row) plain)
+    ∙ since_first row.repeat_length row.first n b length ((Decides-ltb row.first row.repeat_length).0 two.0) four in
     let burst : frames_since row f / 1 ≡ b = omega arith in
     let whole : frames_since row f % 1 ≡ 0 = omega arith in
     let under : first < HYPERFRAME = omega arith in

@@ -2,9 +2,10 @@
 use Rattle.bit_blocks.proofs.Lemmas.{both_true}
 use Rattle.std.proofs.Common.{Bool, List, Option, [], ap, arith, eqb, refl, sym, true}
 use Rattle.std.proofs.Common.{ℕ, inl, inr, ◌%◌, ◌&&◌, ◌+◌, ◌-◌, ◌<◌, ◌∙◌, ◌≡◌, ◌≢◌, ◌⊎◌, ◌∷◌}
-use Rattle.std.proofs.Common.{◌||◌}
-use Rattle.std.proofs.lemmas.Bool.Decides.{Decides-eqb, Decides-or}
-use Rattle.tdma.specs.Channels.{Mapping, frames_since, mappings, position_among, position_of}
+use Rattle.std.proofs.Common.{Some, leb, ◌||◌}
+use Rattle.std.specs.List.{list_all}
+use Rattle.std.proofs.lemmas.Bool.Decides.{nat_tests, Decides-eqb, Decides-or}
+use Rattle.tdma.specs.Channels.{burst_spacing, Mapping, frames_since, mappings, position_among, position_of}
 use Rattle.tdma.specs.declared.TheConstants.{HYPERFRAME}
 use Rattle.tdma.specs.declared.channels.Combination.{Combination}
 use Rattle.tdma.specs.declared.channels.Combination.TheVariants.{BcchCcch, BcchCcchSdcch4, Sdcch8, TchF}
@@ -87,3 +88,25 @@ pub no_block_begins : (c : Combination) (d : Direction) (timeslot : ℕ) (p : Op
 no_block_begins c d timeslot p frame none f begins =
     let near = within_cycle c frame f in
     none near.0 near.1 (sym (same_in_cycle c d timeslot f ((frame + near.0) % HYPERFRAME) near.2) ∙ begins)
+
+-- ## Few: a block has at most four bursts.
+
+few_among : (spacing : ℕ) (ms : List Mapping) (f : ℕ) (p : Position) → list_all (λ m. leb m.bursts 4) ms ≡ true →
+    position_among spacing ms f ≡ Some p → p.burst < 4
+few_among spacing (m ∷ ms) f p h found =
+    let both = both_true (leb m.bursts 4) (list_all (λ m. leb m.bursts 4) ms) h in
+    let rest : position_among spacing ms f ≡ Some p → p.burst < 4 = few_among spacing ms f p both.1 in
+    grind (arith, nat_tests, both.0)
+few_among spacing [] f p h found = absurd cc
+
+few_rows : (c : Combination) (d : Direction) (t : ℕ) → list_all (λ m. leb m.bursts 4) (mappings c d t) ≡ true
+few_rows BcchCcch Downlink t = refl
+few_rows BcchCcch Uplink t = refl
+few_rows BcchCcchSdcch4 Downlink t = refl
+few_rows BcchCcchSdcch4 Uplink t = refl
+few_rows Sdcch8 Downlink t = refl
+few_rows Sdcch8 Uplink t = refl
+few_rows TchF d t = refl
+
+pub burst_below_4 : (c : Combination) (d : Direction) (timeslot f : ℕ) (p : Position) → position_of c d timeslot f ≡ Some p → p.burst < 4
+burst_below_4 c d t f p found = few_among (burst_spacing c) (mappings c d t) f p (few_rows c d t) found

@@ -1,5 +1,5 @@
 //! The place of a frame in the blocks of its time slot, for every frame of the hyperframe.
-ghost use Rattle.std.specs.Prelude.{◌≡◌, ◌<◌, ℕ, MatchOption};
+ghost use Rattle.std.specs.Prelude.{◌≡◌, ◌<◌, ℕ, IfSome, MatchOption};
 ghost use Rattle.tdma.specs.Channels.{place_of, position_of, IsNextBlock, BeginsBlock};
 
 use crate::HYPERFRAME;
@@ -23,7 +23,8 @@ pub fn place_of_frame(
 ) -> Option<Place>
     requires timeslot { timeslot < 8 }
     requires within { frame < HYPERFRAME }
-    ensures { result ≡ place_of combination direction timeslot frame }
+    ensures place { result ≡ place_of combination direction timeslot frame }
+    ensures burst { IfSome result (λ place. place.position.burst < 4) }
 {
     let position = position_of_frame(combination, direction, timeslot, frame)?;
     let back = match combination {
