@@ -48,6 +48,20 @@ settings_if_valid s c d valid = None
 abbrev pub settings_of : Slot → Option Settings
 settings_of s = settings_if_valid s (combination_of s.combination) (direction_of s.direction) (has_valid_numbers s)
 
+-- a receiver that has taken no frame
+abbrev pub new_slot : (combination direction timeslot words erasures : ℕ) → Slot
+new_slot c d timeslot words erasures = record {
+  last = HYPERFRAME;
+  first = HYPERFRAME;
+  combination = c;
+  direction = d;
+  timeslot = timeslot;
+  words = words;
+  erasures = erasures;
+  heard = 0;
+  bursts = replicate 4 (replicate 148 (pos 0));
+}
+
 -- ## Refusals
 
 -- how many frames a frame is after another, modulo a hyperframe

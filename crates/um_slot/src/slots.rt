@@ -1,8 +1,9 @@
 //! The state of a receiver of one time slot, as plain data.
-ghost use Rattle.std.specs.Prelude.{◌≤◌, pos, replicate};
-ghost use Rattle.um_slot.specs.Slots.{Takes};
+ghost use Rattle.std.specs.Prelude.{◌≤◌, IsSome, SomeIff, pos, replicate};
+ghost use Rattle.um_slot.specs.Slots.{Takes, new_slot, settings_of};
 
 use burst_map::BURST_BITS;
+use tdma::HYPERFRAME;
 
 /// A receiver of one time slot. A caller may copy it, or save and restore it; each call tests it.
 #[repr(C)]
@@ -50,6 +51,34 @@ pub enum Refusal {
 }
 
 impl Slot {
+    /// Returns a receiver that has taken no frame, or `None` if a number is out of range. `words` is 1 to 64, `erasures` 0 to 4.
+    pub fn new(
+        combination: u8,
+        direction: u8,
+        timeslot: u8,
+        words: u8,
+        erasures: u8,
+    ) -> Option<Slot>
+        ensures { let slot = new_slot combination direction timeslot words erasures in SomeIff result (IsSome (settings_of slot)) slot }
+    {
+        let slot = Slot {
+            last: HYPERFRAME,
+            first: HYPERFRAME,
+            combination,
+            direction,
+            timeslot,
+            words,
+            erasures,
+            heard: 0,
+            bursts: [[0; BURST_BITS]; 4],
+        };
+        if slot.settings().is_some() {
+            Some(slot)
+        } else {
+            None
+        }
+    }
+
     /// Takes the burst of a frame. If this completes a block, or shows that no more bursts of a block will come, returns the block, and
     /// writes its bursts to `done`.
     pub fn take(
