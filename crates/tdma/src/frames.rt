@@ -4,7 +4,8 @@ ghost use Rattle.tdma.specs.Frames.{time_of, IsFrameAt};
 
 use crate::HYPERFRAME;
 
-/// A frame number as T1, T2 and T3.
+/// A frame number as T1, T2 and T3, with the memory layout of C.
+#[repr(C)]
 #[derive(Clone, Copy, PartialEq, Eq, Debug)]
 pub struct FrameTime {
     /// The number of the superframe, 0 to 2047.

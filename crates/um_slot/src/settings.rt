@@ -41,6 +41,7 @@ impl Slot {
     pub fn settings(&self) -> Option<Settings>
         ensures value { result ≡ settings_of self.now }
         ensures timeslot { IsSome result → self.now.timeslot < 8 }
+        ensures decoding { IsSome result → (1 ≤ self.now.words) × (self.now.words ≤ 64) × (self.now.erasures ≤ 4) }
     {
         let combination = combination_of(self.combination)?;
         let direction = direction_of(self.direction)?;

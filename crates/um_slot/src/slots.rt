@@ -1,5 +1,5 @@
 //! The state of a receiver of one time slot, as plain data.
-ghost use Rattle.std.specs.Prelude.{◌≤◌, IsSome, SomeIff, pos, replicate};
+ghost use Rattle.std.specs.Prelude.{◌≤◌, IsOk, IsSome, SomeIff, pos, replicate};
 ghost use Rattle.um_slot.specs.Slots.{Takes, new_slot, settings_of};
 
 use burst_map::BURST_BITS;
@@ -87,7 +87,8 @@ impl Slot {
         burst: &[i8; BURST_BITS],
         done: &mut [[i8; BURST_BITS]; 4],
     ) -> Result<Option<FinishedBlock>, Refusal>
-        ensures { Takes self.old frame 1 burst.now done.old result self.new done.new }
+        ensures takes { Takes self.old frame 1 burst.now done.old result self.new done.new }
+        ensures valid { IsOk result → (1 ≤ self.old.words) × (self.old.words ≤ 64) × (self.old.erasures ≤ 4) }
     {
         self.take_burst(frame, burst, 1, done)
     }
@@ -98,7 +99,8 @@ impl Slot {
         frame: u32,
         done: &mut [[i8; BURST_BITS]; 4],
     ) -> Result<Option<FinishedBlock>, Refusal>
-        ensures { Takes self.old frame 0 (replicate BURST_BITS (pos 0)) done.old result self.new done.new }
+        ensures takes { Takes self.old frame 0 (replicate BURST_BITS (pos 0)) done.old result self.new done.new }
+        ensures valid { IsOk result → (1 ≤ self.old.words) × (self.old.words ≤ 64) × (self.old.erasures ≤ 4) }
     {
         self.take_burst(frame, &[0; BURST_BITS], 0, done)
     }
@@ -111,7 +113,8 @@ impl Slot {
         done: &mut [[i8; BURST_BITS]; 4],
     ) -> Result<Option<FinishedBlock>, Refusal>
         requires { came ≤ 1 }
-        ensures { Takes self.old frame came burst.now done.old result self.new done.new }
+        ensures takes { Takes self.old frame came burst.now done.old result self.new done.new }
+        ensures valid { IsOk result → (1 ≤ self.old.words) × (self.old.words ≤ 64) × (self.old.erasures ≤ 4) }
     {
         let settings = match self.settings() {
             Some(settings) => settings,
