@@ -31,7 +31,8 @@ same_remainder r f g (inr h) same = rw h same
 
 pub same_since : (m : Mapping) (f g : ℕ) → repeats m ≡ true → f % 102 ≡ g % 102 → frames_since m f ≡ frames_since m g
 same_since m f g h same =
-    let r = (Decides-or (eqb m.repeat_length 51) (eqb m.repeat_length 102) (Decides-eqb m.repeat_length 51) (Decides-eqb m.repeat_length 102)).0 h in
+    let r = (Decides-or (eqb m.repeat_length 51) (eqb m.repeat_length 102) (Decides-eqb m.repeat_length 51)
+    (Decides-eqb m.repeat_length 102)).0 h in
     let e = same_remainder m.repeat_length f g r same in
     ap (λ n. (n + m.repeat_length - m.first) % m.repeat_length) e
 

@@ -145,7 +145,8 @@ same_info info other a b c x h g =
 -- what is read from the bits of a frame
 pub reading_some : (info : SchInfo) (bits : List ℕ) (a b c x : ℕ) → AreSyncBits bits a b c x → HasFields info a b c x →
     HasSch info → (other : SchInfo) → HasSch other → sch_bits other ≡ bits → info ≡ other
-reading_some info bits a b c x are fields has other has' same = same_info info other a b c x fields (fields_of_bits other bits a b c x are has' same)
+reading_some info bits a b c x are fields has other has' same =
+    same_info info other a b c x fields (fields_of_bits other bits a b c x are has' same)
 
 pub reading_none : (bits : List ℕ) (a b c x : ℕ) → AreSyncBits bits a b c x →
     ((frame : ℕ) → ¬ IsFrameAt (record { t1 = a % 4 * 512 + b * 2 + c / 128; t2 = c / 4 % 32; t3 = 10 * (c % 4 * 2 + x) + 1 }) frame) →

@@ -24,7 +24,8 @@ channel_number Sch = 5
 channel_number Rach = 6
 
 abbrev channel_at : ℕ → Channel
-channel_at n = cond (eqb n 0) Sdcch (cond (eqb n 1) Sacch (cond (eqb n 2) Bcch (cond (eqb n 3) Ccch (cond (eqb n 4) Fcch (cond (eqb n 5) Sch Rach)))))
+channel_at n =
+    cond (eqb n 0) Sdcch (cond (eqb n 1) Sacch (cond (eqb n 2) Bcch (cond (eqb n 3) Ccch (cond (eqb n 4) Fcch (cond (eqb n 5) Sch Rach)))))
 
 channel_at-number : (c : Channel) → channel_at (channel_number c) ≡ c
 channel_at-number Sdcch = refl
@@ -82,7 +83,8 @@ every_vii_is_turned = cc
 pub iv_uplink : (n : ℕ) → n < 102 → position_of BcchCcch Uplink 0 n ≡ uplink_after true (position_of BcchCcch Downlink 0 ((n + 87) % 102))
 iv_uplink n h = same_positions _ _ (at_passes_below (is_turned BcchCcch true) 102 every_iv_is_turned n h)
 
-pub v_uplink : (n : ℕ) → n < 102 → position_of BcchCcchSdcch4 Uplink 0 n ≡ uplink_after true (position_of BcchCcchSdcch4 Downlink 0 ((n + 87) % 102))
+pub v_uplink : (n : ℕ) → n < 102 →
+    position_of BcchCcchSdcch4 Uplink 0 n ≡ uplink_after true (position_of BcchCcchSdcch4 Downlink 0 ((n + 87) % 102))
 v_uplink n h = same_positions _ _ (at_passes_below (is_turned BcchCcchSdcch4 true) 102 every_v_is_turned n h)
 
 pub vii_uplink : (n : ℕ) → n < 102 → position_of Sdcch8 Uplink 0 n ≡ uplink_after false (position_of Sdcch8 Downlink 0 ((n + 87) % 102))

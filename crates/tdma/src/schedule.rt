@@ -142,8 +142,8 @@ fn burst_of(channel: Channel, subchannel: u8, burst: u8) -> Option<Position>
     })
 }
 
-/// Returns what a frame of the 104 frames of a traffic channel carries of its SACCH, whose four bursts come 26 frames apart, and in each time
-/// slot 13 frames later than in the one before.
+/// Returns what a frame of the 104 frames of a traffic channel carries of its SACCH, whose four bursts come 26 frames apart, and in each
+/// time slot 13 frames later than in the one before.
 pub(crate) fn traffic_position(timeslot: u8, frame: u8) -> Option<Position>
     requires timeslot { timeslot < 8 }
     requires within { frame < 104 }

@@ -4,7 +4,8 @@ use Rattle.std.specs.Prelude.{IsSome, MatchOption}
 use Rattle.um_among.specs.declared.reports.ListDecodedBlock.{ListDecodedBlock}
 use Rattle.um_among.specs.ListDecoding.{IsListDecodedBlock}
 use Rattle.um_among.proofs.Lemmas.{one_block_among}
-use Rattle.um_erasing.specs.Erasing.{IsErasingDecodedBlock, IsErasingSearch, IsFoundOrFirst, index_of_greatest, without_burst, wrong_training_of_bursts}
+use Rattle.um_erasing.specs.Erasing.{IsErasingDecodedBlock, IsErasingSearch, IsFoundOrFirst, index_of_greatest, without_burst}
+use Rattle.um_erasing.specs.Erasing.{wrong_training_of_bursts}
 use Rattle.um_erasing.specs.declared.blocks.ErasedBlock.{ErasedBlock}
 use Rattle.um_erasing.specs.declared.blocks.ErasingDecodedBlock.{ErasingDecodedBlock}
 
@@ -23,7 +24,8 @@ one_search bursts most (suc n) distrust a b h g =
     let P : Option ErasedBlock → Type 0 = IsErasingSearch bursts most n (set distrust index 0) in
     let Found : ListDecodedBlock → Type 0 =
     λ d. MatchOption d.report.accepted (P b) (λ _. b ≡ Some (record { block = d; erased = index })) in
-    one_choice P h.0.report.accepted a b (Some (record { block = h.0; erased = index })) (one_search bursts most n (set distrust index 0)) h.2
+    one_choice P h.0.report.accepted a b (Some (record { block = h.0; erased = index }))
+    (one_search bursts most n (set distrust index 0)) h.2
     (subst Found same g.2)
 
 one_found : (first : ListDecodedBlock) (found : Option ErasedBlock) (block block' : ListDecodedBlock) (erased erased' : Option ℕ) →
@@ -63,7 +65,8 @@ one_erasing bursts most erasures r r' h g =
     ((found : Option ErasedBlock) × IsErasingSearch bursts most erasures (map (λ x. x + 1) w) found
     × IsFoundOrFirst d found r'.block r'.erased)
     (λ _. (r'.block ≡ d) × (r'.erased ≡ None)) in
-    let choice : Choice h.first r.wrong_training = subst (λ w. Choice h.first w) wrong (subst (λ d. Choice d r'.wrong_training) first g.choice) in
+    let choice : Choice h.first r.wrong_training =
+    subst (λ w. Choice h.first w) wrong (subst (λ d. Choice d r'.wrong_training) first g.choice) in
     let same = one_block bursts most erasures h.first r.wrong_training h.first.report.accepted r.block r'.block r.erased r'.erased h.choice
     choice in
     same_decoded r.block r'.block r.erased r'.erased r.wrong_training r'.wrong_training same.0 same.1 (sym wrong)
@@ -143,7 +146,8 @@ first_accepted bursts most erasures first wrong decoded counted accepted = recor
       ((first ≡ first) × (let none : Option ℕ = None in none ≡ None)) accepted (refl, refl);
 }
 
-pub searched : (bursts : List (List ℤ)) (most erasures : ℕ) (first : ListDecodedBlock) (wrong distrust : List ℕ) (found : Option ErasedBlock)
+pub searched : (bursts : List (List ℤ)) (most erasures : ℕ) (first : ListDecodedBlock) (wrong distrust : List ℕ)
+    (found : Option ErasedBlock)
     (block : ListDecodedBlock) (erased : Option ℕ) →
     IsListDecodedBlock bursts most first → wrong ≡ wrong_training_of_bursts bursts first.report.tsc → ¬ IsSome first.report.accepted →
     distrust ≡ map (λ w. w + 1) wrong → IsErasingSearch bursts most erasures distrust found →

@@ -1,5 +1,5 @@
 //! Receives a block with a list decoder, and again without single bursts.
-ghost use Rattle.std.specs.Prelude.{◌≡◌, ◌<◌, ◌≤◌, ◌+◌, All, IsNone, IsSome, length, map, None, Option, Some};
+ghost use Rattle.std.specs.Prelude.{◌≡◌, ◌<◌, ◌≤◌, ◌+◌, All, IfSome, map, None};
 ghost use Rattle.um_block.specs.bit_blocks.SoftValues.{AllSoftBits};
 ghost use Rattle.um_block.specs.conv_code.Code.{IsEncoderInput};
 ghost use Rattle.um_block.specs.interleave.Bursts.{IsInterleaved};
@@ -31,8 +31,8 @@ pub(crate) struct ErasedBlock {
     pub(crate) erased: u8,
 }
 
-/// Receives the four bursts of a block as `receive_block_among` does. If the CRC of no word holds, erases at most `erasures` bursts (0 to 4)
-/// in turn, the burst with the most wrong training bits first, until the CRC of a word holds.
+/// Receives the four bursts of a block as `receive_block_among` does. If the CRC of no word holds, erases at most `erasures` bursts (0 to
+/// 4) in turn, the burst with the most wrong training bits first, until the CRC of a word holds.
 pub fn receive_block_erasing(
     bursts: &[[i8; BURST_BITS]; 4],
     max_rank: u32,
@@ -62,7 +62,9 @@ pub fn receive_deinterleaved_erasing(
     requires at_least { 1 ≤ max_rank }
     requires at_most { max_rank ≤ MAX_RANK }
     requires erasures { erasures ≤ 4 }
-    ensures { IsErasingDecodedBlock bursts.now max_rank erasures result }
+    ensures received { IsErasingDecodedBlock bursts.now max_rank erasures result }
+    ensures information { IsEncoderInput result.block.report.u }
+    ensures erased { IfSome result.erased (λ index. index < 4) }
 {
     let first = receive_deinterleaved_among(bursts, soft, max_rank);
     let wrong_training = wrong_training_of_bursts(bursts, first.report.tsc);
@@ -98,7 +100,9 @@ fn search(
     requires soft { All AllSoftBits bursts.now }
     requires at_least { 1 ≤ max_rank }
     requires at_most { max_rank ≤ MAX_RANK }
-    ensures { IsErasingSearch bursts.now max_rank count distrust result }
+    ensures found { IsErasingSearch bursts.now max_rank count distrust result }
+    ensures information { IfSome result (λ found. IsEncoderInput found.block.report.u) }
+    ensures erased { IfSome result (λ found. found.erased < 4) }
 {
     if count == 0 {
         return None;

@@ -20,6 +20,18 @@ combination_of number =
 abbrev pub direction_of : (number : ℕ) → Option Direction
 direction_of number = if number == 0 then Some Downlink else if number == 1 then Some Uplink else None
 
+-- the channel with this number
+abbrev pub channel_of : (number : ℕ) → Option Channel
+channel_of number =
+    if number == 0 then Some Sdcch
+    else if number == 1 then Some Sacch
+    else if number == 2 then Some Bcch
+    else if number == 3 then Some Ccch
+    else if number == 4 then Some Fcch
+    else if number == 5 then Some Sch
+    else if number == 6 then Some Rach
+    else None
+
 -- the number of a channel
 abbrev pub channel_number : Channel → ℕ
 channel_number Sdcch = 0

@@ -1,6 +1,6 @@
 -- A receiver of one time slot (this project's own): the bursts of each block are collected by their frame numbers, in ascending order.
-use Rattle.std.specs.Prelude.{ℕ, ◌≡◌, ◌+◌, ◌-◌, ◌%◌, ◌==◌, nat_lt, nat_le, min, if◌then◌else◌, Bool, true, false, not, ◌&&◌}
-use Rattle.std.specs.Prelude.{ℤ, pos, List, [], replicate, slice_set, Option, Some, None, Result, Ok, Err}
+use Rattle.std.specs.Prelude.{ℕ, ◌≡◌, ◌+◌, ◌-◌, ◌%◌, ◌==◌, nat_lt, nat_le, min, if◌then◌else◌, Bool, true, false, ◌&&◌}
+use Rattle.std.specs.Prelude.{ℤ, pos, negsuc, int_le, List, replicate, slice_set, Option, Some, None, Result, Ok, Err}
 use Rattle.tdma.specs.declared.TheConstants.{HYPERFRAME}
 use Rattle.tdma.specs.declared.channels.Combination.{Combination}
 use Rattle.tdma.specs.declared.channels.Direction.{Direction}
@@ -155,3 +155,9 @@ abbrev pub Takes : (old : Slot) (frame came : ℕ) (burst : List ℤ) (done_old 
     (answer : Result (Option FinishedBlock) Refusal) (new : Slot) (done_new : List (List ℤ)) → Type 0
 Takes old frame came burst done answer new done' =
     TakesWith (settings_of old) (frame_refusal old frame) old frame came burst done answer new done'
+
+-- ## Soft bits
+
+-- a value of a receiver's state as a soft bit: -128 counts as -127
+abbrev pub softened : ℤ → ℤ
+softened value = if int_le (negsuc 126) value then value else negsuc 126

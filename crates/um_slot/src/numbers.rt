@@ -1,6 +1,6 @@
 //! The numbers that stand for combinations, directions and channels in plain data.
 ghost use Rattle.std.specs.Prelude.{◌≡◌};
-ghost use Rattle.um_slot.specs.Numbers.{channel_number, combination_of, direction_of, is_channel_of_blocks};
+ghost use Rattle.um_slot.specs.Numbers.{channel_number, channel_of, combination_of, direction_of, is_channel_of_blocks};
 
 use tdma::{Channel, Combination, Direction};
 
@@ -24,6 +24,22 @@ pub fn direction_of(number: u8) -> Option<Direction>
     match number {
         0 => Some(Direction::Downlink),
         1 => Some(Direction::Uplink),
+        _ => None,
+    }
+}
+
+/// Returns the channel with this number, 0 to 6.
+pub fn channel_of(number: u8) -> Option<Channel>
+    ensures { result ≡ channel_of number }
+{
+    match number {
+        0 => Some(Channel::Sdcch),
+        1 => Some(Channel::Sacch),
+        2 => Some(Channel::Bcch),
+        3 => Some(Channel::Ccch),
+        4 => Some(Channel::Fcch),
+        5 => Some(Channel::Sch),
+        6 => Some(Channel::Rach),
         _ => None,
     }
 }

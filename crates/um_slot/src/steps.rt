@@ -51,9 +51,8 @@ impl Slot {
         place: &Option<Place>,
         done: &mut [[i8; BURST_BITS]; 4],
     ) -> Option<FinishedBlock>
-        ensures slot { self.new ≡ (end_collecting collecting.now place.now (record { slot = self.old; finished = None; done = done.old })).slot }
-        ensures finished { result ≡ (end_collecting collecting.now place.now (record { slot = self.old; finished = None; done = done.old })).finished }
-        ensures done { done.new ≡ (end_collecting collecting.now place.now (record { slot = self.old; finished = None; done = done.old })).done }
+        ensures { let step = end_collecting collecting.now place.now (record { slot = self.old; finished = None; done = done.old }) in
+            (self.new ≡ step.slot) × (result ≡ step.finished) × (done.new ≡ step.done) }
     {
         let Some(collected) = collecting else {
             return None;
