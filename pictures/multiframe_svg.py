@@ -7,7 +7,7 @@ import ctypes
 import sys
 
 ROWS = [("BCCH + CCCH", 0, 0), ("BCCH + CCCH + SDCCH/4", 1, 0), ("its uplink", 1, 1), ("SDCCH/8", 2, 0), ("its uplink", 2, 1)]
-NAMES = ["SDCCH", "SACCH", "BCCH", "CCCH", "F", "S", "RACH"]
+LETTERS = ["D", "A", "B", "C", "F", "S", ""]
 COLOURS = ["#9ecae1", "#fdd0a2", "#a1d99b", "#d9f0d3", "#cccccc", "#bcbddc", "#f4f4f4"]
 WIDTH, HEIGHT, LEFT, TOP = 15, 26, 170, 30
 
@@ -17,7 +17,7 @@ class Place(ctypes.Structure):
 
 
 def main():
-    library, out = ctypes.CDLL(sys.argv[1]), []
+    library, out, words = ctypes.CDLL(sys.argv[1]), [], []
     for half in range(2):
         top = TOP + half * (len(ROWS) + 2) * HEIGHT
         for frame in range(0, 51, 5):
@@ -32,13 +32,12 @@ def main():
                     continue
                 out.append('<rect x="%d" y="%d" width="%d" height="%d" fill="%s"/>' % (x, y, WIDTH, HEIGHT - 4, COLOURS[place.channel]))
                 if place.channel in (4, 5):
-                    out.append('<text class="c" x="%d" y="%d">%s</text>' % (x + WIDTH // 2, y + 15, NAMES[place.channel]))
-                elif place.channel < 4 and place.burst in (0, 2):
-                    word = NAMES[place.channel][0] if place.burst == 0 else str(place.subchannel)
-                    word = {"S": "D", "B": "B", "C": "C"}[word] if place.burst == 0 and place.channel != 1 else word if place.burst else "A"
-                    out.append('<text class="c" x="%d" y="%d">%s</text>' % (x + WIDTH, y + 15, word))
+                    words.append((x + WIDTH // 2, y + 15, LETTERS[place.channel]))
+                elif place.channel < 4 and place.burst == 1:
+                    words.append((x + WIDTH, y + 15, LETTERS[place.channel] + ("" if place.channel == 2 else str(place.subchannel))))
+    out += ['<text class="c" x="%d" y="%d">%s</text>' % word for word in words]
     width, height = LEFT + 51 * WIDTH + 4, TOP + 2 * (len(ROWS) + 2) * HEIGHT - 30
-    legend = "B BCCH   C CCCH   D SDCCH   A SACCH, with block or subchannel   F FCCH   S SCH   pale: RACH   hatched: idle"
+    legend = "F FCCH, S SCH, B BCCH, C CCCH (block), D SDCCH and A SACCH (subchannel); white: RACH; hatched: idle"
     print('<svg xmlns="http://www.w3.org/2000/svg" viewBox="0 0 %d %d" font-family="sans-serif" font-size="12">' % (width, height))
     print("<style>rect{stroke:#555;stroke-width:.5}.idle{fill:url(#h)}.c{text-anchor:middle;font-size:11px}.n{font-size:10px;fill:#555}</style>")
     print('<pattern id="h" width="4" height="4" patternUnits="userSpaceOnUse"><path d="M0 4L4 0" stroke="#999"/></pattern>')
