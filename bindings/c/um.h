@@ -70,6 +70,24 @@ bool um_receive_block(const int8_t bursts[4][148], um_block_report *report) UM_C
  * about one in 10^8 of the blocks that cannot be saved is accepted wrongly. False: a soft bit is -128, or most is 0 or above 64. */
 bool um_receive_block_among(const int8_t bursts[4][148], uint32_t most, um_block_report *report, uint32_t *rank) UM_CALL;
 
+typedef struct um_erasure {
+	uint8_t erased;            /* the burst that was set to zeros, 0 to 3, or 4: none */
+	uint8_t wrong_training[4]; /* bit errors in the 26 training bits of each burst as received, against the sequence detected in all four */
+} um_erasure;
+
+/* Decodes four normal bursts as um_receive_block_among does. If no word's CRC holds, erases bursts: decodes the block again with one
+ * burst set to zeros, for each of at most `erasures` bursts (0 to 4) in turn, the burst with the most wrong training bits first and of
+ * equal ones the earlier, until the CRC of a word holds. The report and the rank are those of um_receive_block_among for the bursts with
+ * that burst set to zeros; if no word's CRC holds, those for the bursts as received. With 0 erasures it is um_receive_block_among.
+ * False: a soft bit is -128, most is 0 or above 64, or erasures is above 4. */
+bool um_receive_block_erasing(const int8_t bursts[4][148], uint32_t most, uint8_t erasures, um_block_report *report, uint32_t *rank,
+	um_erasure *erasure) UM_CALL;
+
+/* Detects the training sequence of four normal bursts without decoding them, and counts the wrong training bits of each burst. Writes the
+ * training sequence, 0 to 7, that um_receive_block would report. The sum of the counts is its wrong_training: at most 20 in real bursts,
+ * at least 25 in noise (docs/RECEIVING.md). False: a soft bit is -128. */
+bool um_detect_training(const int8_t bursts[4][148], uint8_t *tsc, uint8_t wrong_training[4]) UM_CALL;
+
 typedef struct um_margin_report {
 	int32_t margin;    /* the word's metric minus the next word's; 0 if and only if another word has the same metric */
 	uint8_t word[228]; /* the most likely word, as um_receive_block reports it */
@@ -132,6 +150,130 @@ bool um_send_sync(const uint8_t info[25], uint8_t burst[148]) UM_CALL;
 
 /* Decodes a synchronisation burst. False: a soft bit is -128. */
 bool um_receive_sync(const int8_t burst[148], um_sync_report *report) UM_CALL;
+
+/* TDMA frames, SCH and channels (3GPP TS 45.002, 3.3.2, 4.3.3, 6.4 and 7; TS 44.018, 9.1.30). */
+
+#define UM_FRAMES 2715648 /* the frames of a hyperframe: frame numbers are 0 to UM_FRAMES - 1 */
+
+typedef struct um_time {
+	uint16_t t1; /* frame number / 1326: 0 to 2047 */
+	uint8_t t2;  /* frame number % 26 */
+	uint8_t t3;  /* frame number % 51 */
+} um_time;
+
+/* Splits a frame number into T1, T2 and T3. False: there is no such frame number. */
+bool um_time_of_frame(uint32_t frame, um_time *time) UM_CALL;
+
+/* Finds the frame number with this T1, T2 and T3. False: T1 is above 2047, T2 above 25 or T3 above 50. */
+bool um_frame_of_time(const um_time *time, uint32_t *frame) UM_CALL;
+
+typedef struct um_sch {
+	uint32_t frame; /* the frame number; its T3 is 1, 11, 21, 31 or 41 */
+	uint8_t bsic;   /* the base station identity code, 0 to 63: 8 * ncc + bcc */
+	uint8_t ncc;    /* the network colour code, 0 to 7 */
+	uint8_t bcc;    /* the base station colour code, 0 to 7: the training sequence of BCCH and CCCH */
+} um_sch;
+
+/* Reads the 25 data bits of a synchronisation burst (um_sync_report's info). False: an octet is neither 0 nor 1, or no frame number has
+ * these bits: T2 is above 25 or T3' above 4. */
+bool um_read_sch(const uint8_t info[25], um_sch *sch) UM_CALL;
+
+/* Writes the 25 data bits for um_send_sync. False: bsic is above 63, or the frame number does not exist or has no SCH. */
+bool um_write_sch(uint8_t bsic, uint32_t frame, uint8_t info[25]) UM_CALL;
+
+/* Writes an access burst's RA (the octet of CHANNEL REQUEST) as the eight data bits of um_send_access, least significant bit first. */
+void um_write_ra(uint8_t ra, uint8_t info[8]) UM_NONNULL;
+
+/* Reads RA from the data bits of um_access_report. False: an octet is neither 0 nor 1. */
+bool um_read_ra(const uint8_t info[8], uint8_t *ra) UM_CALL;
+
+/* Writes a BSIC as the six bits of um_send_access and um_receive_access, most significant bit first. False: bsic is above 63. */
+bool um_write_bsic(uint8_t bsic, uint8_t bits[6]) UM_CALL;
+
+/* Reads a BSIC from six bits. False: an octet is neither 0 nor 1. */
+bool um_read_bsic(const uint8_t bits[6], uint8_t *bsic) UM_CALL;
+
+/* The channels of a time slot. UM_TCH_F has only the SACCH of a full rate traffic channel. */
+enum um_combination {
+	UM_BCCH_CCCH,        /* FCCH, SCH, BCCH, CCCH; uplink RACH */
+	UM_BCCH_CCCH_SDCCH4, /* the same with SDCCH/4 and its SACCH */
+	UM_SDCCH8,           /* SDCCH/8 and its SACCH */
+	UM_TCH_F             /* SACCH of TCH/F; all other frames carry traffic or are idle */
+};
+enum um_direction { UM_DOWNLINK, UM_UPLINK };
+enum um_common_channel { UM_BCCH = 2, UM_CCCH, UM_FCCH, UM_SCH, UM_RACH }; /* numbered after um_channel, UM_SDCCH and UM_SACCH */
+
+typedef struct um_place {
+	uint32_t first;     /* the frame number of the block's first burst; for FCCH, SCH and RACH that of the burst */
+	uint8_t channel;    /* um_channel or um_common_channel */
+	uint8_t subchannel; /* of SDCCH and SACCH; for CCCH the number of the block in the multiframe, 0 to 8; else 0 */
+	uint8_t burst;      /* which burst of the block, 0 to 3; for FCCH, SCH and RACH 0 */
+} um_place;
+
+enum UM_OCTET um_placing {
+	UM_PLACED,   /* the place is written */
+	UM_UNPLACED, /* the frame has none of these channels: it is idle, or carries traffic */
+	UM_NO_PLACE  /* no such combination, direction, time slot (0 to 7) or frame number */
+};
+
+/* Finds the channel and the burst that a frame of a time slot carries. The time slot matters only for UM_TCH_F. Returns a um_placing. */
+UM_ENUM(um_placing) um_place_frame(uint8_t combination, uint8_t direction, uint8_t timeslot, uint32_t frame, um_place *place) UM_CALL;
+
+/* Finds the first frame number, at or after `frame`, of a block (or burst) of this channel and subchannel. False: the combination has no
+ * such channel in this direction, or there is no such combination, direction, time slot or frame number. */
+bool um_next_block(uint8_t combination, uint8_t direction, uint8_t timeslot, uint8_t channel, uint8_t subchannel, uint32_t frame,
+	uint32_t *first) UM_CALL;
+
+/* A receiver of one time slot: collects the bursts of each block by their frame numbers, and decodes the block.
+ *
+ * The bursts come in the order of their frame numbers, modulo a hyperframe. Frames may be left out: a burst that never came is zeros. A
+ * block is decoded with its fourth burst, or with the first later frame if that burst never came; um_slot_miss with a later frame ends the
+ * last one. A block of which no frame was taken or missed is not reported. Bursts of FCCH, SCH, RACH and idle frames are ignored, but
+ * keep the order.
+ *
+ * The state is plain numbers and arrays: it can be copied, or saved and restored. Each call tests it; a soft bit of -128 in it counts as
+ * -127. */
+typedef struct um_slot {
+	uint32_t last;        /* the frame number taken last, or UM_FRAMES: none yet */
+	uint32_t first;       /* the frame number of the first burst of the block being collected, or UM_FRAMES: none */
+	uint8_t combination;  /* um_combination */
+	uint8_t direction;    /* um_direction */
+	uint8_t timeslot;     /* 0 to 7 */
+	uint8_t words;        /* words to try, 1 to 64: um_receive_block_erasing's `most` */
+	uint8_t erasures;     /* bursts to erase, 0 to 4 */
+	uint8_t heard;        /* bursts of the block that came */
+	int8_t bursts[4][148];/* the bursts of the block; zeros where none came */
+} um_slot;
+
+typedef struct um_slot_block {
+	um_block_report report; /* what um_receive_block_erasing reports of the block's four bursts */
+	uint32_t rank;
+	uint32_t first;         /* the frame number of the first burst */
+	uint8_t channel;        /* um_channel or um_common_channel: UM_SDCCH, UM_SACCH, UM_BCCH or UM_CCCH */
+	uint8_t subchannel;     /* as in um_place */
+	uint8_t heard;          /* bursts that came, 0 to 4 */
+	um_erasure erasure;     /* 4 if none was erased, and the wrong training bits of each burst; 26 in one that never came */
+} um_slot_block;
+
+enum UM_OCTET um_taken {
+	UM_SLOT_TAKEN,    /* the frame was taken; no block is complete */
+	UM_SLOT_BLOCK,    /* the frame was taken; a block is complete and written */
+	UM_SLOT_NO_SOFT,  /* a soft bit is -128; this answer and all below write nothing */
+	UM_SLOT_NONE,     /* the state is not valid */
+	UM_SLOT_NO_FRAME, /* there is no such frame number */
+	UM_SLOT_DOUBLED,  /* this frame was taken last */
+	UM_SLOT_LATE      /* this frame is before the one taken last: more than half a hyperframe after it */
+};
+
+/* Initialises a receiver. words is 1 to 64, erasures 0 to 4: with 1 and 0 each report is um_receive_block's. False: no such combination,
+ * direction, time slot, number of words or of erasures. */
+bool um_slot_new(um_slot *slot, uint8_t combination, uint8_t direction, uint8_t timeslot, uint8_t words, uint8_t erasures) UM_NONNULL;
+
+/* Takes the burst of a frame. Returns a um_taken; the first that applies, in the order of the enum. */
+UM_ENUM(um_taken) um_slot_take(um_slot *slot, uint32_t frame, const int8_t burst[148], um_slot_block *block) UM_CALL;
+
+/* Takes a frame whose burst did not come. */
+UM_ENUM(um_taken) um_slot_miss(um_slot *slot, uint32_t frame, um_slot_block *block) UM_CALL;
 
 /* LAPDm frames, formats A and B (3GPP TS 44.006). */
 

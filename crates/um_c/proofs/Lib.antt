@@ -1,2 +1,3 @@
 mod Calls
 mod Sessions
+pub mod ErasingReports

@@ -9,3 +9,5 @@ pub mod EndCalls
 pub mod SideCalls
 pub mod Joined
 pub mod Opening
+pub mod TimeCalls
+pub mod SlotCalls

@@ -8,15 +8,19 @@ mod blocks;
 mod bursts;
 mod effects;
 mod ends;
+mod erasing;
 mod frames;
 mod joined;
 mod layout;
 mod margins;
 mod opening;
+mod places;
 mod repairs;
 mod sides;
+mod slots;
 mod soft;
 mod states;
+mod times;
 
 pub use joined::{
     law_damaged_bursts_deliver_in_order, law_endpoints_acked_at_most_delivered,
