@@ -1,6 +1,9 @@
-"""How often a block in Gaussian noise is accepted wrongly because of a light codeword (light_codewords.py 11 18 light.json), by importance sampling:
-the noise is drawn around the middle between the block sent and the other one, and each acceptance of the other one weighs its likelihood ratio.
-usage: wrong_accepts.py light.json SAMPLES SIGMA.."""
+"""How often a block in Gaussian noise is accepted wrongly because of a light codeword, by importance sampling: the noise is drawn around
+the middle between the block sent and the other one, and each acceptance of the other one weighs its likelihood ratio.
+
+usage: wrong_accepts.py light.json SAMPLES SIGMA..
+
+light.json comes from light_codewords.py."""
 import json, math, os, sys
 import numpy as np
 import um
@@ -50,5 +53,6 @@ for sigma in map(float, sys.argv[3:]):
             v = np.concatenate(p[most]) * len(words)
             total[most] += v.mean()
             if most == 64: parts.append(f"{w}: {v.mean():.1e} +- {v.std() / math.sqrt(len(v)):.0e}")
-    print(f"sigma {sigma} (Es/N0 {10 * math.log10(0.5 / sigma ** 2):.2f} dB): not accepted {un1:.4f} of one word, {un:.5f} of 64; accepted wrongly {total[1]:.1e} of one, {total[64]:.1e} of 64 a block, "
+    print(f"sigma {sigma} (Es/N0 {10 * math.log10(0.5 / sigma ** 2):.2f} dB): not accepted {un1:.4f} of one word, {un:.5f} of 64; "
+          f"accepted wrongly {total[1]:.1e} of one, {total[64]:.1e} of 64 a block, "
           f"1 in {un / total[64] if total[64] else 0:.1e} of those not saved; by weight {', '.join(parts)}", flush=True)
