@@ -132,14 +132,16 @@ class Cell:
 
     def account(self, frames):
         """What happened, as numbers. `blocks` are those of the uplink by um's verdict and the base station's."""
-        bad = set()
+        bad, reason = set(), ""
         for line in open("osmo-bts-trx.log", errors="replace"):
+            if "hutting down" in line and not reason:
+                reason = line.strip()
             if "Received bad data" in line or "Received incomplete" in line:
                 bad.add((int(line.split(",ts=")[1][0]), int(line.split()[2].split("/")[0])))
         blocks = collections.Counter(f"{'a' if ok else 'r'}{'r' if place in bad else 'a'}" for place, ok in self.verdicts.items())
         return {
-            "ended": self.radio.over or self.station.poll() is not None, "unfinished": self.is_busy(),
-            "wrong": self.wrong, "begun": self.begun, "frames": frames, "processor": time.process_time(),
+            "ended": self.radio.over or self.station.poll() is not None, "reason": reason,
+            "unfinished": self.is_busy(), "wrong": self.wrong, "begun": self.begun, "frames": frames, "processor": time.process_time(),
             "outcomes": [[kind, how, count] for (kind, how), count in sorted(self.outcomes.items())],
             "counts": self.counts, "blocks": blocks,
         }

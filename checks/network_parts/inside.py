@@ -25,7 +25,7 @@ def raise_loopback():
         fcntl.ioctl(any_socket, 0x8914, struct.pack("16sH14x", b"lo", 0x41))
 
 
-def start(name, preload, ahead=()):
+def start(name, preload, ahead):
     """Starts a program of Osmocom, with its messages in a file."""
     environment = dict(os.environ, LD_PRELOAD=":".join(filter(None, preload)))
     with open(name + ".log", "wb") as log:
@@ -61,14 +61,14 @@ def main():
     random.seed(options.seed)
     raise_loopback()
     create_subscribers()
+    ahead = realtime()
     for name in ("osmo-stp", "osmo-hlr", "osmo-mgw", "osmo-msc", "osmo-bsc"):
-        start(name, [options.sctp])
+        start(name, [options.sctp], ahead)
         time.sleep(0.3)
     if not await_line("osmo-bsc.log", "BSSMAP assocation is up", 30):  # the controller's own spelling
         sys.exit("osmo-bsc and osmo-msc did not connect")
     from cell import Cell
 
-    ahead = realtime()
     cell = Cell(options)
     cell.station = start("osmo-bts-trx", [options.preload if options.station else "", options.sctp], ahead)
     print(json.dumps(cell.run()))

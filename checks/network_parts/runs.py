@@ -13,6 +13,7 @@ import sys
 import tempfile
 
 INSIDE = os.path.join(os.path.dirname(os.path.abspath(__file__)), "inside.py")
+MEMORY = "/dev/shm"  # the programs wait for each write of their data bases
 TRIES = 3  # of a run that the base station itself ends
 OPTIONS = (
     ("sessions", 40, "sessions that mobiles begin, besides answers to pages"), ("mobiles", 20, "mobiles"),
@@ -21,7 +22,7 @@ OPTIONS = (
     ("seconds", 300.0, "longest run"), ("seed", 1, "seed"), ("block", 0.0, "share of blocks lost"), ("burst", 0.0, "share of bursts lost"),
     ("bit", 0.0, "share of bits flipped"), ("noise", 0.0, "standard deviation of noise added to the bits, which are -1 and 1"),
     ("twins", 0.0, "share of accesses that a second mobile makes too, so that both contend for the channel"),
-    ("t200", 2, "T200 of the mobiles on SAPI 0, in slots"), ("t200_sapi3", 4, "the same on SAPI 3"),
+    ("t200", 2, "T200 of the mobiles on SAPI 0, in slots"), ("t200_sapi3", 2, "the same on SAPI 3"),
     ("among", 64, "words that a mobile tries for a block"),
     ("station", 0, "words that the base station tries, by libum_osmo.so; 0: it decodes by libosmocoding"),
     ("show", 0, "1: print each event"),
@@ -56,7 +57,7 @@ class Run:
     def _start(self, given, options):
         environment = dict(os.environ, UM_OSMO_AMONG=str(options["station"] or 1))
         options = json.dumps(dict(options, sctp=given.sctp, preload=given.preload))
-        folder = tempfile.mkdtemp(prefix="network-")
+        folder = tempfile.mkdtemp(prefix="network-", dir=MEMORY if os.access(MEMORY, os.W_OK) else None)
         try:
             child = subprocess.Popen([*given.own.split(), sys.executable, INSIDE, options], cwd=folder, env=environment,
                                      stdout=subprocess.PIPE, text=True)
@@ -121,7 +122,8 @@ def told(name, run):
           f"the base station rejected {100 * run.rejected():.1f} % of the uplink's blocks")
     ended = sum(result["ended"] for result in run.results)
     if ended and run.whole:
-        print(f"network: {name}: the base station ended itself in {ended} tries before (load {os.getloadavg()[0]:.0f})")
+        print(f"network: {name}: the base station ended itself in {ended} tries before (load {os.getloadavg()[0]:.0f}): "
+              + run.results[0]["reason"])
     for text in run.wrong[:20]:
         print("  wrong: " + text)
     if run.wrong:
@@ -130,7 +132,8 @@ def told(name, run):
         print(f"network: {name}: the network did not start or the run failed: {run.failure}")
         return 1
     if not run.whole:
-        print(f"network: skipped: machine too busy: the base station ended itself in each of {TRIES} tries of: {name}")
+        print(f"network: skipped: machine too busy: the base station ended itself in each of {TRIES} tries of: {name}: "
+              + run.results[-1]["reason"])
         return 77
     if run.results[-1]["unfinished"]:
         print(f"network: {name}: sessions were not over after {run.options['seconds']:.0f} s")

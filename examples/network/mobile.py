@@ -37,7 +37,7 @@ class Mobile:
     """A mobile with an IMSI of 15 digits. `words` is the number of words that its list decoder tries for a block, `t200` how many slots
     it waits for an answer on SAPI 0 and SAPI 3. `say` is called with what happens, a line each."""
 
-    def __init__(self, imsi, say, words=64, t200=(2, 4)):
+    def __init__(self, imsi, say, words=64, t200=(2, 2)):
         self.imsi, self.say, self.words, self.t200 = digits("9" + imsi), say, words, t200
         self.offset = self.candidate = self.fn = self.bsic = self.lai = self.tmsi = None
         self.combined, self.idle_blocks = True, Blocks(words)
