@@ -112,6 +112,9 @@ export const refuse128 = (name, values, count) => {
   throw new RangeError(`${name} changed during the call; expected ${count} soft bits from -127 to 127`);
 };
 
+// whether soft bits are all 0 or 1, with a 1 among them
+export const areHardBits = (soft) => soft.includes(1) && soft.every((value) => value === 0 || value === 1);
+
 export const refuseHardBits = (name) => {
   throw new RangeError(
     `${name} has hard bits, each 0 or 1; expected soft bits from -127 to 127, as softFromBits(bits) returns them`,
