@@ -172,6 +172,18 @@ export class Refused extends Error {
 
 /** Converts hard bits to soft bits: 127 for a 0, -127 for a 1. */
 export function softFromBits(bits: Bits): Int8Array;
+/**
+ * Converts log-likelihood ratios, ln P(0)/P(1), to soft bits: times `scale` (4), rounded to the nearest integer (ties to even), clipped to
+ * -127 to 127. `positive` is the bit that a positive number represents. Scale samples so that a usual one is 32 to 64.
+ */
+export function softFromLlr(
+  values: readonly number[] | Float32Array | Float64Array,
+  options?: { scale?: number; positive?: Bit },
+): Int8Array;
+/** Converts libosmocore's sbit_t, from -128 to 127, to soft bits: -128 becomes -127. */
+export function softFromSbits(sbits: Numbers): Int8Array;
+/** Converts the soft bits of the TRX protocol, octets from 0 (certainly 0) to 255 (certainly 1): 127 minus the octet, at least -127. */
+export function softFromTrx(octets: Octets): Int8Array;
 
 /** A `Response` of `fetch`. */
 export interface Fetched {

@@ -14,7 +14,7 @@ import { detectTraining, newSlot, receiveBlockErasing, slotFromBytes } from "./s
 import { frameOfTime, nextBlock, placeFrame, readBsic, readRa, readSch, timeOfFrame, writeBsic, writeRa, writeSch } from "./tdma.mjs";
 import { CHANNELS, KINDS, Refused, ROLES, SAPIS, UNREAD } from "./words.mjs";
 
-export { softFromBits } from "./arguments.mjs";
+export { softFromBits, softFromLlr, softFromSbits, softFromTrx } from "./arguments.mjs";
 export { CHANNELS, KINDS, NOTICES, REASONS, REFUSALS, Refused, ROLES, STATES, UNREAD } from "./words.mjs";
 export { COMBINATIONS, DIRECTIONS, LOGICAL_CHANNELS, SLOT_REFUSALS } from "./words.mjs";
 export { End, Side } from "./ends.mjs";
