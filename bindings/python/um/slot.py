@@ -73,8 +73,8 @@ class Slot:
 
     The bursts come in the order of their frame numbers. Frames may be left out: a burst that never came is zeros. A block is decoded with
     its fourth burst, or with the first later frame if that burst never came. If `words` is more than 1, blocks are decoded by list
-    decoding; if `erasures` is above 0, a block that nobody can read is decoded again without its least trusted bursts. A slot is a value: copy,
-    deepcopy and pickle copy it."""
+    decoding; if `erasures` is above 0, a block that nobody can read is decoded again without its least trusted bursts. A slot is a value:
+    copy, deepcopy and pickle copy it."""
 
     __slots__ = ("_state",)
     __hash__ = None  # type: ignore[assignment]
