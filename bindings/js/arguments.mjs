@@ -112,6 +112,9 @@ export const refuse128 = (name, values, count) => {
   throw new RangeError(`${name} changed during the call; expected ${count} soft bits from -127 to 127`);
 };
 
+// whether soft bits are all 0 or 1, with a 1 among them
+export const areHardBits = (soft) => soft.includes(1) && soft.every((value) => value === 0 || value === 1);
+
 export const refuseHardBits = (name) => {
   throw new RangeError(
     `${name} has hard bits, each 0 or 1; expected soft bits from -127 to 127, as softFromBits(bits) returns them`,
@@ -123,5 +126,40 @@ export const softFromBits = (bits) => {
   const soft = new Int8Array(counted("bits", bits, undefined, BIT));
   putTested(soft, 0, "bits", bits, soft.length, BIT);
   for (let i = 0; i < soft.length; i++) soft[i] = soft[i] ? -127 : 127;
+  return soft;
+};
+
+const softFrom = (name, values, form, convert) => {
+  const soft = new Int8Array(counted(name, values, undefined, form));
+  for (let i = 0; i < soft.length; i++) soft[i] = Math.max(-127, convert(integer(`${name}[${i}]`, values[i], form.least, form.most)));
+  return soft;
+};
+
+/** Converts libosmocore's sbit_t to soft bits: -128 becomes -127. */
+export const softFromSbits = (sbits) => softFrom("sbits", sbits, { what: "sbit_t", least: -128, most: 127 }, (sbit) => sbit);
+
+/** Converts the TRX protocol's octets, 0 a certain 0 to 255 a certain 1, to soft bits: 127 minus the octet, at least -127. */
+export const softFromTrx = (octets) => softFrom("octets", octets, OCTET, (octet) => 127 - octet);
+
+// the nearest integer, and of two the even one
+const roundedToEven = (value) => {
+  const rounded = Math.round(value);
+  return Math.abs(value % 1) === 0.5 && rounded % 2 !== 0 ? rounded - 1 : rounded;
+};
+
+/** Converts log-likelihood ratios to soft bits. */
+export const softFromLlr = (values, options = {}) => {
+  const { scale = 4, positive = 0 } = membersOf("options", options, ["scale", "positive"]);
+  if (!(typeof scale === "number" && scale > 0 && scale < Infinity)) {
+    throw new RangeError(`scale is ${shown(scale)}; expected a finite number above 0`);
+  }
+  if (!Array.isArray(values) && !isTyped(values)) throw new TypeError(`values is ${shown(values)}; expected an array of numbers`);
+  const factor = integer("positive", positive, 0, 1) ? -scale : scale;
+  const soft = new Int8Array(lengthOf(values));
+  for (let i = 0; i < soft.length; i++) {
+    const value = values[i];
+    if (typeof value !== "number" || Number.isNaN(value)) throw new RangeError(`values[${i}] is ${shown(value)}; expected a number`);
+    soft[i] = roundedToEven(Math.max(-127, Math.min(127, value * factor)));
+  }
   return soft;
 };

@@ -19,19 +19,22 @@ export const saved = (letter, state) => {
   return octets;
 };
 
+// tests the head of a saved form, and returns the octets
+export const restoredHead = (letter, octets) => {
+  const head = headOf(letter);
+  if (head.every((octet, i) => octets[i] === octet)) return octets;
+  throw new RangeError(`octets begins with ${textOf(octets.subarray(0, HEAD))}; expected ${textOf(head)}, as toBytes() writes it`);
+};
+
 // the state of some links from its saved form; the library tests the state afterwards
 export const restored = (letter, links, values) => {
-  const octets = octetsOf("octets", values, HEAD + links * FIELDS);
-  const head = headOf(letter);
-  if (head.some((octet, i) => octets[i] !== octet)) {
-    throw new RangeError(`octets begins with ${textOf(octets.subarray(0, HEAD))}; expected ${textOf(head)}, as toBytes() writes it`);
-  }
+  const octets = restoredHead(letter, octetsOf("octets", values, HEAD + links * FIELDS));
   const state = new Uint8Array(links * END);
   for (let i = 0; i < links; i++) state.set(octets.subarray(HEAD + i * FIELDS, HEAD + (i + 1) * FIELDS), i * END);
   return state;
 };
 
-const sapiOf = (sapi) => SAPIS[place("sapi", sapi, SAPIS)];
+export const sapiOf = (sapi) => SAPIS[place("sapi", sapi, SAPIS)];
 
 // The state of an endpoint or a side, and the calls that change it.
 class State {

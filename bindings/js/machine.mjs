@@ -4,7 +4,7 @@ import { NOTICES, REASONS } from "./words.mjs";
 
 // sizes of the structs of um.h, in octets
 const NOTICE = 272;
-const INPUT = 5184;
+const INPUT = 5376;
 const SECOND = 640;
 const OUTPUT = 896;
 const BESIDE = 64;

@@ -20,6 +20,12 @@ export type Unread = "lpd" | "ea" | "control" | "el" | "length" | "empty" | "mor
 export type Reason = "contention" | "failed" | "refused" | "released";
 /** Why an endpoint refuses a call. */
 export type Refusal = "notidle" | "notopen" | "notrunning" | "empty" | "toolong" | "full" | "noend" | "nocall" | "noframe";
+/** Why a slot refuses a frame. */
+export type SlotRefusal = "noslot" | "doubled" | "late";
+/** The channels of a time slot. "tch_f" has only the SACCH of a full rate traffic channel. */
+export type Combination = "bcch_ccch" | "bcch_ccch_sdcch4" | "sdcch8" | "tch_f";
+export type Direction = "downlink" | "uplink";
+export type LogicalChannel = Channel | "bcch" | "ccch" | "fcch" | "sch" | "rach";
 export type Bit = 0 | 1;
 export type Sapi = 0 | 3;
 
@@ -31,6 +37,12 @@ export const NOTICES: readonly Notice["kind"][];
 export const REASONS: readonly Reason[];
 export const REFUSALS: readonly Refusal[];
 export const UNREAD: readonly Unread[];
+export const SLOT_REFUSALS: readonly SlotRefusal[];
+export const COMBINATIONS: readonly Combination[];
+export const DIRECTIONS: readonly Direction[];
+export const LOGICAL_CHANNELS: readonly LogicalChannel[];
+/** The frames of a hyperframe: frame numbers are 0 to FRAMES - 1. */
+export const FRAMES: number;
 
 /** What the decoder reports for a block or a burst. */
 export interface Report {
@@ -48,6 +60,43 @@ export interface Report {
 export interface BlockReport extends Report {
   /** The detected training sequence, 0 to 7. */
   tsc: number;
+}
+export interface Erasure {
+  /** The burst that was set to zeros, 0 to 3; null if none was. */
+  erased: number | null;
+  /** Bit errors in the 26 training bits of each burst as received; 26 in a burst that never came. */
+  wrongTrainingOfBursts: number[];
+}
+/** A block of a time slot. */
+export interface SlotBlock extends BlockReport, Erasure {
+  /** The rank of the word, 1 for the most likely one. */
+  rank: number;
+  /** The frame number of the first burst. */
+  first: number;
+  channel: LogicalChannel;
+  /** Of SDCCH and SACCH; for CCCH the number of the block in the multiframe; else 0. */
+  subchannel: number;
+  /** How many of the four bursts came. */
+  heard: number;
+}
+/** What a synchronisation burst says. */
+export interface Sch {
+  /** The frame number; its T3 is 1, 11, 21, 31 or 41. */
+  frame: number;
+  /** The base station identity code, 0 to 63: 8 * ncc + bcc. */
+  bsic: number;
+  ncc: number;
+  /** The base station colour code: the training sequence of BCCH and CCCH. */
+  bcc: number;
+}
+/** The place of a frame in its channel. */
+export interface Place {
+  /** The frame number of the block's first burst; for FCCH, SCH and RACH that of the burst. */
+  first: number;
+  channel: LogicalChannel;
+  subchannel: number;
+  /** Which burst of the block, 0 to 3; for FCCH, SCH and RACH 0. */
+  burst: number;
 }
 export interface Margin {
   /** The metric of the word minus that of the next one; 0 if and only if another word has the same metric. */
@@ -115,14 +164,26 @@ export interface Variables {
   done: bigint;
 }
 
-/** An endpoint refused a call; its state is unchanged. */
+/** An endpoint or a slot refused a call; its state is unchanged. */
 export class Refused extends Error {
-  readonly reason: Refusal;
-  constructor(reason: Refusal, message?: string);
+  readonly reason: Refusal | SlotRefusal;
+  constructor(reason: Refusal | SlotRefusal, message?: string);
 }
 
 /** Converts hard bits to soft bits: 127 for a 0, -127 for a 1. */
 export function softFromBits(bits: Bits): Int8Array;
+/**
+ * Converts log-likelihood ratios, ln P(0)/P(1), to soft bits: times `scale` (4), rounded to the nearest integer (ties to even), clipped to
+ * -127 to 127. `positive` is the bit that a positive number represents. Scale samples so that a usual one is 32 to 64.
+ */
+export function softFromLlr(
+  values: readonly number[] | Float32Array | Float64Array,
+  options?: { scale?: number; positive?: Bit },
+): Int8Array;
+/** Converts libosmocore's sbit_t, from -128 to 127, to soft bits: -128 becomes -127. */
+export function softFromSbits(sbits: Numbers): Int8Array;
+/** Converts the soft bits of the TRX protocol, octets from 0 (certainly 0) to 255 (certainly 1): 127 minus the octet, at least -127. */
+export function softFromTrx(octets: Octets): Int8Array;
 
 /** A `Response` of `fetch`. */
 export interface Fetched {
@@ -156,6 +217,16 @@ export class Um {
   receiveBlockAmong(bursts: SoftBits, most: number): BlockReport & { rank: number };
   /** Decodes four normal bursts and returns the two most likely words and the margin between them. */
   marginBlock(bursts: SoftBits): Margin;
+  /**
+   * Decodes four normal bursts as `receiveBlockAmong` does. If no word's CRC holds, decodes the block again with one burst set to zeros,
+   * for each of at most `erasures` bursts (0 to 4) in turn, the one with the most wrong training bits first, until the CRC of a word holds.
+   */
+  receiveBlockErasing(bursts: SoftBits, most: number, erasures: number): BlockReport & Erasure & { rank: number };
+  /**
+   * The training sequence of four normal bursts and the wrong training bits of each, without decoding them. The sum of the counts is at
+   * most 20 in real bursts, at least 25 in noise.
+   */
+  detectTraining(bursts: SoftBits): { tsc: number; wrongTrainingOfBursts: number[] };
   /** Corrects a word of 224 bits, data and CRC, with an error burst of at most 12 bits. Null: no codeword is that near. */
   repair(word: Bits): Repair | null;
   /** Encodes the eight bits of RA, least significant first, into an access burst of 88 bits for a base station's identity code (six bits,
@@ -173,6 +244,38 @@ export class Um {
   readFrame(octets: Octets, channel?: Channel): Frame | { unread: Unread };
   /** Encodes a frame into the 23 octets of its block, with layer 1 octets 00 on SACCH and fill octets 2b. */
   writeFrame(frame: FrameFields | Frame, channel?: Channel): Uint8Array;
+
+  /** Splits a frame number into T1 (frame / 1326), T2 (frame % 26) and T3 (frame % 51). */
+  timeOfFrame(frame: number): { t1: number; t2: number; t3: number };
+  /** The frame number with this T1 (0 to 2047), T2 (0 to 25) and T3 (0 to 50). */
+  frameOfTime(t1: number, t2: number, t3: number): number;
+  /** Reads the 25 data bits of a synchronisation burst. Null: no frame number has these bits. */
+  readSch(info: Bits): Sch | null;
+  /** Writes the 25 data bits for `sendSync`. The frame's T3 is 1, 11, 21, 31 or 41. */
+  writeSch(bsic: number, frame: number): Uint8Array;
+  /** Reads RA from the data bits of an access burst. */
+  readRa(info: Bits): number;
+  /** Writes RA, the octet of a CHANNEL REQUEST, as the eight data bits of `sendAccess`, least significant bit first. */
+  writeRa(ra: number): Uint8Array;
+  /** Reads a base station identity code from six bits. */
+  readBsic(code: Bits): number;
+  /** Writes a base station identity code as six bits, most significant bit first. */
+  writeBsic(bsic: number): Uint8Array;
+  /** The channel and the burst that a frame of a time slot carries. Null: it is idle, or carries traffic. */
+  placeFrame(combination: Combination, direction: Direction, timeslot: number, frame: number): Place | null;
+  /** The first frame number, at or after `frame`, of a block (or burst) of this channel and subchannel. */
+  nextBlock(
+    combination: Combination,
+    direction: Direction,
+    timeslot: number,
+    channel: LogicalChannel,
+    subchannel: number,
+    frame: number,
+  ): number;
+  /** A new receiver of one time slot; words and erasures as in `receiveBlockErasing`, 1 and 0 unless the options say otherwise. */
+  slot(combination: Combination, options?: { direction?: Direction; timeslot?: number; words?: number; erasures?: number }): Slot;
+  /** Restores a slot from `slot.toBytes()`. Throws Refused with the reason "noslot" if the state is not valid. */
+  slotFromBytes(octets: Octets): Slot;
 
   /** A new endpoint, of SAPI 0 on SDCCH unless the options say otherwise. */
   end(role: Role, options?: { sapi?: Sapi; channel?: Channel }): End;
@@ -253,4 +356,24 @@ export class Side {
   idle(): Effects;
   /** Processes a received block at the endpoint of its SAPI, and returns the SAPI too. A frame of another SAPI is ignored. */
   take(octets: Octets): Effects & { sapi: Sapi };
+}
+
+/**
+ * A receiver of one time slot. The bursts come in the order of their frame numbers. Frames may be left out: a burst that never came is
+ * zeros. A block is decoded with its fourth burst, or with the first later frame if that burst never came.
+ */
+export class Slot {
+  private constructor();
+  readonly combination: Combination;
+  readonly direction: Direction;
+  readonly timeslot: number;
+  /** The state in the form that all languages read: 610 octets, for `slotFromBytes`. */
+  toBytes(): Uint8Array;
+  /** An independent copy. */
+  copy(): Slot;
+  /**
+   * Takes the 148 soft bits of the burst of a frame, or none if it did not come. Returns the block that is then complete, or null. Throws
+   * Refused with the reason "doubled" if the frame was taken last, "late" if it is before that one.
+   */
+  take(frame: number, burst?: Numbers | null): SlotBlock | null;
 }

@@ -10,11 +10,16 @@
 import { integer, membersOf, octetsOf, place, putBits, putOctets, shown } from "./arguments.mjs";
 import { END, End, restored, Side } from "./ends.mjs";
 import { Machine } from "./machine.mjs";
+import { detectTraining, newSlot, receiveBlockErasing, slotFromBytes } from "./slot.mjs";
+import { frameOfTime, nextBlock, placeFrame, readBsic, readRa, readSch, timeOfFrame, writeBsic, writeRa, writeSch } from "./tdma.mjs";
 import { CHANNELS, KINDS, Refused, ROLES, SAPIS, UNREAD } from "./words.mjs";
 
-export { softFromBits } from "./arguments.mjs";
+export { softFromBits, softFromLlr, softFromSbits, softFromTrx } from "./arguments.mjs";
 export { CHANNELS, KINDS, NOTICES, REASONS, REFUSALS, Refused, ROLES, STATES, UNREAD } from "./words.mjs";
+export { COMBINATIONS, DIRECTIONS, LOGICAL_CHANNELS, SLOT_REFUSALS } from "./words.mjs";
 export { End, Side } from "./ends.mjs";
+export { Slot } from "./slot.mjs";
+export { FRAMES } from "./tdma.mjs";
 
 const FRAME = 28;
 const BLOCK_OCTETS = 23;
@@ -56,6 +61,14 @@ export class Um {
     const m = this.#machine;
     m.receive("um_margin_block", "bursts", bursts, BLOCK_BITS, m.OUTPUT);
     return { margin: m.view.getInt32(m.output, true), word: m.copy(m.output + 4, 228), next: m.copy(m.output + 232, 228) };
+  }
+
+  receiveBlockErasing(bursts, most, erasures) {
+    return receiveBlockErasing(this.#machine, bursts, most, erasures);
+  }
+
+  detectTraining(bursts) {
+    return detectTraining(this.#machine, bursts);
   }
 
   repair(word) {
@@ -125,6 +138,44 @@ export class Um {
     m.octets.set(octets, m.input + 8);
     m.told("um_write_frame", m.INPUT, at, m.OUTPUT);
     return m.copy(m.output, BLOCK_OCTETS);
+  }
+
+  timeOfFrame(frame) {
+    return timeOfFrame(this.#machine, frame);
+  }
+  frameOfTime(t1, t2, t3) {
+    return frameOfTime(this.#machine, t1, t2, t3);
+  }
+  readSch(info) {
+    return readSch(this.#machine, info);
+  }
+  writeSch(bsic, frame) {
+    return writeSch(this.#machine, bsic, frame);
+  }
+  readRa(info) {
+    return readRa(this.#machine, info);
+  }
+  writeRa(ra) {
+    return writeRa(this.#machine, ra);
+  }
+  readBsic(code) {
+    return readBsic(this.#machine, code);
+  }
+  writeBsic(bsic) {
+    return writeBsic(this.#machine, bsic);
+  }
+  placeFrame(combination, direction, timeslot, frame) {
+    return placeFrame(this.#machine, combination, direction, timeslot, frame);
+  }
+  nextBlock(combination, direction, timeslot, channel, subchannel, frame) {
+    return nextBlock(this.#machine, combination, direction, timeslot, channel, subchannel, frame);
+  }
+
+  slot(combination, options = {}) {
+    return newSlot(this.#machine, combination, membersOf("options", options, ["direction", "timeslot", "words", "erasures"]));
+  }
+  slotFromBytes(octets) {
+    return slotFromBytes(this.#machine, octets);
   }
 
   end(role, options = {}) {

@@ -3,6 +3,9 @@
 export const KINDS = Object.freeze(["i", "rr", "rnr", "rej", "sabm", "dm", "ui", "disc", "ua"]);
 export const CHANNELS = Object.freeze(["sdcch", "sacch"]);
 export const SAPIS = Object.freeze([0, 3]);
+export const LOGICAL_CHANNELS = Object.freeze(["sdcch", "sacch", "bcch", "ccch", "fcch", "sch", "rach"]);
+export const COMBINATIONS = Object.freeze(["bcch_ccch", "bcch_ccch_sdcch4", "sdcch8", "tch_f"]);
+export const DIRECTIONS = Object.freeze(["downlink", "uplink"]);
 export const ROLES = Object.freeze(["mobile", "network"]);
 export const STATES = Object.freeze(["idle", "opening", "open", "closing", "closed"]);
 export const UNREAD = Object.freeze(["lpd", "ea", "control", "el", "length", "empty", "more"]);
@@ -21,9 +24,15 @@ const WHY = {
   noframe: "the octets are not an LAPDm frame; readFrame returns the reason",
 };
 export const REFUSALS = Object.freeze(Object.keys(WHY));
+const WHY_SLOT = {
+  noslot: "the state is not valid",
+  doubled: "this frame was taken last",
+  late: "this frame is before the one that was taken last",
+};
+export const SLOT_REFUSALS = Object.freeze(Object.keys(WHY_SLOT));
 
 export class Refused extends Error {
-  constructor(reason, message = WHY[reason]) {
+  constructor(reason, message = WHY[reason] ?? WHY_SLOT[reason]) {
     super(message);
     this.name = "Refused";
     this.reason = reason;

@@ -1,6 +1,6 @@
 // Tests that um.mjs refuses invalid arguments, with messages that state what was expected, and that it discards an instance that trapped.
 import assert from "node:assert/strict";
-import { Refused, softFromBits, Um } from "../um.mjs";
+import { Refused, softFromBits, softFromLlr, softFromSbits, softFromTrx, Um } from "../um.mjs";
 
 const zeros = (count) => new Array(count).fill(0);
 const change = (list, at, value) => list.map((old, i) => (i === at ? value : old));
@@ -87,6 +87,11 @@ const WRONG = (um) => [
   [() => um.side("mobile").timer(256), RangeError, "sapi is 256"],
   [() => um.side("mobile").take(zeros(24)), RangeError, "octets has 24 values"],
   [() => um.sideFromBytes(zeros(5168)), RangeError, "octets has 5168 values; expected 5166 octets"],
+  [() => softFromLlr([0, NaN]), RangeError, "values[1] is NaN; expected a number"],
+  [() => softFromLlr([1], { scale: 0 }), RangeError, "scale is 0; expected a finite number above 0"],
+  [() => softFromLlr("1"), TypeError, 'values is "1"; expected an array of numbers'],
+  [() => softFromSbits([-129]), RangeError, "sbits[0] is -129; expected an integer from -128 to 127"],
+  [() => softFromTrx([0, 256]), RangeError, "octets[1] is 256; expected an integer from 0 to 255"],
   [() => softFromBits([0, 1, 2]), RangeError, "bits[2] is 2; expected an integer from 0 to 1"],
 ];
 
@@ -156,6 +161,14 @@ const forms = (um) => {
   }
 };
 
+// the same values as in Python's tests
+const conversions = () => {
+  assert.deepEqual([...softFromLlr([8, 99, -1e30, 3.25, 0.03, 0.625, 0.875, -0.625])], [32, 127, -127, 13, 0, 2, 4, -2]);
+  assert.deepEqual([...softFromLlr(Float32Array.of(0.5, -1, Infinity), { scale: 50, positive: 1 })], [-25, 50, -127]);
+  assert.deepEqual([...softFromSbits([-128, -127, 0, 127])], [-127, -127, 0, 127]);
+  assert.deepEqual([...softFromTrx([0, 126, 127, 128, 254, 255])], [127, 1, 0, -1, -127, -127]);
+};
+
 // a message that is too long is refused without reading all of it
 const longMessage = (um) => {
   const start = performance.now();
@@ -183,6 +196,7 @@ export const tryArguments = (um) => {
   states(um);
   sides(um);
   forms(um);
+  conversions();
   longMessage(um);
   trap(um);
   assert.ok(um instanceof Um);

@@ -23,6 +23,11 @@ const use = async (): Promise<void> => {
   facts.push((await load(new Uint8Array(8))) === um, REFUSALS.includes("notidle"), NOTICES.includes("closed"));
   const side: Side = um.side("mobile", { channel: "sacch" });
   side.send(3, [1]).frames.concat(side.take(bursts).frames, side.end(0).idle().frames);
+  const block = um.slot("sdcch8", { words: 16, erasures: 4 }).take(3, new Int8Array(148));
+  if (block?.accepted && block.channel === "sacch") facts.push(um.readFrame(block.accepted, block.channel).unread === "ea");
+  facts.push(um.placeFrame("bcch_ccch", "uplink", 0, 7)?.channel === "rach", um.readSch([])?.bsic === 1);
+  // @ts-expect-error no such combination
+  um.slot("sdcch");
   // @ts-expect-error no such SAPI
   side.timer(1);
   // @ts-expect-error a link of SAPI 0 opens with information

@@ -42,6 +42,15 @@ def rows() -> "array.array[int]":
     return um.soft_from_llr([1.0, -2.5])
 
 
+def receiver(soft: Soft) -> bytes:
+    slot = um.Slot("sdcch8", "uplink", words=16, erasures=4)
+    block = slot.take(3, soft[0]) or slot.take(4)
+    place = um.place_frame("bcch_ccch", "downlink", 0, 7)
+    if block and place and block.channel == um.SACCH:
+        return bytes(um.read_frame(block.report.accepted or bytes(23), block.channel).info)
+    return um.write_ra(um.read_ra([0] * 8))
+
+
 def wrong(octets: "numpy.typing.NDArray[numpy.uint8]") -> None:
     um.Frame("sabbm")  # type: ignore[arg-type]
     um.End("mobil")  # type: ignore[arg-type]
@@ -50,5 +59,6 @@ def wrong(octets: "numpy.typing.NDArray[numpy.uint8]") -> None:
     um.receive_block(octets)  # type: ignore[arg-type]
     um.send_block({1, 2}, 7)  # type: ignore[arg-type]
     um.Side("mobile").send(1, b"a")  # type: ignore[arg-type]
+    um.Slot("sdcch")  # type: ignore[arg-type]
     um.soft_from_llr("x")  # type: ignore[arg-type]
     um.Refused("send", "not open")  # type: ignore[arg-type]

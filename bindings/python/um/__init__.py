@@ -36,19 +36,26 @@ from .blocks import (
     Margin, Repair, Report, margin_block, receive_access, receive_block, receive_block_among, receive_sync, repair, send_access,
     send_block, send_sync,
 )
-from .effects import NOTICES, REASONS, REFUSALS, Acked, Closed, Effects, Notice, Oversize, Received, Refused
+from .effects import NOTICES, REASONS, REFUSALS, SLOT_REFUSALS, Acked, Closed, Effects, Notice, Oversize, Received, Refused
 from .ends import ROLES, STATES, End, Side
 from .frames import KINDS, SACCH, SDCCH, UNREAD, Channel, Frame, NoFrame, read_frame, write_frame
 from .many import (
     margin_blocks, read_frames, receive_accesses, receive_blocks, receive_blocks_among, receive_syncs, repair_words, send_blocks,
 )
+from .slot import Erasure, Slot, SlotBlock, detect_training, receive_block_erasing
 from .soft import soft_from_bits, soft_from_llr, soft_from_sbits, soft_from_trx
+from .tdma import (
+    COMBINATIONS, DIRECTIONS, FRAMES, Place, Sch, Time, frame_of_time, next_block, place_frame, read_bsic, read_ra, read_sch, time_of_frame,
+    write_bsic, write_ra, write_sch,
+)
 
 __all__ = [
-    "Acked", "Channel", "Closed", "Effects", "End", "Frame", "KINDS", "Margin", "NOTICES", "NoFrame", "Notice", "Oversize", "REASONS",
-    "REFUSALS", "ROLES", "Received", "Refused", "Repair", "Report", "SACCH", "SDCCH", "STATES", "Side", "UNREAD", "__version__",
-    "margin_block", "margin_blocks", "read_frame", "read_frames", "receive_access", "receive_accesses", "receive_block",
-    "receive_block_among", "receive_blocks", "receive_blocks_among", "receive_sync", "receive_syncs", "repair", "repair_words",
-    "send_access", "send_block", "send_blocks", "send_sync", "soft_from_bits", "soft_from_llr", "soft_from_sbits", "soft_from_trx",
-    "write_frame",
+    "Acked", "COMBINATIONS", "Channel", "Closed", "DIRECTIONS", "Effects", "End", "Erasure", "FRAMES", "Frame", "KINDS", "Margin",
+    "NOTICES", "NoFrame", "Notice", "Oversize", "Place", "REASONS", "REFUSALS", "ROLES", "Received", "Refused", "Repair", "Report",
+    "SACCH", "SDCCH", "SLOT_REFUSALS", "STATES", "Sch", "Side", "Slot", "SlotBlock", "Time", "UNREAD", "__version__", "detect_training",
+    "frame_of_time", "margin_block", "margin_blocks", "next_block", "place_frame", "read_bsic", "read_frame", "read_frames", "read_ra",
+    "read_sch", "receive_access", "receive_accesses", "receive_block", "receive_block_among", "receive_block_erasing", "receive_blocks",
+    "receive_blocks_among", "receive_sync", "receive_syncs", "repair", "repair_words", "send_access", "send_block", "send_blocks",
+    "send_sync", "soft_from_bits", "soft_from_llr", "soft_from_sbits", "soft_from_trx", "time_of_frame", "write_bsic", "write_frame",
+    "write_ra", "write_sch",
 ]

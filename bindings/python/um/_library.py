@@ -2,7 +2,7 @@
 import ctypes
 import os
 import platform
-from typing import List
+from typing import Any, Dict, List, Tuple
 
 # by the name of the system: the library, and what follows the processor in the name of its folder in dist/
 _SYSTEMS = {"Windows": ("um.dll", "windows"), "Darwin": ("libum.0.dylib", "macos")}
@@ -17,7 +17,7 @@ _MAKE = (
 )
 
 _POINTER, _U8, _U32, _BOOL = ctypes.c_void_p, ctypes.c_uint8, ctypes.c_uint32, ctypes.c_bool
-_CALLS = {
+_CALLS: Dict[str, Tuple[Any, Tuple[Any, ...]]] = {
     "um_send_block": (_BOOL, (_POINTER, _U8, _POINTER)),
     "um_receive_block": (_BOOL, (_POINTER, _POINTER)),
     "um_receive_block_among": (_BOOL, (_POINTER, _U32, _POINTER, _POINTER)),
@@ -47,6 +47,21 @@ _CALLS = {
     "um_side_timer": (_U8, (_POINTER, _U8, _POINTER)),
     "um_side_idle": (_U8, (_POINTER, _POINTER)),
     "um_side_take": (_U8, (_POINTER, _POINTER, _POINTER, _POINTER)),
+    "um_receive_block_erasing": (_BOOL, (_POINTER, _U32, _U8, _POINTER, _POINTER, _POINTER)),
+    "um_detect_training": (_BOOL, (_POINTER, _POINTER, _POINTER)),
+    "um_time_of_frame": (_BOOL, (_U32, _POINTER)),
+    "um_frame_of_time": (_BOOL, (_POINTER, _POINTER)),
+    "um_read_sch": (_BOOL, (_POINTER, _POINTER)),
+    "um_write_sch": (_BOOL, (_U8, _U32, _POINTER)),
+    "um_write_ra": (None, (_U8, _POINTER)),
+    "um_read_ra": (_BOOL, (_POINTER, _POINTER)),
+    "um_write_bsic": (_BOOL, (_U8, _POINTER)),
+    "um_read_bsic": (_BOOL, (_POINTER, _POINTER)),
+    "um_place_frame": (_U8, (_U8, _U8, _U8, _U32, _POINTER)),
+    "um_next_block": (_BOOL, (_U8, _U8, _U8, _U8, _U8, _U32, _POINTER)),
+    "um_slot_new": (_BOOL, (_POINTER, _U8, _U8, _U8, _U8, _U8)),
+    "um_slot_take": (_U8, (_POINTER, _U32, _POINTER, _POINTER)),
+    "um_slot_miss": (_U8, (_POINTER, _U32, _POINTER)),
 }
 
 

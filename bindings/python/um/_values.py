@@ -87,19 +87,27 @@ def bits(name: str, values: Any, count: int) -> bytes:
 
 def soft(name: str, values: Any, rows: int, places: int) -> bytes:
     """Soft bits: `rows` bursts of `places` each, as octets in two's complement. Hard bits are refused."""
-    view = view_of(values)
-    if view is None:
-        data = _soft_rows(name, values, rows, places)
-    elif isinstance(values, (bytes, bytearray)):
-        data = view.tobytes()
-        if len(data) != rows * places:
-            raise ValueError(f"{name}: {len(data)} soft bits; expected {_shape(rows, places)}")
-    else:
-        data = _soft_memory(name, values, view, rows, places)
-    # all 0 or 1, with a 1 among them: the caller passed hard bits by mistake
-    if not data.strip(b"\0\1") and 1 in data:
+    data = soft_values(name, values, rows, places)
+    if are_hard_bits(data):
         raise hard_bits(name)
     return data
+
+
+def soft_values(name: str, values: Any, rows: int, places: int) -> bytes:
+    """Soft bits, also if they may be hard bits."""
+    view = view_of(values)
+    if view is None:
+        return _soft_rows(name, values, rows, places)
+    if not isinstance(values, (bytes, bytearray)):
+        return _soft_memory(name, values, view, rows, places)
+    if view.nbytes != rows * places:
+        raise ValueError(f"{name}: {view.nbytes} soft bits; expected {_shape(rows, places)}")
+    return view.tobytes()
+
+
+def are_hard_bits(data: bytes) -> bool:
+    """Whether soft bits are all 0 or 1, with a 1 among them: the caller passed hard bits by mistake."""
+    return not data.strip(b"\0\1") and 1 in data
 
 
 def hard_bits(name: str) -> ValueError:

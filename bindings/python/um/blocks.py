@@ -69,7 +69,7 @@ def receive_block(bursts: "SoftBits") -> Report:
     values, raw = soft("bursts", bursts, 4, 148), ctypes.create_string_buffer(268)
     if not lib.um_receive_block(values, raw):
         raise minus_128("bursts", values, 4, 148)
-    return _block_report(raw)
+    return block_report(raw)
 
 
 def receive_block_among(bursts: "SoftBits", most: int) -> Tuple[Report, int]:
@@ -79,7 +79,7 @@ def receive_block_among(bursts: "SoftBits", most: int) -> Tuple[Report, int]:
     raw, rank = ctypes.create_string_buffer(268), ctypes.c_uint32()
     if not lib.um_receive_block_among(values, tried, raw, ctypes.byref(rank)):
         raise minus_128("bursts", values, 4, 148)
-    return _block_report(raw), rank.value
+    return block_report(raw), rank.value
 
 
 def margin_block(bursts: "SoftBits") -> Margin:
@@ -137,7 +137,8 @@ def receive_sync(burst: "SoftRow") -> Report:
     return _burst_report(_SYNC, raw)
 
 
-def _block_report(raw: Any) -> Report:
+def block_report(raw: Any) -> Report:
+    """The report in a um_block_report."""
     metric, wrong_training, wrong_coded, tsc, accepted, data, word = _BLOCK.unpack(raw)
     return Report(data if accepted else None, metric, wrong_training, wrong_coded, word, tsc)
 

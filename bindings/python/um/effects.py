@@ -7,10 +7,12 @@ if TYPE_CHECKING:
 
     Reason = Literal["contention", "failed", "refused", "released"]
     Refusal = Literal["notidle", "notopen", "notrunning", "empty", "toolong", "full", "noend", "nocall", "noframe"]
+    SlotRefusal = Literal["noslot", "doubled", "late"]
 
 REASONS: "Tuple[Reason, ...]" = ("contention", "failed", "refused", "released")
 NOTICES = ("opened", "got", "unit", "acked", "oversize", "closed")
 REFUSALS: "Tuple[Refusal, ...]" = ("notidle", "notopen", "notrunning", "empty", "toolong", "full", "noend", "nocall", "noframe")
+SLOT_REFUSALS: "Tuple[SlotRefusal, ...]" = ("noslot", "doubled", "late")
 _WHY = {
     "notidle": "the link was opened already",
     "notopen": "the link is not open",
@@ -21,6 +23,9 @@ _WHY = {
     "noend": "the state is not valid",
     "nocall": "the mobile opens the link of SAPI 0 with open; either end opens the link of SAPI 3 with open_bare",
     "noframe": "the octets are not an LAPDm frame",
+    "noslot": "the state is not valid",
+    "doubled": "this frame was taken last",
+    "late": "this frame is before the one that was taken last",
 }
 
 # the structs of um.h
@@ -70,9 +75,9 @@ class Effects(NamedTuple):
 
 
 class Refused(ValueError):
-    """An endpoint refused a call; its state is unchanged. `reason` is one of REFUSALS."""
+    """An endpoint or a slot refused a call; its state is unchanged. `reason` is one of REFUSALS or SLOT_REFUSALS."""
 
-    def __init__(self, call: str, reason: "Refusal", why: str = ""):
+    def __init__(self, call: str, reason: "Union[Refusal, SlotRefusal]", why: str = ""):
         self.call, self.reason, self.why = call, reason, why or _WHY[reason]
         super().__init__(f"{call}: {reason}: {self.why}")
 

@@ -118,7 +118,7 @@ class End(_Endpoint):
 
     def __init__(self, role: "Role", sapi: "Sapi" = 0, channel: int = SDCCH):
         super().__init__()
-        lib.um_end_new(self._state, choice("role", role, ROLES), _sapi(sapi), channel_number(channel))
+        lib.um_end_new(self._state, choice("role", role, ROLES), sapi_number(sapi), channel_number(channel))
 
     def __repr__(self) -> str:
         return f"<um.End {self.role}, SAPI {self.sapi}, {self.channel.name}, {self.state}>"
@@ -140,7 +140,7 @@ class End(_Endpoint):
 
     def open(self, info: "Octets") -> Effects:
         """Opens the link of SAPI 0, at the mobile, with 1 to 20 octets of information (18 on SACCH)."""
-        return self._call("open", _message("info", info))
+        return self._call("open", message_of("info", info))
 
     def open_bare(self) -> Effects:
         """Opens the link of SAPI 3, at either end."""
@@ -148,11 +148,11 @@ class End(_Endpoint):
 
     def send(self, message: "Octets") -> Effects:
         """Sends a message of 1 to 251 octets over the link."""
-        return self._call("send", _message("message", message))
+        return self._call("send", message_of("message", message))
 
     def unit(self, message: "Octets") -> Effects:
         """Sends 1 to 20 octets (18 on SACCH) in one UI frame, unacknowledged, in any state."""
-        return self._call("unit", _message("message", message))
+        return self._call("unit", message_of("message", message))
 
     def close(self) -> Effects:
         """Releases the link. Messages not acknowledged are discarded."""
@@ -184,15 +184,15 @@ class Side(_Endpoint):
 
     def end(self, sapi: "Sapi") -> End:
         """A copy of the endpoint of a SAPI."""
-        return End._of(self._state.raw[_END_SIZE:] if _sapi(sapi) else self._state.raw[:_END_SIZE])
+        return End._of(self._state.raw[_END_SIZE:] if sapi_number(sapi) else self._state.raw[:_END_SIZE])
 
     def timer_runs(self, sapi: "Sapi") -> bool:
         """Whether a frame of a SAPI awaits an answer, so that its T200 runs."""
-        return self._timer_runs(_sapi(sapi))
+        return self._timer_runs(sapi_number(sapi))
 
     def open(self, info: "Octets") -> Effects:
         """Opens the link of SAPI 0, at the mobile, with 1 to 20 octets of information (18 on SACCH)."""
-        return self._call("open", _message("info", info))
+        return self._call("open", message_of("info", info))
 
     def open_bare(self) -> Effects:
         """Opens the link of SAPI 3, at either side."""
@@ -200,19 +200,19 @@ class Side(_Endpoint):
 
     def send(self, sapi: "Sapi", message: "Octets") -> Effects:
         """Sends a message of 1 to 251 octets over the link of a SAPI."""
-        return self._call("send", _sapi(sapi), _message("message", message))
+        return self._call("send", sapi_number(sapi), message_of("message", message))
 
     def unit(self, sapi: "Sapi", message: "Octets") -> Effects:
         """Sends 1 to 20 octets (18 on SACCH) in one UI frame of a SAPI, unacknowledged, in any state."""
-        return self._call("unit", _sapi(sapi), _message("message", message))
+        return self._call("unit", sapi_number(sapi), message_of("message", message))
 
     def close(self, sapi: "Sapi") -> Effects:
         """Releases the link of a SAPI. Messages not acknowledged are discarded."""
-        return self._call("close", _sapi(sapi))
+        return self._call("close", sapi_number(sapi))
 
     def timer(self, sapi: "Sapi") -> Effects:
         """T200 of the link of a SAPI has expired."""
-        return self._call("timer", _sapi(sapi))
+        return self._call("timer", sapi_number(sapi))
 
     def take(self, octets: "Octets") -> Tuple[int, Effects]:
         """Processes a received block of 23 octets. Returns the SAPI of its endpoint, and the effects. A frame of a SAPI other than 0 and 3
@@ -222,13 +222,14 @@ class Side(_Endpoint):
         return sapi.value, effects
 
 
-def _sapi(sapi: Any) -> int:
+def sapi_number(sapi: Any) -> int:
+    """The number of a SAPI, 0 or 3."""
     if isinstance(sapi, bool) or not hasattr(sapi, "__index__") or sapi not in (0, 3):
         raise ValueError(f"sapi: {sapi!r}; expected 0 or 3")
     return int(sapi)
 
 
-def _message(name: str, values: Any) -> bytes:
+def message_of(name: str, values: Any) -> bytes:
     """A um_message. It is cut at 255 octets, which the library refuses as too long."""
     data = octets_of(name, values)[:255]
     return bytes([len(data)]) + data.ljust(255, b"\0")

@@ -30,10 +30,16 @@ _FRAME = struct.Struct("<8B20s")
 
 
 class Channel(enum.IntEnum):
-    """The channel, which decides where the frame starts in its block: on SACCH two layer 1 octets come first."""
+    """The channel. SDCCH or SACCH decides where the frame starts in its block: on SACCH two layer 1 octets come first. A time slot has
+    others too, whose blocks carry no LAPDm."""
 
     SDCCH = 0
     SACCH = 1
+    BCCH = 2
+    CCCH = 3
+    FCCH = 4
+    SCH = 5
+    RACH = 6
 
 
 SDCCH, SACCH = Channel.SDCCH, Channel.SACCH
