@@ -1,5 +1,5 @@
 /* um_soft.h - soft bits for um.h from what receivers write. Each call converts `count` values in order; soft may be the same memory as
- * the input, and must not overlap it otherwise.
+ * an input of octets, and must not overlap an input otherwise.
  *
  * A soft bit of um.h is from -127 (certainly 1) to 127 (certainly 0); 0 means unknown. Scale all bursts of a block by one factor, by the
  * noise and not by the strength of each burst, and rather too small than too large: docs/RECEIVING.md has what other scales cost. */
