@@ -389,7 +389,8 @@ enum UM_OCTET um_answer {
 	UM_END_FULL,        /* eight messages are not completely acknowledged yet */
 	UM_END_NONE,        /* the state is not valid */
 	UM_END_NO_CALL,     /* this call cannot open the link: wrong SAPI, or SAPI 0 at the network */
-	UM_END_NO_FRAME     /* the octets are not a frame; um_read_frame returns the reason */
+	UM_END_NO_FRAME,    /* the octets are not a frame; um_read_frame returns the reason */
+	UM_END_FREE         /* um_datalink_next: nothing is to be sent in this slot, and the block written is the fill frame */
 };
 
 /* Initialises an endpoint. False: no such role, SAPI (0 or 3) or channel. */
@@ -420,7 +421,7 @@ UM_ENUM(um_answer) um_end_close(um_end *end, um_effects *effects) UM_CALL;
  * while the answer is in transit, messages stay intact, but from then on each I frame is sent twice and every second answer is a REJ,
  * until the endpoint has nothing left to send. If T200 always expires too early, links fail although no frame is lost. To end the
  * doubling, pass each REJ to um_end_take as an RR with the same N(R); delivery is still guaranteed.
- * bindings/c/examples/event_loop.c manages T200 for both links of a channel. */
+ * A um_datalink (below) manages T200 for both links of a channel. */
 UM_ENUM(um_answer) um_end_timer(um_end *end, um_effects *effects) UM_CALL;
 
 /* Writes the fill frame, for a block in which nothing else is to be sent. */
@@ -467,6 +468,92 @@ UM_ENUM(um_answer) um_side_idle(const um_side *side, um_effects *effects) UM_CAL
 /* Processes a received block at the endpoint of its SAPI, and writes that SAPI, 0 or 3, to *sapi. A frame of another SAPI is ignored:
  * *sapi is then 0, and the effects are empty. UM_END_NO_FRAME: the octets are not a frame. */
 UM_ENUM(um_answer) um_side_take(um_side *side, const uint8_t octets[23], uint8_t *sapi, um_effects *effects) UM_CALL;
+
+/* Data links: one side of a channel WITH its loop. A data link holds both ends of the side, SAPI 0 and SAPI 3, and decides what goes
+ * into each slot. A slot is the time of one block each way (51 TDMA frames on SDCCH, 102 on SACCH). In each slot call um_datalink_take
+ * with what arrived, if anything did, then the calls of layer 3, then um_datalink_next for the block to send:
+ *
+ *   um_datalink link;
+ *   um_datalink_new(&link, UM_MOBILE, UM_SDCCH, 4, 4);
+ *   um_datalink_open(&link, &info);
+ *   for (;;) {
+ *           if (received(block)) um_datalink_take(&link, block, &report);   // then handle report
+ *           um_datalink_next(&link, layer1, block, &report);                // then handle report, transmit block
+ *   }
+ *
+ * There is no queue and no timer: the frame that awaits an answer is made in its slot, and T200 counts slots. T200 is at least 2 + 2d,
+ * where a block arrives d slots later than the slot after it was sent, and the same at both sides; 4 serves d = 0 and 1. For SAPI 3 take
+ * two slots more.
+ *
+ * UI frames stay outside: if um_datalink_next returns UM_END_FREE, the slot is free, and um_datalink_unit makes a block for it.
+ *
+ * The two layer 1 octets of a block on SACCH are the caller's: um_datalink_take ignores them, and um_datalink_next and
+ * um_datalink_unit write the two of `layer1` (on SDCCH they ignore `layer1`).
+ *
+ * At a mobile, a frame of SAPI 3 is dropped while SAPI 0 is not established: on SDCCH the data link knows; on SACCH the caller says it
+ * with um_datalink_main. */
+typedef struct um_timed_end {
+	um_end end;
+	uint8_t t200;       /* T200 in slots, not 0 */
+	uint8_t sent;       /* whether the frame that awaits an answer was sent; any value but 0 means yes */
+	uint8_t clock;      /* slots until that frame is due; 0: due */
+	uint8_t owed;       /* whether `answer` waits for its slot; any value but 0 means yes */
+	uint8_t answer[23]; /* a UA, DM, RR or REJ; zeros if none is owed */
+} um_timed_end;
+
+typedef struct um_datalink {
+	um_timed_end link0; /* SAPI 0 */
+	um_timed_end link3; /* SAPI 3 */
+	uint8_t heard0;     /* whether a SAPI 0 frame other than UI arrived since the last slot; any value but 0 means yes */
+	uint8_t main;       /* what um_datalink_main said last; any value but 0 means yes */
+} um_datalink;
+
+typedef struct um_report {
+	um_notice notices[3];   /* the notices in order; zeros from notice_count on */
+	uint8_t sapis[3];       /* the SAPI of each notice, 0 or 3; zeros from notice_count on */
+	uint8_t notice_count;
+} um_report;
+
+/* The calls return a um_answer. Unless it is UM_END_DONE, or UM_END_FREE of um_datalink_next, nothing is written. UM_END_NONE: the
+ * struct is no data link; this comes first. UM_END_NO_CALL: the SAPI is neither 0 nor 3, or um_datalink_open at the network. */
+
+/* Initialises a data link, with T200 of SAPI 0 and of SAPI 3 in slots. False: no such role or channel, or a T200 of 0. */
+bool um_datalink_new(um_datalink *link, uint8_t role, uint8_t channel, uint8_t t200, uint8_t t200_sapi3) UM_CALL;
+
+/* Whether the struct is a data link (one that was stored and read back, say). All other calls test it too. */
+bool um_datalink_valid(const um_datalink *link) UM_CALL;
+
+/* Opens the link of SAPI 0, at the mobile, with contention resolution: info, 1 to 20 octets (18 on SACCH), identifies the mobile. */
+UM_ENUM(um_answer) um_datalink_open(um_datalink *link, const um_message *info) UM_CALL;
+
+/* Opens the link of SAPI 3, at either side. If it is closed, its end starts afresh first; so does an end of SAPI 3 that is closed and
+ * receives the SABM of the other side. */
+UM_ENUM(um_answer) um_datalink_open_bare(um_datalink *link) UM_CALL;
+
+/* Sends a message of 1 to 251 octets over the open link of this SAPI. The link holds at most eight messages that are not acknowledged;
+ * then UM_END_FULL. */
+UM_ENUM(um_answer) um_datalink_send(um_datalink *link, uint8_t sapi, const um_message *message) UM_CALL;
+
+/* Writes a UI frame with 1 to 20 octets (18 on SACCH) to `block`, for a slot in which um_datalink_next returned UM_END_FREE. */
+UM_ENUM(um_answer) um_datalink_unit(const um_datalink *link, uint8_t sapi, const um_message *message, const uint8_t layer1[2],
+                                    uint8_t block[23]) UM_CALL;
+
+/* Releases the link of this SAPI. Messages not acknowledged are discarded. */
+UM_ENUM(um_answer) um_datalink_close(um_datalink *link, uint8_t sapi) UM_CALL;
+
+/* Local end release: the end of this SAPI starts afresh (idle, nothing held). Nothing is sent and nothing reported. */
+UM_ENUM(um_answer) um_datalink_close_local(um_datalink *link, uint8_t sapi) UM_CALL;
+
+/* At a mobile on SACCH: says whether SAPI 0 of the main channel is established (not said: no). On SDCCH and at the network it has no
+ * effect. */
+UM_ENUM(um_answer) um_datalink_main(um_datalink *link, bool established) UM_CALL;
+
+/* Processes a received block. UM_END_NO_FRAME: the octets are not a frame. */
+UM_ENUM(um_answer) um_datalink_take(um_datalink *link, const uint8_t block[23], um_report *report) UM_CALL;
+
+/* Writes the block for this slot. UM_END_DONE: a frame of SAPI 0 or 3. UM_END_FREE: nothing is to be sent, and the block is the fill
+ * frame. The report has the links that were given up (UM_ENDED, UM_FAILED). */
+UM_ENUM(um_answer) um_datalink_next(um_datalink *link, const uint8_t layer1[2], uint8_t block[23], um_report *report) UM_CALL;
 
 #ifdef __cplusplus
 }

@@ -17,7 +17,7 @@ use Rattle.{
     specs.{
       Abstraction.{HasSameStateVariables, HoldsUnackedMessages, Represents as WindowRepresents},
       Answers.{acknowledgement_by_nr, t200_result},
-      Calls.{frame_to_retransmit, t200_expiry},
+      Calls.{awaited_frame, t200_expiry},
       Ends.{EndpointState, HasWindowOfOne, IsBeforeOpen, IsPossibleSabmInfo, IsValidEndpoint, Outcome, Role, awaits_ack, n200, no_effect},
       Ends.{sends_frame, vr, ◌then◌},
       Rules.{accepts_segment, answers_segment, evaluates_nr, has_segment_to_send, reject_is_due, segment_notices, sends_next_segment},
@@ -309,7 +309,7 @@ t200_expiry-closes n e h most = grind (arith, nat_tests)
 
 -- at T200 expiry, an endpoint that has repeated a frame fewer than N200 times repeats the frame and counts the repetition
 pub t200_expiry-again : (n : ℕ) (e : EndpointState) (s : State) → e.state ≡ s → n ≡ n200 e.channel s → e.retries < n →
-    t200_expiry e ≡ sends_frame (frame_to_retransmit s e) (record e { retries = e.retries + 1 })
+    t200_expiry e ≡ sends_frame (awaited_frame true s e) (record e { retries = e.retries + 1 })
 t200_expiry-again n e s is h below = grind arith
 
 pub t200_result-spent : (e : EndpointState) → T.Spent ≡ t200_result e → n200 e.channel Open ≤ e.retries

@@ -220,7 +220,7 @@ impl Endpoint {
     }
 
     // Returns why this message cannot be sent in one frame (it is empty or longer than N201), or `None` if it can.
-    fn single_frame_refusal(&self, message: &[u8]) -> Option<Refused>
+    pub(crate) fn single_frame_refusal(&self, message: &[u8]) -> Option<Refused>
         ensures refusal { (e : EndpointState) → Represents self.now e
             → result ≡ first_refusal (single_frame_refusal_checks message.now e) }
         ensures some { IfNone result (1 ≤ length message.now) }

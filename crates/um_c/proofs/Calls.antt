@@ -58,7 +58,7 @@ state-number s = grind arith
 part-number : (p : ReassemblyState) → reassembly_from_number (reassembly_number p) ≡ Some p
 part-number p = grind arith
 
-is_nonzero-bit_of_bool : (b : Bool) → is_nonzero (bit_of_bool b) ≡ b
+pub is_nonzero-bit_of_bool : (b : Bool) → is_nonzero (bit_of_bool b) ≡ b
 is_nonzero-bit_of_bool b = grind arith
 
 pub octets-c_struct : (octets : List ℕ) → octets_in_buffer (message_buffer octets) ≡ octets
@@ -70,7 +70,7 @@ messages-c_struct k [] few = refl
 messages-c_struct zero (m ∷ ms) few = absurd (omega arith)
 messages-c_struct (suc k) (m ∷ ms) few = rw (octets-c_struct m, messages-c_struct k ms (omega arith)) refl
 
-end-c_struct : (x : EndpointValues) → length x.window.held ≤ 8 → endpoint_values_from (c_endpoint x) ≡ Some x
+pub end-c_struct : (x : EndpointValues) → length x.window.held ≤ 8 → endpoint_values_from (c_endpoint x) ≡ Some x
 end-c_struct x few =
     let few_held : nat_le (length x.window.held) 8 ≡ true = grind (arith, nat_tests) in
     rw (

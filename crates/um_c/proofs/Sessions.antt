@@ -20,7 +20,7 @@ use Rattle.{
     specs.{
       lapdm_link.{
         Claims.{AckedAtMostDelivered, Asked, Claims, HasNoticesInOrder, LogLine, Notified, answer_log_lines, is_same_role, is_same_sapi},
-        Events.{Ask, Close, Deliver, Event, Idle, Lose, OpenBare, Open, Request, Rival, SendUi, Send, T200Expiry, as_event_refusal},
+        Events.{Ask, Close, Deliver, Event, Idle, Lose, OpenBare, Open, Repeat, Request, Rival, SendUi, Send, T200Expiry, as_event_refusal},
         Events.{endpoint_call_of, event_step, other, rival_sabm, unbounded_capacity},
         Queues.{Queues, with_items_appended, without_oldest_item as queues_without_first},
         Worlds.{IsBenignExceptRrForRej, IsBenignEventExceptRrForRej, IsOldestSentOrRrForRej, World, answer_unless_refused, answers, answer},
@@ -28,7 +28,7 @@ use Rattle.{
       },
       lapdm_window.{
         Calls.{Call, Closes, IsCallAllowedForEndpoint, OpensWithoutInfo, Opens, SendsFillFrame, SendsUi, Sends, T200Expires, call_outcome},
-        Calls.{refusal_of, sends_sabm},
+        Calls.{Repeats, refusal_of, sends_sabm},
         Ends.{EndpointState, IsValidEndpoint, Mobile, Network, Outcome, Role, no_effect, response_frame, sapi_number, initial_endpoint},
         Tables.frame_outcome,
         declared.{Notice.Notice, Refused.Refused, Sapi.{TheVariants.{Three, Zero}, Sapi}},
@@ -236,6 +236,7 @@ module _ (channel : Channel) (w : World) (room : w.capacity ≡ unbounded_capaci
   asked r s (SendsUi m) placed = by_request r s (SendUi m)
   asked r s Closes placed = by_request r s Close
   asked r s T200Expires placed = by_request r s T200Expiry
+  asked r s Repeats placed = by_request r s Repeat
   asked r s SendsFillFrame placed = by_request r s Idle
 
   -- if a frame with the SAPI of an endpoint arrives, this endpoint receives the frame

@@ -32,7 +32,7 @@ pub(crate) const INVALID_ENDPOINT: u8 = 7;
 
 pub(crate) const CALL_NOT_SUPPORTED: u8 = 8;
 
-const INVALID_FRAME: u8 = 9;
+pub(crate) const INVALID_FRAME: u8 = 9;
 
 /// Writes the state of a new endpoint. Returns false, and writes nothing, if the role, SAPI or channel is invalid.
 #[unsafe(no_mangle)]
@@ -255,7 +255,7 @@ fn write_call_effects(answer: Result<(), Refused>, output: &Effects, effects: &m
     }
 }
 
-fn call_refusal_number(reason: Refused) -> u8
+pub(crate) fn call_refusal_number(reason: Refused) -> u8
     ensures { result ≡ call_refusal_number reason }
 {
     match reason {

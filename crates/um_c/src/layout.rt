@@ -3,6 +3,7 @@
 
 use crate::blocks::BlockReport;
 use crate::bursts::{AccessReport, SyncReport};
+use crate::datalinks::{CDataLink, CReport, CTimedEnd};
 use crate::effects::{CEffects, CNotice};
 use crate::erasing::Erasure;
 use crate::frames::CFrame;
@@ -35,6 +36,12 @@ const CHECK_ENDPOINT_SIZE: [u8; 2584] = [0; size_of::<CEndpoint>()];
 const CHECK_SIDE_SIZE: [u8; 5168] = [0; size_of::<CSide>()];
 
 const CHECK_NOTICE_SIZE: [u8; 272] = [0; size_of::<CNotice>()];
+
+const CHECK_TIMED_END_SIZE: [u8; 2616] = [0; size_of::<CTimedEnd>()];
+
+const CHECK_DATALINK_SIZE: [u8; 5240] = [0; size_of::<CDataLink>()];
+
+const CHECK_REPORT_SIZE: [u8; 824] = [0; size_of::<CReport>()];
 
 const CHECK_EFFECTS_SIZE: [u8; 864] = [0; size_of::<CEffects>()];
 

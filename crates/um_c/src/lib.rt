@@ -6,6 +6,7 @@
 
 mod blocks;
 mod bursts;
+mod datalinks;
 mod effects;
 mod ends;
 mod erasing;

@@ -1,10 +1,4 @@
-use Rattle.{
-  std.proofs.Common.{◌≡◌, ◌≢◌, ◌∙◌, None, Some, ap, refl, subst, sym, ℕ},
-  um_air.specs.lapdm_window.{Calls.Call, declared.Sapi.{Sapi, TheVariants.{Three, Zero}}},
-  lapdm_end.specs.Sides.other,
-  um_c.specs.{EndCalls.EndpointAnswersCall, SideCalls.{IsValidSide, SideAnswersCall, endpoint_of}, States.{IsCanonicalStruct, sapi_of}},
-  um_c.specs.declared.{states.CEndpoint.CEndpoint, sides.CSide.CSide, effects.CEffects.CEffects},
-}
+use Rattle.{std.proofs.Common.{◌≡◌, ◌≢◌, ◌∙◌, Some, ap, refl, subst, sym, ℕ}, um_air.specs.lapdm_window.{Calls.Call, declared.Sapi.{Sapi, TheVariants.{Three, Zero}}}, lapdm_end.specs.Sides.other, um_c.specs.{EndCalls.EndpointAnswersCall, SideCalls.{IsValidSide, SideAnswersCall, endpoint_of}, States.{IsCanonicalStruct, sapi_of}}, um_c.specs.declared.{states.CEndpoint.CEndpoint, sides.CSide.CSide, effects.CEffects.CEffects}}
 use Rattle.um_c.proofs.sides.call_endpoint_of_side.Goals as goal
 
 one_sapi : (s k : Sapi) (number : ℕ) → Some s ≡ sapi_of number → Some k ≡ sapi_of number → k ≡ s
