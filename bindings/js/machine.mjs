@@ -106,6 +106,13 @@ export class Machine {
     return kind === "oversize" ? { kind } : { kind, message: this.copy(at + 11, this.octets[at + 10]) };
   }
 
+  // the notices of a um_report, each with its SAPI
+  linkNotices() {
+    const sapis = this.output + 3 * NOTICE;
+    const notice = (_, i) => ({ sapi: this.octets[sapis + i], ...this.#notice(this.output + i * NOTICE) });
+    return Array.from({ length: this.octets[sapis + 3] }, notice);
+  }
+
   effects() {
     const at = this.output;
     const counts = at + 3 * NOTICE;

@@ -9,6 +9,7 @@
 
 import { integer, membersOf, octetsOf, place, putBits, putOctets, shown } from "./arguments.mjs";
 import { END, End, restored, Side } from "./ends.mjs";
+import { dataLinkFromBytes, newDataLink } from "./datalink.mjs";
 import { Machine } from "./machine.mjs";
 import { detectTraining, newSlot, receiveBlockErasing, slotFromBytes } from "./slot.mjs";
 import { frameOfTime, nextBlock, placeFrame, readBsic, readRa, readSch, timeOfFrame, writeBsic, writeRa, writeSch } from "./tdma.mjs";
@@ -18,6 +19,7 @@ export { softFromBits, softFromLlr, softFromSbits, softFromTrx } from "./argumen
 export { CHANNELS, KINDS, NOTICES, REASONS, REFUSALS, Refused, ROLES, STATES, UNREAD } from "./words.mjs";
 export { COMBINATIONS, DIRECTIONS, LOGICAL_CHANNELS, SLOT_REFUSALS } from "./words.mjs";
 export { End, Side } from "./ends.mjs";
+export { DataLink } from "./datalink.mjs";
 export { Slot } from "./slot.mjs";
 export { FRAMES } from "./tdma.mjs";
 
@@ -176,6 +178,13 @@ export class Um {
   }
   slotFromBytes(octets) {
     return slotFromBytes(this.#machine, octets);
+  }
+
+  dataLink(role, options = {}) {
+    return newDataLink(this.#machine, role, options);
+  }
+  dataLinkFromBytes(octets) {
+    return dataLinkFromBytes(this.#machine, octets);
   }
 
   end(role, options = {}) {

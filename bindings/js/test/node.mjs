@@ -6,6 +6,7 @@ import { isMainThread, parentPort, Worker, workerData } from "node:worker_thread
 import { load } from "../um.mjs";
 import { compare, times } from "./compare.mjs";
 import { tryArguments } from "./arguments.mjs";
+import { tryDataLinks } from "./datalinks.mjs";
 import { tryHostile } from "./hostile.mjs";
 import { trySlots } from "./slots.mjs";
 
@@ -34,6 +35,8 @@ if (!isMainThread) {
   console.log(`js: ${tryHostile(um, 3000)} calls with hostile arguments are refused, or answered as what they stand for`);
   trySlots(um);
   console.log("js: time slots, SCH and random access are as the standard's tables have them");
+  tryDataLinks(um);
+  console.log("js: two data links deliver every message over a path that loses one block in ten");
   if (timed) console.log("js: us per call in node:", JSON.stringify(times(um)));
   process.exitCode = wrong.length ? 1 : 0;
 }

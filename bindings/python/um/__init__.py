@@ -36,6 +36,7 @@ from .blocks import (
     Margin, Repair, Report, margin_block, receive_access, receive_block, receive_block_among, receive_sync, repair, send_access,
     send_block, send_sync,
 )
+from .datalink import DataLink, LinkNotice, Sent
 from .effects import NOTICES, REASONS, REFUSALS, SLOT_REFUSALS, Acked, Closed, Effects, Notice, Oversize, Received, Refused
 from .ends import ROLES, STATES, End, Side
 from .frames import KINDS, SACCH, SDCCH, UNREAD, Channel, Frame, NoFrame, read_frame, write_frame
@@ -50,12 +51,12 @@ from .tdma import (
 )
 
 __all__ = [
-    "Acked", "COMBINATIONS", "Channel", "Closed", "DIRECTIONS", "Effects", "End", "Erasure", "FRAMES", "Frame", "KINDS", "Margin",
-    "NOTICES", "NoFrame", "Notice", "Oversize", "Place", "REASONS", "REFUSALS", "ROLES", "Received", "Refused", "Repair", "Report",
-    "SACCH", "SDCCH", "SLOT_REFUSALS", "STATES", "Sch", "Side", "Slot", "SlotBlock", "Time", "UNREAD", "__version__", "detect_training",
-    "frame_of_time", "margin_block", "margin_blocks", "next_block", "place_frame", "read_bsic", "read_frame", "read_frames", "read_ra",
-    "read_sch", "receive_access", "receive_accesses", "receive_block", "receive_block_among", "receive_block_erasing", "receive_blocks",
-    "receive_blocks_among", "receive_sync", "receive_syncs", "repair", "repair_words", "send_access", "send_block", "send_blocks",
-    "send_sync", "soft_from_bits", "soft_from_llr", "soft_from_sbits", "soft_from_trx", "time_of_frame", "write_bsic", "write_frame",
-    "write_ra", "write_sch",
+    "Acked", "COMBINATIONS", "Channel", "Closed", "DIRECTIONS", "DataLink", "Effects", "End", "Erasure", "FRAMES", "Frame", "KINDS",
+    "LinkNotice", "Margin", "NOTICES", "NoFrame", "Notice", "Oversize", "Place", "REASONS", "REFUSALS", "ROLES", "Received", "Refused",
+    "Repair", "Report", "SACCH", "SDCCH", "SLOT_REFUSALS", "STATES", "Sch", "Sent", "Side", "Slot", "SlotBlock", "Time", "UNREAD",
+    "__version__", "detect_training", "frame_of_time", "margin_block", "margin_blocks", "next_block", "place_frame", "read_bsic",
+    "read_frame", "read_frames", "read_ra", "read_sch", "receive_access", "receive_accesses", "receive_block", "receive_block_among",
+    "receive_block_erasing", "receive_blocks", "receive_blocks_among", "receive_sync", "receive_syncs", "repair", "repair_words",
+    "send_access", "send_block", "send_blocks", "send_sync", "soft_from_bits", "soft_from_llr", "soft_from_sbits", "soft_from_trx",
+    "time_of_frame", "write_bsic", "write_frame", "write_ra", "write_sch",
 ]

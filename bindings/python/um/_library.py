@@ -62,6 +62,17 @@ _CALLS: Dict[str, Tuple[Any, Tuple[Any, ...]]] = {
     "um_slot_new": (_BOOL, (_POINTER, _U8, _U8, _U8, _U8, _U8)),
     "um_slot_take": (_U8, (_POINTER, _U32, _POINTER, _POINTER)),
     "um_slot_miss": (_U8, (_POINTER, _U32, _POINTER)),
+    "um_datalink_new": (_BOOL, (_POINTER, _U8, _U8, _U8, _U8)),
+    "um_datalink_valid": (_BOOL, (_POINTER,)),
+    "um_datalink_open": (_U8, (_POINTER, _POINTER)),
+    "um_datalink_open_bare": (_U8, (_POINTER,)),
+    "um_datalink_send": (_U8, (_POINTER, _U8, _POINTER)),
+    "um_datalink_unit": (_U8, (_POINTER, _U8, _POINTER, _POINTER, _POINTER)),
+    "um_datalink_close": (_U8, (_POINTER, _U8)),
+    "um_datalink_close_local": (_U8, (_POINTER, _U8)),
+    "um_datalink_main": (_U8, (_POINTER, _BOOL)),
+    "um_datalink_take": (_U8, (_POINTER, _POINTER, _POINTER)),
+    "um_datalink_next": (_U8, (_POINTER, _POINTER, _POINTER, _POINTER)),
 }
 
 
