@@ -23,7 +23,7 @@ static inline void um_soft_from_sbits(const int8_t *sbits, int8_t *soft, size_t 
 }
 
 /* From octets of the TRX protocol (osmo-trx, fake_trx), 0 (certainly 0) to 254 or 255 (certainly 1), where 127 is unknown. */
-static inline void um_soft_from_octets(const uint8_t *octets, int8_t *soft, size_t count)
+static inline void um_soft_from_trx(const uint8_t *octets, int8_t *soft, size_t count)
 {
 	for (size_t i = 0; i < count; i++)
 		soft[i] = (int8_t)(octets[i] > 254 ? -127 : 127 - octets[i]);
@@ -41,16 +41,21 @@ static inline bool um_soft_from_bits(const uint8_t *bits, int8_t *soft, size_t c
 }
 
 /* From logarithms of likelihood ratios, ln(P(bit is 0) / P(bit is 1)), or other numbers that are positive for a 0: times scale (such as
- * UM_LLR_SCALE), rounded to the nearest (halves away from 0), and limited to -127 and 127. If positive numbers mean 1, pass a negative
+ * UM_LLR_SCALE), rounded to the nearest (halves to even), and limited to -127 and 127. If positive numbers mean 1, pass a negative
  * scale. False: a number is not a number; nothing is written. */
-static inline bool um_soft_from_llrs(const float *llrs, float scale, int8_t *soft, size_t count)
+static inline bool um_soft_from_llr(const float *llrs, float scale, int8_t *soft, size_t count)
 {
 	for (size_t i = 0; i < count; i++)
 		if (llrs[i] * scale != llrs[i] * scale)
 			return false;
 	for (size_t i = 0; i < count; i++) {
 		float value = llrs[i] * scale;
-		soft[i] = (int8_t)(value >= 127 ? 127 : value <= -127 ? -127 : value < 0 ? value - 0.5f : value + 0.5f);
+		value = value > 127 ? 127 : value < -127 ? -127 : value;
+		int whole = (int)value; /* towards 0 */
+		float rest = value - (float)whole;
+		whole += rest > 0.5f || (rest == 0.5f && whole % 2) ? 1 : 0;
+		whole -= rest < -0.5f || (rest == -0.5f && whole % 2) ? 1 : 0;
+		soft[i] = (int8_t)whole;
 	}
 	return true;
 }

@@ -234,21 +234,21 @@ static void soft_bits(void)
 {
 	static const int8_t sbits[3] = { -128, 0, 127 };
 	static const uint8_t octets[5] = { 0, 127, 128, 254, 255 }, bits[2] = { 1, 2 };
-	static const float llrs[6] = { 0.3f, -0.3f, 100.0f, -100.0f, 0.125f, -0.125f };
+	static const float llrs[6] = { 0.3f, -0.3f, 100.0f, -100.0f, 0.125f, -0.375f };
 	int8_t soft[6];
 
 	um_soft_from_sbits(sbits, soft, 3);
 	check(soft[0] == -127 && soft[1] == 0 && soft[2] == 127, "libosmocore's soft bits");
-	um_soft_from_octets(octets, soft, 5);
+	um_soft_from_trx(octets, soft, 5);
 	check(soft[0] == 127 && soft[1] == 0 && soft[2] == -1 && soft[3] == -127 && soft[4] == -127, "octets of the TRX protocol");
 	soft[0] = 9;
 	check(!um_soft_from_bits(bits, soft, 2) && soft[0] == 9, "a bit of 2 is refused");
-	check(um_soft_from_llrs(llrs, UM_LLR_SCALE, soft, 6) && soft[0] == 1 && soft[1] == -1 && soft[2] == 127 && soft[3] == -127
-		&& soft[4] == 1 && soft[5] == -1, "logarithms of likelihood ratios, rounded away from 0 and limited");
-	check(um_soft_from_llrs(llrs, -10, soft, 2) && soft[0] == -3 && soft[1] == 3, "a negative scale for numbers that are positive for a 1");
+	check(um_soft_from_llr(llrs, UM_LLR_SCALE, soft, 6) && soft[0] == 1 && soft[1] == -1 && soft[2] == 127 && soft[3] == -127
+		&& soft[4] == 0 && soft[5] == -2, "logarithms of likelihood ratios, halves rounded to even, and limited");
+	check(um_soft_from_llr(llrs, -10, soft, 2) && soft[0] == -3 && soft[1] == 3, "a negative scale for numbers that are positive for a 1");
 	float none[2] = { 1, NAN };
 	soft[0] = 9;
-	check(!um_soft_from_llrs(none, 4, soft, 2) && soft[0] == 9, "what is not a number is refused");
+	check(!um_soft_from_llr(none, 4, soft, 2) && soft[0] == 9, "what is not a number is refused");
 }
 
 int main(int argc, char **argv)
