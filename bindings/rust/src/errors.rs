@@ -1,17 +1,36 @@
-//! The reasons for which calls refuse. Each is a [`core::error::Error`].
+//! The reasons for which calls refuse. Each is an `Error` of core (of std before Rust 1.81).
 
-use core::{error::Error, fmt};
+use crate::words::words;
+use core::fmt;
+
+// core has it from Rust 1.81 on
+#[cfg(um_core_error)]
+use core::error::Error;
+#[cfg(not(um_core_error))]
+extern crate std;
+#[cfg(not(um_core_error))]
+use std::error::Error;
 
 /// The invalid argument of a call.
-#[derive(Clone, Copy, Debug, PartialEq, Eq)]
+#[derive(Clone, Copy, Debug, PartialEq, Eq, Hash)]
+#[non_exhaustive]
 pub enum Invalid {
+    /// A training sequence above 7.
     TrainingSequence,
+    /// A soft bit of -128.
     SoftValue,
-    /// The number of words to try.
+    /// All values are 0 or 1, and one is 1: hard bits in place of soft bits.
+    HardBits,
+    /// The number of words to try is 0 or above 64.
     Words,
+    /// An octet that should be a bit is neither 0 nor 1.
     Bit,
     /// The fields describe no frame that fits the channel.
     Frame,
+    /// A number that is neither of the SAPIs 0 and 3.
+    Sapi,
+    /// A ratio that is not a number, or a scale that is 0 or not finite.
+    Ratio,
 }
 
 impl fmt::Display for Invalid {
@@ -19,9 +38,12 @@ impl fmt::Display for Invalid {
         f.write_str(match self {
             Invalid::TrainingSequence => "a training sequence above 7; expected 0 to 7",
             Invalid::SoftValue => "a soft bit of -128; expected -127 to 127",
+            Invalid::HardBits => "each value is 0 or 1, so these are hard bits; soft_from_bits makes soft bits of them",
             Invalid::Words => "an invalid number of words; expected 1 to 64",
             Invalid::Bit => "an octet above 1; expected bits, 0 or 1",
             Invalid::Frame => "the fields describe no LAPDm frame that fits the channel",
+            Invalid::Sapi => "an invalid SAPI; expected 0 or 3",
+            Invalid::Ratio => "a ratio that is not a number, or a scale of 0 or without end",
         })
     }
 }
@@ -29,7 +51,7 @@ impl fmt::Display for Invalid {
 impl Error for Invalid {}
 
 /// Why octets are not a frame.
-#[derive(Clone, Copy, Debug, PartialEq, Eq)]
+#[derive(Clone, Copy, Debug, PartialEq, Eq, Hash)]
 pub enum NoFrame {
     /// Another link protocol.
     Lpd,
@@ -46,6 +68,8 @@ pub enum NoFrame {
     /// M is set in a frame other than I.
     More,
 }
+
+words!(NoFrame: Lpd "lpd", Ea "ea", Control "control", El "el", Length "length", Empty "empty", More "more");
 
 impl fmt::Display for NoFrame {
     fn fmt(&self, f: &mut fmt::Formatter<'_>) -> fmt::Result {
@@ -64,7 +88,7 @@ impl fmt::Display for NoFrame {
 impl Error for NoFrame {}
 
 /// Why an endpoint refuses a call. Its state is then unchanged.
-#[derive(Clone, Copy, Debug, PartialEq, Eq)]
+#[derive(Clone, Copy, Debug, PartialEq, Eq, Hash)]
 pub enum Refused {
     /// The link was opened already.
     NotIdle,
@@ -84,6 +108,9 @@ pub enum Refused {
     NoFrame,
 }
 
+words!(Refused: NotIdle "notidle", NotOpen "notopen", NotRunning "notrunning", Empty "empty", TooLong "toolong", Full "full",
+    NoCall "nocall", NoFrame "noframe");
+
 impl fmt::Display for Refused {
     fn fmt(&self, f: &mut fmt::Formatter<'_>) -> fmt::Result {
         f.write_str(match self {
@@ -102,3 +129,38 @@ impl fmt::Display for Refused {
 }
 
 impl Error for Refused {}
+
+/// Why octets are not a saved state.
+#[derive(Clone, Copy, Debug, PartialEq, Eq, Hash)]
+pub enum NotSaved {
+    /// The number of octets.
+    Length {
+        /// The number of octets that were passed.
+        found: usize,
+        /// The number of octets of the saved form.
+        expected: usize,
+    },
+    /// The octets begin with another head: they are something else, or of another version.
+    Head {
+        /// The first four octets.
+        found: [u8; 4],
+        /// The head of the saved form.
+        expected: &'static [u8; 4],
+    },
+    /// No endpoint has this state, or the endpoints are no side.
+    NoEnd,
+}
+
+impl fmt::Display for NotSaved {
+    fn fmt(&self, f: &mut fmt::Formatter<'_>) -> fmt::Result {
+        match self {
+            NotSaved::Length { found, expected } => write!(f, "{found} octets; expected {expected}"),
+            NotSaved::Head { found, expected } => {
+                write!(f, "the octets begin with \"{}\"; expected \"{}\"", found.escape_ascii(), expected.escape_ascii())
+            }
+            NotSaved::NoEnd => f.write_str("the state is not valid"),
+        }
+    }
+}
+
+impl Error for NotSaved {}
