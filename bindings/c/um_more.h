@@ -21,10 +21,10 @@ static inline const char *um_kind_name(unsigned kind)
 	return UM_NAME(names, kind);
 }
 
-/* A um_channel. */
+/* A um_channel or um_common_channel. */
 static inline const char *um_channel_name(unsigned channel)
 {
-	static const char *const names[] = { "sdcch", "sacch" };
+	static const char *const names[] = { "sdcch", "sacch", "bcch", "ccch", "fcch", "sch", "rach" };
 	return UM_NAME(names, channel);
 }
 
@@ -79,6 +79,34 @@ static inline const char *um_repaired_name(unsigned repaired)
 	return UM_NAME(names, repaired);
 }
 
+/* A um_combination. */
+static inline const char *um_combination_name(unsigned combination)
+{
+	static const char *const names[] = { "bcch_ccch", "bcch_ccch_sdcch4", "sdcch8", "tch_f" };
+	return UM_NAME(names, combination);
+}
+
+/* A um_direction. */
+static inline const char *um_direction_name(unsigned direction)
+{
+	static const char *const names[] = { "downlink", "uplink" };
+	return UM_NAME(names, direction);
+}
+
+/* A um_placing. */
+static inline const char *um_placing_name(unsigned placing)
+{
+	static const char *const names[] = { "placed", "unplaced", "noplace" };
+	return UM_NAME(names, placing);
+}
+
+/* A um_taken: why a receiver of a time slot refused a frame. */
+static inline const char *um_taken_name(unsigned taken)
+{
+	static const char *const names[] = { "taken", "block", "nosoft", "noslot", "noframe", "doubled", "late" };
+	return UM_NAME(names, taken);
+}
+
 #undef UM_NAME
 
 /* Whether values that should be soft bits are hard bits: all are 0 or 1, and one is 1. Test all values of a call at once, such as the 592
@@ -110,12 +138,13 @@ static inline bool um_side_timer_runs(const um_side *side, uint8_t sapi)
 	return um_side_timer(&copy, sapi, &effects) == UM_END_DONE;
 }
 
-/* Saved states: the form that all languages read (docs/LIBRARY.md, Save a state). It is the head "umE1" or "umS1", then the fields in the
+/* Saved states: the form that all languages read (docs/LIBRARY.md, Save a state). It is the head "umE1", "umS1" or "umT1", then the fields in the
  * order of um.h without padding, each number least significant octet first. */
 
 enum { UM_HEAD_OCTETS = 4, UM_FIELD_OCTETS = 2581 };
 #define UM_END_OCTETS 2585
 #define UM_SIDE_OCTETS 5166
+#define UM_SLOT_OCTETS 610
 
 static inline void um_end_save_fields(const um_end *end, uint8_t *octets)
 {
@@ -170,6 +199,44 @@ static inline bool um_side_from_bytes(um_side *side, const uint8_t octets[UM_SID
 	    um_side_idle(&restored, &effects) != UM_END_DONE)
 		return false;
 	*side = restored;
+	return true;
+}
+
+static inline void um_save_frame(uint32_t frame, uint8_t octets[4])
+{
+	for (int i = 0; i < 4; i++)
+		octets[i] = (uint8_t)(frame >> 8 * i);
+}
+
+static inline uint32_t um_restore_frame(const uint8_t octets[4])
+{
+	return octets[0] | (uint32_t)octets[1] << 8 | (uint32_t)octets[2] << 16 | (uint32_t)octets[3] << 24;
+}
+
+/* Saves a receiver of a time slot. */
+static inline void um_slot_to_bytes(const um_slot *slot, uint8_t octets[UM_SLOT_OCTETS])
+{
+	memcpy(octets, "umT1", UM_HEAD_OCTETS);
+	um_save_frame(slot->last, octets + 4);
+	um_save_frame(slot->first, octets + 8);
+	memcpy(octets + 12, (const uint8_t *)slot + offsetof(um_slot, combination), UM_SLOT_OCTETS - 12);
+}
+
+/* Restores a receiver of a time slot. False: the octets are not a saved one of this version, or none has this state; nothing is written. */
+static inline bool um_slot_from_bytes(um_slot *slot, const uint8_t octets[UM_SLOT_OCTETS])
+{
+	um_slot restored, copy;
+	um_slot_block block;
+	if (memcmp(octets, "umT1", UM_HEAD_OCTETS) != 0)
+		return false;
+	memset(&restored, 0, sizeof restored);
+	restored.last = um_restore_frame(octets + 4);
+	restored.first = um_restore_frame(octets + 8);
+	memcpy((uint8_t *)&restored + offsetof(um_slot, combination), octets + 12, UM_SLOT_OCTETS - 12);
+	copy = restored; /* a call tests the state */
+	if (um_slot_miss(&copy, (restored.last + 1) % UM_FRAMES, &block) == UM_SLOT_NONE)
+		return false;
+	*slot = restored;
 	return true;
 }
 

@@ -42,11 +42,13 @@ static inline bool um_soft_from_bits(const uint8_t *bits, int8_t *soft, size_t c
 
 /* From logarithms of likelihood ratios, ln(P(bit is 0) / P(bit is 1)), or other numbers that are positive for a 0: times scale (such as
  * UM_LLR_SCALE), rounded to the nearest (halves to even), and limited to -127 and 127. If positive numbers mean 1, pass a negative
- * scale. False: a number is not a number; nothing is written. */
+ * scale. False: a number is not a number, or scale is 0 or not finite; nothing is written. */
 static inline bool um_soft_from_llr(const float *llrs, float scale, int8_t *soft, size_t count)
 {
+	if (!(scale > 0 || scale < 0) || !(scale - scale >= 0)) /* infinity less itself is not a number */
+		return false;
 	for (size_t i = 0; i < count; i++)
-		if (llrs[i] * scale != llrs[i] * scale)
+		if (!(llrs[i] >= 0 || llrs[i] < 0))
 			return false;
 	for (size_t i = 0; i < count; i++) {
 		float value = llrs[i] * scale;

@@ -30,7 +30,11 @@ static void words(const char *(*name)(unsigned), const char *wanted)
 static void names(void)
 {
 	words(um_kind_name, "i rr rnr rej sabm dm ui disc ua");
-	words(um_channel_name, "sdcch sacch");
+	words(um_channel_name, "sdcch sacch bcch ccch fcch sch rach");
+	words(um_combination_name, "bcch_ccch bcch_ccch_sdcch4 sdcch8 tch_f");
+	words(um_direction_name, "downlink uplink");
+	words(um_placing_name, "placed unplaced noplace");
+	words(um_taken_name, "taken block nosoft noslot noframe doubled late");
 	words(um_role_name, "mobile network");
 	words(um_state_name, "idle opening open closing closed");
 	words(um_notice_name, "none opened got unit acked oversize closed");
@@ -117,12 +121,36 @@ static void saved_sides(void)
 	check(um_end_from_bytes(&end, octets) && !um_side_from_bytes(&back, octets), "a saved endpoint is no side");
 }
 
+static void saved_slots(void)
+{
+	um_slot slot, back, before;
+	um_slot_block block;
+	int8_t burst[148] = { -5 };
+	uint8_t octets[UM_SLOT_OCTETS], again[UM_SLOT_OCTETS];
+	check(um_slot_new(&slot, UM_SDCCH8, UM_UPLINK, 3, 64, 1), "a receiver");
+	burst[147] = 9;
+	check(um_slot_take(&slot, 15, burst, &block) == UM_SLOT_TAKEN, "the first burst of SDCCH 0 in the uplink");
+	um_slot_to_bytes(&slot, octets);
+	check(!memcmp(octets, "umT1\x0f\0\0\0\x0f\0\0\0\2\1\3\x40\1\1\xfb", 19) && octets[18 + 147] == 9 && octets[18 + 148] == 0,
+		"last and first frame 15; SDCCH/8, uplink, time slot 3, 64 words, one erasure, one burst");
+	check(um_slot_from_bytes(&back, octets), "it is restored");
+	um_slot_to_bytes(&back, again);
+	check(!memcmp(octets, again, sizeof octets), "and saved again");
+	memset(&back, 0xa5, sizeof back);
+	before = back;
+	octets[15] = 0;
+	check(!um_slot_from_bytes(&back, octets) && !memcmp(&back, &before, sizeof back), "no receiver tries no words");
+	octets[15] = 1, octets[3] = '2';
+	check(!um_slot_from_bytes(&back, octets), "another version");
+}
+
 int main(void)
 {
 	names();
 	hard_bits();
 	saved_ends();
 	saved_sides();
+	saved_slots();
 	printf("library: um_more.h: names, hard bits, T200 and saved states%s\n", failed ? ": failed" : "");
 	return failed;
 }

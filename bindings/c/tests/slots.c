@@ -245,6 +245,12 @@ static void soft_bits(void)
 	check(!um_soft_from_bits(bits, soft, 2) && soft[0] == 9, "a bit of 2 is refused");
 	check(um_soft_from_llr(llrs, UM_LLR_SCALE, soft, 6) && soft[0] == 1 && soft[1] == -1 && soft[2] == 127 && soft[3] == -127
 		&& soft[4] == 0 && soft[5] == -2, "logarithms of likelihood ratios, halves rounded to even, and limited");
+	static const float halves[8] = { 1.5f, 2.5f, -1.5f, -2.5f, 126.5f, -126.5f, INFINITY, -INFINITY };
+	static const int8_t even[8] = { 2, 2, -2, -2, 126, -126, 127, -127 };
+	int8_t rounded[8];
+	check(um_soft_from_llr(halves, 1, rounded, 8) && !memcmp(rounded, even, 8), "halves to even, and infinities");
+	check(!um_soft_from_llr(halves, 0, rounded, 8) && !um_soft_from_llr(halves, INFINITY, rounded, 8)
+		&& !um_soft_from_llr(halves, NAN, rounded, 8) && !memcmp(rounded, even, 8), "a scale of 0 or without end is refused");
 	check(um_soft_from_llr(llrs, -10, soft, 2) && soft[0] == -3 && soft[1] == 3, "a negative scale for numbers that are positive for a 1");
 	float none[2] = { 1, NAN };
 	soft[0] = 9;

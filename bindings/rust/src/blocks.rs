@@ -128,7 +128,7 @@ extern "C" {
 // values.
 
 // Hard bits passed by mistake would be decoded, each 1 as a weak 0. Zeros alone are a lost block.
-fn not_hard<const N: usize>(bursts: &[[i8; N]]) -> Result<(), Invalid> {
+pub(crate) fn not_hard<const N: usize>(bursts: &[[i8; N]]) -> Result<(), Invalid> {
     let are_hard = bursts.iter().flatten().all(|value| matches!(value, 0 | 1)) && bursts.iter().flatten().any(|&value| value == 1);
     if are_hard { Err(Invalid::HardBits) } else { Ok(()) }
 }
@@ -143,7 +143,7 @@ pub fn send_block(octets: &[u8; 23], tsc: u8) -> Result<[[u8; 148]; 4], Invalid>
     unsafe { um_send_block(octets, tsc, &mut bursts) }.then_some(bursts).ok_or(Invalid::TrainingSequence)
 }
 
-const NO_BLOCK: BlockReport =
+pub(crate) const NO_BLOCK: BlockReport =
     BlockReport { metric: 0, wrong_training: 0, wrong_coded: 0, tsc: 0, accepted: 0, octets: [0; 23], word: [0; 228] };
 
 /// Decodes four bursts by maximum likelihood.

@@ -31,6 +31,24 @@ pub enum Invalid {
     Sapi,
     /// A ratio that is not a number, or a scale that is 0 or not finite.
     Ratio,
+    /// The number of bursts to erase is above 4.
+    Erasures,
+    /// A frame number that does not exist.
+    FrameNumber,
+    /// T1 is above 2047, T2 above 25 or T3 above 50.
+    Time,
+    /// A base station identity code above 63.
+    Bsic,
+    /// The frame has no synchronisation burst.
+    NoSch,
+    /// A time slot above 7.
+    TimeSlot,
+    /// The combination has no such channel in this direction.
+    Channel,
+    /// This frame was taken last.
+    Doubled,
+    /// This frame is before the one taken last.
+    Late,
 }
 
 impl fmt::Display for Invalid {
@@ -43,6 +61,15 @@ impl fmt::Display for Invalid {
             Invalid::Bit => "an octet above 1; expected bits, 0 or 1",
             Invalid::Frame => "the fields describe no LAPDm frame that fits the channel",
             Invalid::Sapi => "an invalid SAPI; expected 0 or 3",
+            Invalid::Erasures => "an invalid number of erasures; expected 0 to 4",
+            Invalid::FrameNumber => "an invalid frame number; expected 0 to 2715647",
+            Invalid::Time => "an invalid time; expected T1 up to 2047, T2 up to 25 and T3 up to 50",
+            Invalid::Bsic => "an invalid base station identity code; expected 0 to 63",
+            Invalid::NoSch => "a frame without a synchronisation burst; expected a T3 of 1, 11, 21, 31 or 41",
+            Invalid::TimeSlot => "an invalid time slot; expected 0 to 7",
+            Invalid::Channel => "the combination has no such channel in this direction",
+            Invalid::Doubled => "this frame was taken last; expected a later one",
+            Invalid::Late => "this frame is before the one taken last; expected a later one",
             Invalid::Ratio => "a ratio that is not a number, or a scale of 0 or without end",
         })
     }
@@ -149,6 +176,8 @@ pub enum NotSaved {
     },
     /// No endpoint has this state, or the endpoints are no side.
     NoEnd,
+    /// No receiver of a time slot has this state.
+    NoSlot,
 }
 
 impl fmt::Display for NotSaved {
@@ -158,7 +187,7 @@ impl fmt::Display for NotSaved {
             NotSaved::Head { found, expected } => {
                 write!(f, "the octets begin with \"{}\"; expected \"{}\"", found.escape_ascii(), expected.escape_ascii())
             }
-            NotSaved::NoEnd => f.write_str("the state is not valid"),
+            NotSaved::NoEnd | NotSaved::NoSlot => f.write_str("the state is not valid"),
         }
     }
 }
