@@ -9,6 +9,7 @@
 #ifndef UM_HPP
 #define UM_HPP
 #include "um_names.hpp"
+#include "um_soft.h"
 #include <array>
 #include <cstddef>
 #include <cstdint>
@@ -76,6 +77,32 @@ template <std::size_t Count> constexpr std::array<std::int8_t, Count> soft_from_
 	std::array<std::int8_t, Count> soft{};
 	for (std::size_t i = 0; i < Count; i++)
 		soft[i] = bits[i] ? std::int8_t{-127} : std::int8_t{127};
+	return soft;
+}
+
+// Soft bits of logarithms of likelihood ratios, or other numbers that are positive for a 0; a negative scale for those positive for a 1.
+template <std::size_t Count>
+checked<std::array<std::int8_t, Count>> soft_from_llr(const std::array<float, Count> &ratios, float scale = UM_LLR_SCALE)
+{
+	std::array<std::int8_t, Count> soft;
+	if (!um_soft_from_llr(ratios.data(), scale, soft.data(), Count))
+		return invalid::ratio;
+	return soft;
+}
+
+// Soft bits of libosmocore's sbit_t: -128 becomes -127.
+template <std::size_t Count> std::array<std::int8_t, Count> soft_from_sbits(const std::array<std::int8_t, Count> &sbits)
+{
+	std::array<std::int8_t, Count> soft;
+	um_soft_from_sbits(sbits.data(), soft.data(), Count);
+	return soft;
+}
+
+// Soft bits of octets of the TRX protocol: 0 a certain 0 .. 255 a certain 1.
+template <std::size_t Count> std::array<std::int8_t, Count> soft_from_trx(const std::array<std::uint8_t, Count> &values)
+{
+	std::array<std::int8_t, Count> soft;
+	um_soft_from_trx(values.data(), soft.data(), Count);
 	return soft;
 }
 
@@ -223,4 +250,5 @@ inline checked<block> write_frame(const um_frame &fields, channel on = channel::
 } // namespace um
 
 #include "um_ends.hpp"
+#include "um_slots.hpp"
 #endif

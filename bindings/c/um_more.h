@@ -138,8 +138,8 @@ static inline bool um_side_timer_runs(const um_side *side, uint8_t sapi)
 	return um_side_timer(&copy, sapi, &effects) == UM_END_DONE;
 }
 
-/* Saved states: the form that all languages read (docs/LIBRARY.md, Save a state). It is the head "umE1", "umS1" or "umT1", then the fields in the
- * order of um.h without padding, each number least significant octet first. */
+/* Saved states: the form that all languages read (docs/LIBRARY.md, Save a state). It is the head "umE1", "umS1" or "umT1", then the
+ * fields in the order of um.h without padding, each number least significant octet first. */
 
 enum { UM_HEAD_OCTETS = 4, UM_FIELD_OCTETS = 2581 };
 #define UM_END_OCTETS 2585

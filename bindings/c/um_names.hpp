@@ -20,7 +20,14 @@ enum class reason : std::uint8_t { contention, failed, refused, released };
 enum class answer : std::uint8_t { ok, notidle, notopen, notrunning, empty, toolong, full, noend, nocall, noframe };
 enum class reading : std::uint8_t { frame, lpd, ea, control, el, length, empty, more, nochannel };
 enum class repaired : std::uint8_t { holds, repaired, norepair, nobits };
-enum class invalid : std::uint8_t { none, training_sequence, soft_value, hard_bits, words, bit, frame };
+enum class combination : std::uint8_t { bcch_ccch, bcch_ccch_sdcch4, sdcch8, tch_f };
+enum class direction : std::uint8_t { downlink, uplink };
+enum class carried : std::uint8_t { sdcch, sacch, bcch, ccch, fcch, sch, rach };
+enum class placing : std::uint8_t { placed, unplaced, noplace };
+enum class taken : std::uint8_t { taken, block, nosoft, noslot, noframe, doubled, late, hardbits };
+enum class invalid : std::uint8_t {
+	none, training_sequence, soft_value, hard_bits, words, bit, frame, ratio, erasures, frame_number, time, bsic, sch, timeslot, channel
+};
 
 template <class Enum> constexpr std::uint8_t number(Enum value) { return static_cast<std::uint8_t>(value); }
 
@@ -33,6 +40,11 @@ inline std::string_view name(reason value) { return um_reason_name(number(value)
 inline std::string_view name(answer value) { return um_answer_name(number(value)); }
 inline std::string_view name(reading value) { return um_reading_name(number(value)); }
 inline std::string_view name(repaired value) { return um_repaired_name(number(value)); }
+inline std::string_view name(combination value) { return um_combination_name(number(value)); }
+inline std::string_view name(direction value) { return um_direction_name(number(value)); }
+inline std::string_view name(carried value) { return um_channel_name(number(value)); }
+inline std::string_view name(placing value) { return um_placing_name(number(value)); }
+inline std::string_view name(taken value) { return value == taken::hardbits ? "hardbits" : um_taken_name(number(value)); }
 
 constexpr std::string_view text(invalid why)
 {
@@ -44,6 +56,29 @@ constexpr std::string_view text(invalid why)
 	case invalid::words: return "an invalid number of words; expected 1 to 64";
 	case invalid::bit: return "an octet above 1; expected bits, 0 or 1";
 	case invalid::frame: return "the fields describe no LAPDm frame that fits the channel";
+	case invalid::ratio: return "a ratio that is not a number, or a scale of 0 or without end";
+	case invalid::erasures: return "an invalid number of erasures; expected 0 to 4";
+	case invalid::frame_number: return "an invalid frame number; expected 0 to 2715647";
+	case invalid::time: return "an invalid time; expected T1 up to 2047, T2 up to 25 and T3 up to 50";
+	case invalid::bsic: return "an invalid base station identity code; expected 0 to 63";
+	case invalid::sch: return "no synchronisation burst has this frame number or these bits; expected a T3 of 1, 11, 21, 31 or 41";
+	case invalid::timeslot: return "an invalid time slot; expected 0 to 7";
+	case invalid::channel: return "the combination has no such channel in this direction";
+	}
+	return "unknown";
+}
+
+constexpr std::string_view text(taken why)
+{
+	switch (why) {
+	case taken::taken: return "the frame was taken";
+	case taken::block: return "the frame was taken, and a block is complete";
+	case taken::nosoft: return text(invalid::soft_value);
+	case taken::noslot: return "the state is not valid";
+	case taken::noframe: return text(invalid::frame_number);
+	case taken::doubled: return "this frame was taken last; expected a later one";
+	case taken::late: return "this frame is before the one taken last; expected a later one";
+	case taken::hardbits: return text(invalid::hard_bits);
 	}
 	return "unknown";
 }

@@ -208,6 +208,72 @@ static void ends()
 	check(neither.open({1}).why() == um::answer::noend, "no such channel");
 }
 
+// SDCCH/8, subchannel 2, in frames 8 to 11 of 51 (3GPP TS 45.002, 7)
+static void slots()
+{
+	const auto sent = um::soft_from_bits(*um::send_block(um::block{1, 2, 3}, 5));
+	std::array<std::array<std::int8_t, 148>, 4> soft;
+	for (std::size_t i = 0; i < 592; i++)
+		soft[i / 148][i % 148] = sent[i];
+	const auto down = um::direction::downlink;
+	const auto place = um::place_frame(um::combination::sdcch8, down, 3, 520);
+	check(place && place->first == 518 && um::name(place->channel) == "sdcch" && place->subchannel == 2 && place->burst == 2, "a place");
+	check(um::place_frame(um::combination::sdcch8, down, 3, 509).why() == um::placing::unplaced &&
+		um::place_frame(um::combination::sdcch8, down, 8, 0).why() == um::placing::noplace, "an idle frame, and no such time slot");
+	check(*um::next_block(um::combination::sdcch8, down, 3, um::carried::sdcch, 2, 511) == 518 &&
+		um::next_block(um::combination::sdcch8, down, 3, um::carried::bcch, 0, 0).why() == um::invalid::channel, "the next block");
+	um::slot slot(um::combination::sdcch8, down, 3, 64, 1);
+	for (std::uint32_t i = 0; i < 3; i++) {
+		const auto answer = slot.take(518 + i, soft[i]);
+		check(answer && !answer.block(), "three bursts are no block");
+	}
+	const auto saved = slot.to_bytes();
+	check(um::slot::from_bytes(saved) && um::slot::from_bytes(saved)->to_bytes() == saved, "a receiver is restored");
+	const auto done = slot.take(521, soft[3]);
+	check(done.block() && done.block()->data() == um::block{1, 2, 3} && done.block()->on() == um::carried::sdcch && !done.block()->erased() &&
+		done.block()->heard == 4, "the fourth burst makes a block");
+	check(slot.take(521, soft[0]).why() == um::taken::doubled && slot.take(520, soft[0]).why() == um::taken::late &&
+		slot.take(um::frames, soft[0]).why() == um::taken::noframe, "refusals");
+	std::array<std::int8_t, 148> hard{};
+	hard[5] = 1;
+	for (std::uint32_t i = 522; i < 525; i++)
+		check(bool(slot.take(i, hard)), "bursts of hard bits are not tested one by one");
+	const auto before = slot.to_bytes();
+	const auto refused = slot.take(525, hard);
+	check(refused.why() == um::taken::hardbits && um::text(refused.why()).find("hard bits") != std::string_view::npos &&
+		slot.to_bytes() == before, "a block of hard bits is refused with its fourth burst");
+	hard[0] = -128;
+	check(slot.miss(525).why() == um::taken::block && slot.take(526, hard).why() == um::taken::nosoft, "a burst that never came; -128");
+	um::slot none(um::combination::sdcch8, down, 9);
+	check(none.miss(0).why() == um::taken::noslot, "no such time slot");
+
+	auto damaged = um::soft_from_sbits(sent);
+	const auto other = um::soft_from_bits(*um::send_block(um::block{0x5a, 0x5a}, 2));
+	for (std::size_t i = 0; i < 592; i++)
+		damaged[i] = i / 148 == 2 ? other[i] : static_cast<std::int8_t>(damaged[i] / 2);
+	const auto erasing = um::receive_block_erasing(damaged, 1, 4);
+	check(!um::receive_block(damaged)->data() && erasing->data() == um::block{1, 2, 3} && erasing->erased() == std::uint8_t{2},
+		"a burst is erased");
+	const auto training = um::detect_training(damaged);
+	check(training && training->tsc == 5 && training->wrong[0] == 0 && training->wrong[2] > 0, "the training sequence");
+	check(um::receive_block_erasing(damaged, 1, 5).why() == um::invalid::erasures, "five erasures");
+
+	// 1000009 = 754 * 1326 + 205: T2 is 205 % 26, T3 is 205 % 51
+	const auto time = um::time_of_frame(1000009);
+	check(time && time->t1 == 754 && time->t2 == 23 && time->t3 == 1 && *um::frame_of_time(*time) == 1000009, "T1, T2 and T3");
+	check(um::time_of_frame(um::frames).why() == um::invalid::frame_number, "no frame number");
+	check(um::frame_of_time({2048, 0, 0}).why() == um::invalid::time, "no time");
+	const auto sch = um::read_sch(*um::write_sch(42, 1000009));
+	check(sch && sch->frame == 1000009 && sch->ncc == 5 && sch->bcc == 2, "the bits of SCH");
+	check(um::write_sch(64, 1).why() == um::invalid::bsic && um::write_sch(0, 2).why() == um::invalid::sch, "no such BSIC; no SCH");
+	check(*um::read_ra(um::write_ra(0x13)) == 0x13 && um::write_ra(0x13)[0] == 1 && um::write_ra(0x13)[7] == 0, "RA");
+	check(*um::read_bsic(*um::write_bsic(33)) == 33 && um::write_bsic(64).why() == um::invalid::bsic, "a BSIC");
+	const auto ratios = um::soft_from_llr(std::array<float, 4>{0.5f, 1.5f, -300, 2.5f}, 1);
+	check(ratios && *ratios == std::array<std::int8_t, 4>{0, 2, -127, 2}, "ratios, halves to even");
+	check(um::soft_from_llr(std::array<float, 1>{1}, 0).why() == um::invalid::ratio, "a scale of 0");
+	check(um::soft_from_trx(std::array<std::uint8_t, 3>{0, 128, 255}) == std::array<std::int8_t, 3>{127, -1, -127}, "TRX protocol");
+}
+
 int main(int count, char **words)
 {
 	check(count == 3, "usage: wrapper CODE.IN CODE.OUT");
@@ -216,6 +282,7 @@ int main(int count, char **words)
 	views();
 	session();
 	ends();
-	std::printf("library: um.hpp on %d vectors, its refusals, views, and a session of both links\n", lines);
+	slots();
+	std::printf("library: um.hpp on %d vectors, its refusals, views, a session of both links, and a time slot\n", lines);
 	return failed;
 }

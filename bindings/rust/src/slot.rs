@@ -110,9 +110,9 @@ extern "C" {
 
 // SAFETY, for each call below: as in blocks.rs.
 
-/// Decodes four bursts as [`receive_block_among`](crate::receive_block_among) does. If no word's CRC holds, decodes the block again with one
-/// burst set to zeros, for each of at most `erasures` bursts (0 to 4) in turn, the burst with the most wrong training bits first, until the
-/// CRC of a word holds. Returns the report, the rank of the word, and the burst that was erased.
+/// Decodes four bursts as [`receive_block_among`](crate::receive_block_among) does. If no word's CRC holds, decodes the block again with
+/// one burst set to zeros, for each of at most `erasures` bursts (0 to 4) in turn, the burst with the most wrong training bits first, until
+/// the CRC of a word holds. Returns the report, the rank of the word, and the burst that was erased.
 ///
 /// # Errors
 ///
