@@ -474,11 +474,10 @@ UM_ENUM(um_answer) um_side_take(um_side *side, const uint8_t octets[23], uint8_t
  * with what arrived, if anything did, then the calls of layer 3, then um_datalink_next for the block to send:
  *
  *   um_datalink link;
- *   um_datalink_new(&link, UM_MOBILE, UM_SDCCH, 4, 4);
- *   um_datalink_open(&link, &info);
+ *   if (!um_datalink_new(&link, UM_MOBILE, UM_SDCCH, 4, 6) || um_datalink_open(&link, &info) != UM_END_DONE) ..
  *   for (;;) {
- *           if (received(block)) um_datalink_take(&link, block, &report);   // then handle report
- *           um_datalink_next(&link, layer1, block, &report);                // then handle report, transmit block
+ *           if (received(block) && um_datalink_take(&link, block, &report) == UM_END_DONE) ..      // handle report
+ *           if (um_datalink_next(&link, layer1, block, &report) != UM_END_NONE) ..                // handle report, transmit block
  *   }
  *
  * There is no queue and no timer: the frame that awaits an answer is made in its slot, and T200 counts slots. T200 is at least 2 + 2d,

@@ -250,5 +250,6 @@ inline checked<block> write_frame(const um_frame &fields, channel on = channel::
 } // namespace um
 
 #include "um_ends.hpp"
+#include "um_links.hpp"
 #include "um_slots.hpp"
 #endif

@@ -60,7 +60,7 @@ static inline const char *um_reason_name(unsigned reason)
 static inline const char *um_answer_name(unsigned answer)
 {
 	static const char *const names[] = {
-		"ok", "notidle", "notopen", "notrunning", "empty", "toolong", "full", "noend", "nocall", "noframe"
+		"ok", "notidle", "notopen", "notrunning", "empty", "toolong", "full", "noend", "nocall", "noframe", "free"
 	};
 	return UM_NAME(names, answer);
 }
@@ -138,13 +138,14 @@ static inline bool um_side_timer_runs(const um_side *side, uint8_t sapi)
 	return um_side_timer(&copy, sapi, &effects) == UM_END_DONE;
 }
 
-/* Saved states: the form that all languages read (docs/LIBRARY.md, Save a state). It is the head "umE1", "umS1" or "umT1", then the
- * fields in the order of um.h without padding, each number least significant octet first. */
+/* Saved states: the form that all languages read (docs/LIBRARY.md, Save a state). It is the head "umE1", "umS1", "umT1" or "umL1", then
+ * the fields in the order of um.h without padding, each number least significant octet first. */
 
 enum { UM_HEAD_OCTETS = 4, UM_FIELD_OCTETS = 2581 };
 #define UM_END_OCTETS 2585
 #define UM_SIDE_OCTETS 5166
 #define UM_SLOT_OCTETS 610
+#define UM_DATALINK_OCTETS 5222
 
 static inline void um_end_save_fields(const um_end *end, uint8_t *octets)
 {
@@ -237,6 +238,47 @@ static inline bool um_slot_from_bytes(um_slot *slot, const uint8_t octets[UM_SLO
 	if (um_slot_miss(&copy, (restored.last + 1) % UM_FRAMES, &block) == UM_SLOT_NONE)
 		return false;
 	*slot = restored;
+	return true;
+}
+
+enum { UM_TIMED_OCTETS = UM_FIELD_OCTETS + 27 };
+
+static inline void um_timed_end_save_fields(const um_timed_end *link, uint8_t *octets)
+{
+	um_end_save_fields(&link->end, octets);
+	memcpy(octets + UM_FIELD_OCTETS, (const uint8_t *)link + offsetof(um_timed_end, t200), 27);
+}
+
+static inline bool um_timed_end_restore_fields(um_timed_end *link, const uint8_t *octets)
+{
+	memset(link, 0, sizeof *link);
+	memcpy((uint8_t *)link + offsetof(um_timed_end, t200), octets + UM_FIELD_OCTETS, 27);
+	return um_end_restore_fields(&link->end, octets);
+}
+
+/* Saves a data link. */
+static inline void um_datalink_to_bytes(const um_datalink *link, uint8_t octets[UM_DATALINK_OCTETS])
+{
+	memcpy(octets, "umL1", UM_HEAD_OCTETS);
+	um_timed_end_save_fields(&link->link0, octets + UM_HEAD_OCTETS);
+	um_timed_end_save_fields(&link->link3, octets + UM_HEAD_OCTETS + UM_TIMED_OCTETS);
+	octets[UM_DATALINK_OCTETS - 2] = link->heard0;
+	octets[UM_DATALINK_OCTETS - 1] = link->main;
+}
+
+/* Restores a data link. False: the octets are not a saved one of this version, or none has this state; nothing is written. */
+static inline bool um_datalink_from_bytes(um_datalink *link, const uint8_t octets[UM_DATALINK_OCTETS])
+{
+	um_datalink restored;
+	memset(&restored, 0, sizeof restored);
+	if (memcmp(octets, "umL1", UM_HEAD_OCTETS) != 0 || !um_timed_end_restore_fields(&restored.link0, octets + UM_HEAD_OCTETS) ||
+	    !um_timed_end_restore_fields(&restored.link3, octets + UM_HEAD_OCTETS + UM_TIMED_OCTETS))
+		return false;
+	restored.heard0 = octets[UM_DATALINK_OCTETS - 2];
+	restored.main = octets[UM_DATALINK_OCTETS - 1];
+	if (!um_datalink_valid(&restored))
+		return false;
+	*link = restored;
 	return true;
 }
 

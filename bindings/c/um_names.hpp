@@ -17,7 +17,7 @@ enum class state : std::uint8_t { idle, opening, open, closing, closed };
 enum class kind : std::uint8_t { i, rr, rnr, rej, sabm, dm, ui, disc, ua };
 enum class notice_kind : std::uint8_t { none, opened, got, unit, acked, oversize, closed };
 enum class reason : std::uint8_t { contention, failed, refused, released };
-enum class answer : std::uint8_t { ok, notidle, notopen, notrunning, empty, toolong, full, noend, nocall, noframe };
+enum class answer : std::uint8_t { ok, notidle, notopen, notrunning, empty, toolong, full, noend, nocall, noframe, free };
 enum class reading : std::uint8_t { frame, lpd, ea, control, el, length, empty, more, nochannel };
 enum class repaired : std::uint8_t { holds, repaired, norepair, nobits };
 enum class combination : std::uint8_t { bcch_ccch, bcch_ccch_sdcch4, sdcch8, tch_f };
@@ -96,6 +96,7 @@ constexpr std::string_view text(answer why)
 	case answer::noend: return "the state is not valid";
 	case answer::nocall: return "the mobile opens the link of SAPI 0 with open; either end opens the link of SAPI 3 with open_bare";
 	case answer::noframe: return "the octets are not an LAPDm frame";
+	case answer::free: return "nothing is to be sent in this slot";
 	}
 	return "unknown";
 }

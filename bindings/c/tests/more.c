@@ -39,7 +39,7 @@ static void names(void)
 	words(um_state_name, "idle opening open closing closed");
 	words(um_notice_name, "none opened got unit acked oversize closed");
 	words(um_reason_name, "contention failed refused released");
-	words(um_answer_name, "ok notidle notopen notrunning empty toolong full noend nocall noframe");
+	words(um_answer_name, "ok notidle notopen notrunning empty toolong full noend nocall noframe free");
 	words(um_reading_name, "frame lpd ea control el length empty more nochannel");
 	words(um_repaired_name, "holds repaired norepair nobits");
 	check(!strcmp(um_kind_name(UM_UA), "ua") && !strcmp(um_notice_name(UM_ENDED), "closed") && !strcmp(um_reason_name(UM_RELEASED), "released")
@@ -144,6 +144,27 @@ static void saved_slots(void)
 	check(!um_slot_from_bytes(&back, octets), "another version");
 }
 
+static void saved_links(void)
+{
+	um_datalink link, back, before;
+	um_message info = { 2, { 5, 36 } };
+	uint8_t octets[UM_DATALINK_OCTETS], again[UM_DATALINK_OCTETS];
+	check(um_datalink_new(&link, UM_MOBILE, UM_SACCH, 4, 6) && um_datalink_main(&link, true) == UM_END_DONE
+		&& um_datalink_open(&link, &info) == UM_END_DONE, "a data link opens");
+	um_datalink_to_bytes(&link, octets);
+	check(!memcmp(octets, "umL1\0\0\0\0\0\0\0\0\0\0\1\1", 16) && octets[4 + 2581] == 4 && octets[4 + 2608 + 2581] == 6
+		&& octets[4 + 2608 + 9] == 3 && octets[5220] == 0 && octets[5221] == 1, "its ends, each T200, and what was said of SAPI 0");
+	check(um_datalink_from_bytes(&back, octets), "it is restored");
+	um_datalink_to_bytes(&back, again);
+	check(!memcmp(octets, again, sizeof octets), "and saved again");
+	memset(&back, 0xa5, sizeof back);
+	before = back;
+	octets[4 + 2581] = 0;
+	check(!um_datalink_from_bytes(&back, octets) && !memcmp(&back, &before, sizeof back), "no data link has a T200 of 0");
+	octets[4 + 2581] = 4, octets[2] = 'S';
+	check(!um_datalink_from_bytes(&back, octets), "another head");
+}
+
 int main(void)
 {
 	names();
@@ -151,6 +172,7 @@ int main(void)
 	saved_ends();
 	saved_sides();
 	saved_slots();
+	saved_links();
 	printf("library: um_more.h: names, hard bits, T200 and saved states%s\n", failed ? ": failed" : "");
 	return failed;
 }

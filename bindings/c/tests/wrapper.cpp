@@ -274,6 +274,39 @@ static void slots()
 	check(um::soft_from_trx(std::array<std::uint8_t, 3>{0, 128, 255}) == std::array<std::int8_t, 3>{127, -1, -127}, "TRX protocol");
 }
 
+// a session of data links without loss, as in the tests of um_datalink
+static void links()
+{
+	um::datalink mobile(um::role::mobile), network(um::role::network);
+	std::vector<std::string> said;
+	check(mobile.send(um::sapi::signalling, {1}) == um::answer::notopen && network.open({1}) == um::answer::nocall, "refusals");
+	check(mobile.take(um::block{}).why() == um::answer::noframe && mobile.open({5, 36}) == um::answer::ok, "the mobile opens");
+	for (int slot = 0; slot < 40; slot++) {
+		const auto up = mobile.next(), down = network.next();
+		for (const auto *sent : {&up, &down}) {
+			auto &to = sent == &up ? network : mobile;
+			const auto report = to.take(sent->block);
+			for (const um::link_notice notice : report.notices())
+				said.push_back(std::string(um::name(to.role())) + " " + std::to_string(um::number(notice.sapi)) + " " +
+					std::string(um::name(notice.kind)) + " " + std::to_string(notice.count));
+		}
+		if (slot == 5)
+			check(mobile.send(um::sapi::signalling, std::vector<std::uint8_t>(60, 7)) == um::answer::ok, "a message");
+		if (slot == 12)
+			check(mobile.close(um::sapi::signalling) == um::answer::ok, "the mobile closes");
+	}
+	const std::vector<std::string> wanted{"network 0 opened 2", "mobile 0 opened 2", "network 0 got 60", "mobile 0 acked 0",
+		"network 0 closed 0", "mobile 0 closed 0"};
+	check(said == wanted && mobile.state(um::sapi::signalling) == um::state::closed, "what both data links report");
+	const auto idle = mobile.next();
+	check(idle.is_free && idle.report && idle.report.notices().size() == 0 && um::name(idle.report.why()) == "free", "a free slot");
+	check(mobile.unit(um::sapi::signalling, {9}) && mobile.unit(um::sapi::signalling, {}).why() == um::answer::empty, "a UI frame");
+	const auto saved = mobile.to_bytes();
+	check(um::datalink::from_bytes(saved) && um::datalink::from_bytes(saved)->to_bytes() == saved, "a data link is restored");
+	um::datalink none(um::role::mobile, um::channel::sdcch, 0);
+	check(none.open({1}) == um::answer::noend && !none.next().report, "no T200");
+}
+
 int main(int count, char **words)
 {
 	check(count == 3, "usage: wrapper CODE.IN CODE.OUT");
@@ -283,6 +316,7 @@ int main(int count, char **words)
 	session();
 	ends();
 	slots();
-	std::printf("library: um.hpp on %d vectors, its refusals, views, a session of both links, and a time slot\n", lines);
+	links();
+	std::printf("library: um.hpp on %d vectors, its refusals, views, a session of both links, a time slot and data links\n", lines);
 	return failed;
 }

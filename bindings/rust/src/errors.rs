@@ -45,6 +45,8 @@ pub enum Invalid {
     TimeSlot,
     /// The combination has no such channel in this direction.
     Channel,
+    /// A T200 of 0 slots.
+    T200,
     /// This frame was taken last.
     Doubled,
     /// This frame is before the one taken last.
@@ -68,6 +70,7 @@ impl fmt::Display for Invalid {
             Invalid::NoSch => "a frame without a synchronisation burst; expected a T3 of 1, 11, 21, 31 or 41",
             Invalid::TimeSlot => "an invalid time slot; expected 0 to 7",
             Invalid::Channel => "the combination has no such channel in this direction",
+            Invalid::T200 => "a T200 of 0 slots; expected 1 to 255",
             Invalid::Doubled => "this frame was taken last; expected a later one",
             Invalid::Late => "this frame is before the one taken last; expected a later one",
             Invalid::Ratio => "a ratio that is not a number, or a scale of 0 or without end",
@@ -137,6 +140,24 @@ pub enum Refused {
 
 words!(Refused: NotIdle "notidle", NotOpen "notopen", NotRunning "notrunning", Empty "empty", TooLong "toolong", Full "full",
     NoCall "nocall", NoFrame "noframe");
+
+impl Refused {
+    /// The reason of an answer of the library, if it is a refusal.
+    pub(crate) fn of(answer: u8) -> Option<Refused> {
+        Some(match answer {
+            0 => return None,
+            1 => Refused::NotIdle,
+            2 => Refused::NotOpen,
+            3 => Refused::NotRunning,
+            4 => Refused::Empty,
+            5 => Refused::TooLong,
+            6 => Refused::Full,
+            8 => Refused::NoCall,
+            9 => Refused::NoFrame,
+            _ => unreachable!("the state is written by the library alone, so it is that of an end"),
+        })
+    }
+}
 
 impl fmt::Display for Refused {
     fn fmt(&self, f: &mut fmt::Formatter<'_>) -> fmt::Result {
