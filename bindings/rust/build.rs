@@ -45,8 +45,8 @@ fn main() {
 
 /// Whether core has the trait Error, as from Rust 1.81 on.
 fn has_core_error() -> bool {
-    let compiler = env::var("RUSTC").expect("cargo names the compiler");
-    let said = Command::new(compiler).arg("--version").output().expect("the compiler runs").stdout;
+    let compiler = env::var_os("RUSTC").unwrap_or_else(|| "rustc".into());
+    let said = Command::new(compiler).arg("--version").output().map_or_else(|_| Vec::new(), |output| output.stdout);
     let said = String::from_utf8_lossy(&said);
     let minor = said.strip_prefix("rustc 1.").and_then(|rest| rest.split('.').next()?.parse().ok());
     minor.map_or(true, |minor: u32| minor >= 81)
