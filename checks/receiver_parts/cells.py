@@ -1,0 +1,50 @@
+"""Eight cells, one for each training sequence, by `um code` through gr-gsm's modulator, an offset of carrier and clock, and noise to gr-gsm's
+receiver: the messages of gr-gsm's decoder and of `um replay` are those sent, and each SCH has its frame number."""
+import sys
+
+import numpy
+
+from cell import CYCLE, cell, um
+from radio import modulated, offset, received
+
+FRAMES = 4 * CYCLE  # the first cycle is for the receiver to find the cell and its carrier
+
+
+def replayed(bursts, places):
+    """What `um replay` says of the bursts of blocks, and of SCH, whose place has one burst."""
+    lines = []
+    for slot, frame, count in places:
+        heard = [bursts.get((slot, frame + later)) for later in range(count)]
+        lines += [f"{'n' if count == 4 else 's'} {bits}" if bits else "lost" for bits in heard]
+    return [line.split(" metric")[0] + line.partition(" parity")[2].partition(" check")[0] for line in um("replay", lines) if " parity " in line]
+
+
+def tried(tsc):
+    """The number of blocks and SCH bursts of a cell, and what is wrong."""
+    combination = ("bcch_ccch", "bcch_ccch_sdcch4")[tsc % 2]
+    bsic, first = (7 - tsc) << 3 | tsc, CYCLE * (500 + 3330 * tsc)
+    bits, blocks, syncs = cell(combination, bsic, first, FRAMES, numpy.random.default_rng(tsc))
+    samples = numpy.pad(modulated(bits), (1000 + 37 * tsc, 20000))
+    samples = offset(samples, 400 * (tsc - 3.5), (tsc - 4) / 1e6, 0.05, 1 + tsc)
+    bursts, messages, _ = received(samples, tsc % 2, control=True)
+    blocks = {key: data for key, data in blocks.items() if key[1] >= first + CYCLE}
+    syncs = {frame: data for frame, data in syncs.items() if frame >= first + CYCLE}
+    wrong = [f"block {key}: sent {data}, gr-gsm's decoder {messages.get(key)}" for key, data in blocks.items() if messages.get(key) != data]
+    expected = [f"block tsc {tsc} train 0 ok data {data}" for data in blocks.values()]
+    expected += [f"sync train 0 ok data {data}" for data in syncs.values()]
+    answers = replayed(bursts, [(*key, 4) for key in blocks] + [(0, frame, 1) for frame in syncs])
+    wrong += [f"sent {data}, um {answer}" for data, answer in zip(expected, answers, strict=True) if data != answer]
+    return len(blocks), len(syncs), [f"training sequence {tsc}: {text}" for text in wrong]
+
+
+def main():
+    results = [tried(tsc) for tsc in range(8)]
+    wrong = [text for _, _, texts in results for text in texts]
+    for text in wrong[:20]:
+        print("receiver:", text)
+    blocks, syncs = sum(result[0] for result in results), sum(result[1] for result in results)
+    print(f"receiver: {blocks} blocks and {syncs} SCH of eight cells through gr-gsm's modulator and receiver, {len(wrong)} wrong")
+    return bool(wrong)
+
+
+sys.exit(main())
