@@ -1,18 +1,5 @@
 -- The report on a block that was decoded with erasures is unique.
-use Rattle.{
-  std.proofs.Common.{Err, List, None, Ok, Option, Some, ap, map, refl, subst, sym, ℕ, ℤ, ◌∙◌, ◌≡◌},
-  std.specs.Prelude.MatchOption,
-  um_block.specs.{Received.coded_soft_bits, interleave.Bursts.IsInterleaved},
-  um_c.proofs.Calls.equal_reports,
-  um_c.specs.Reports.ReportsBlock,
-  um_c.specs.SlotCalls.{IsErasingReport, IsSlotBlock, SlotTakesWith, decoded_bursts, no_bursts, slot_refusal_number},
-  um_c.specs.declared.{blocks.BlockReport.BlockReport, erasing.Erasure.Erasure, slots.SlotBlock.SlotBlock},
-  um_erasing.proofs.Lemmas.one_erasing,
-  um_erasing.specs.declared.blocks.ErasingDecodedBlock.ErasingDecodedBlock,
-  um_slot.specs.Slots.{TakesWith, take_frame},
-  um_slot.specs.declared.{settings.Settings.Settings, slots.{FinishedBlock.FinishedBlock, Refusal.Refusal, Slot.Slot}},
-  um_slot.specs.declared.slots.Refusal.TheVariants.Invalid,
-}
+use Rattle.{std.proofs.Common.{Err, List, None, Ok, Option, Some, [], All, ap, arith, map, pos, refl, subst, sym, ℕ, ℤ, ◌∙◌, ◌≡◌}, std.proofs.lemmas.List.{ext_get_or, get_or-map, length-map}, std.specs.Prelude.{IsSome, MatchOption}, um_block.specs.bit_blocks.SoftValues.{AllSoftBits, IsSoftBit}, um_c.proofs.Calls.equal_reports, um_c.specs.Reports.ReportsBlock, um_c.specs.SlotCalls.{IsErasingReport, IsSlotBlock, SlotTakesWith, decoded_bursts, no_bursts, slot_refusal_number}, um_c.specs.declared.{blocks.BlockReport.BlockReport, erasing.Erasure.Erasure, slots.SlotBlock.SlotBlock}, um_erasing.proofs.Lemmas.one_erasing, um_erasing.specs.declared.blocks.ErasingDecodedBlock.ErasingDecodedBlock, um_slot.specs.Slots.{TakesWith, softened, take_frame}, um_slot.specs.declared.{settings.Settings.Settings, slots.{FinishedBlock.FinishedBlock, Refusal.Refusal, Slot.Slot}}, um_slot.specs.declared.slots.Refusal.TheVariants.Invalid}
 
 one_erased : (erased : Option ℕ) (a b : ℕ) → MatchOption erased (a ≡ 4) (λ index. a ≡ index) →
     MatchOption erased (b ≡ 4) (λ index. b ≡ index) → a ≡ b
@@ -43,6 +30,10 @@ one_erasing_report bursts most erasures rank rank' report report' erasure erasur
           (one_erased g.received.erased erasure.erased erasure'.erased erased g.erased)
           (h.wrong_training ∙ ap (λ (d : ErasingDecodedBlock). d.wrong_training) same ∙ sym g.wrong_training),
     )
+
+pub some_is : (finished : Option FinishedBlock) (f : FinishedBlock) → finished ≡ Some f → IsSome finished
+some_is None f e = absurd cc
+some_is (Some g) f e = search
 
 -- ## Taken: what a receiver has taken, as the C calls answer it.
 
@@ -87,3 +78,21 @@ module _ (old : Slot) (frame came : ℕ) (burst : List ℤ) (before : SlotBlock)
         subst (λ (g : Option FinishedBlock). MatchOption g (IsAnswer 1 0 × (after ≡ before))
             (λ finished. IsAnswer 1 1 × IsSlotBlock old.words old.erasures finished step.done after)) (sym some) (refl, own),
       )
+
+-- ## Softened: soft bits stay as they are.
+
+softened_bit : (x : ℤ) → IsSoftBit x → softened x ≡ x
+softened_bit (pos n) h = refl
+softened_bit x h = grind arith
+
+softened_burst : (burst : List ℤ) → AllSoftBits burst → map softened burst ≡ burst
+softened_burst burst h =
+    let long = length-map burst softened in
+    ext_get_or (pos 0) (map softened burst) burst (omega arith)
+    (λ k lt. get_or-map softened burst k (pos 0) (pos 0) (omega arith) ∙ softened_bit _ (h k (pos 0) (omega arith)))
+
+pub softened_bursts : (bursts : List (List ℤ)) → All AllSoftBits bursts → map (map softened) bursts ≡ bursts
+softened_bursts bursts h =
+    let long = length-map bursts (map softened) in
+    ext_get_or [] (map (map softened) bursts) bursts (omega arith)
+    (λ k lt. get_or-map (map softened) bursts k [] [] (omega arith) ∙ softened_burst _ (h k [] (omega arith)))

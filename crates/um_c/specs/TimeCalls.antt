@@ -1,5 +1,5 @@
 -- The C structs of frame numbers, synchronisation bursts and places, and what the calls answer.
-use Rattle.std.specs.Prelude.{ℕ, ◌≡◌, ◌<◌, ◌/◌, ◌%◌, nat_lt, ◌&&◌, Bool, true, false, List, Option, Some, None, MatchOption}
+use Rattle.std.specs.Prelude.{ℕ, ◌≡◌, ◌<◌, ◌/◌, ◌%◌, nat_lt, ◌&&◌, Bool, true, false, List, Option, Some, MatchOption}
 use Rattle.um_slot.specs.tdma.Sync.{HasSch, sch_bits}
 use Rattle.um_slot.specs.tdma.Channels.{IsNextBlock, BeginsBlock, place_of}
 use Rattle.um_slot.specs.tdma.declared.TheConstants.{HYPERFRAME}
@@ -8,7 +8,7 @@ use Rattle.um_slot.specs.tdma.declared.channels.Direction.{Direction}
 use Rattle.um_slot.specs.tdma.declared.channels.Channel.{Channel}
 use Rattle.um_slot.specs.tdma.declared.places.Place.{Place}
 use Rattle.um_slot.specs.tdma.declared.sync.SchInfo.{SchInfo}
-use Rattle.um_slot.specs.Numbers.{channel_number, channel_of, combination_of, direction_of}
+use Rattle.um_slot.specs.Numbers.{channel_number}
 use Rattle.um_c.specs.declared.times.CSch.{CSch}
 use Rattle.um_c.specs.declared.places.CPlace.{CPlace}
 

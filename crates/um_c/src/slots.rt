@@ -1,12 +1,12 @@
 //! C functions for a receiver of one time slot.
-ghost use Rattle.std.specs.Prelude.{◌≡◌, ◌≤◌, ◌↔◌, IsTrue, IsSome, false, pos, replicate};
+ghost use Rattle.std.specs.Prelude.{◌≡◌, ◌≤◌, ◌↔◌, IsTrue, IsSome, false, map, pos, replicate};
 ghost use Rattle.um_block.specs.bit_blocks.SoftValues.{AllSoftBits};
-ghost use Rattle.um_slot.specs.Slots.{new_slot, settings_of};
-ghost use Rattle.um_c.specs.SlotCalls.{IsSlotBlock, SlotTakes, slot_refusal_number};
+ghost use Rattle.um_slot.specs.Slots.{new_slot, settings_of, softened};
+ghost use Rattle.um_c.specs.SlotCalls.{IsErasingReport, IsSlotBlock, SlotTakes, slot_refusal_number};
 
 use crate::blocks::BlockReport;
-use crate::erasing::{Erasure, erasing_report_of};
-use crate::soft::are_soft_bits;
+use crate::erasing::{ErasingReport, Erasure, erasing_report_of};
+use crate::soft::{are_soft_bits, are_soft_bursts};
 use um_block::BURST_BITS;
 use um_slot::{FinishedBlock, Refusal, Slot, channel_number, softened};
 
@@ -73,17 +73,7 @@ pub extern "C" fn um_slot_take(
     if !are_soft_bits(burst) {
         return NO_SOFT;
     }
-    let words = slot.words;
-    let erasures = slot.erasures;
-    let mut bursts = [[0; BURST_BITS]; 4];
-    match slot.take(frame, burst, &mut bursts) {
-        Err(refusal) => slot_refusal_number(refusal),
-        Ok(None) => TAKEN,
-        Ok(Some(finished)) => {
-            *block = slot_block_of(words, erasures, &finished, &bursts);
-            BLOCK
-        }
-    }
+    take_burst(slot, frame, burst, 1, block)
 }
 
 /// Takes a frame whose burst did not come, as `um_slot_take` does for a burst of zeros.
@@ -91,41 +81,89 @@ pub extern "C" fn um_slot_take(
 pub extern "C" fn um_slot_miss(slot: &mut Slot, frame: u32, block: &mut SlotBlock) -> u8
     ensures { SlotTakes slot.old frame 0 (replicate BURST_BITS (pos 0)) block.old result slot.new block.new }
 {
+    take_burst(slot, frame, &[0; BURST_BITS], 0, block)
+}
+
+/// Takes a frame, and decodes the block that it ends or completes.
+fn take_burst(
+    slot: &mut Slot,
+    frame: u32,
+    burst: &[i8; BURST_BITS],
+    came: u8,
+    block: &mut SlotBlock,
+) -> u8
+    requires { came ≤ 1 }
+    ensures { SlotTakes slot.old frame came burst.now block.old result slot.new block.new }
+{
     let words = slot.words;
     let erasures = slot.erasures;
-    let mut bursts = [[0; BURST_BITS]; 4];
-    match slot.miss(frame, &mut bursts) {
-        Err(refusal) => slot_refusal_number(refusal),
-        Ok(None) => TAKEN,
-        Ok(Some(finished)) => {
-            *block = slot_block_of(words, erasures, &finished, &bursts);
+    let accepted = match slot.accept(frame) {
+        Ok(accepted) => accepted,
+        Err(refusal) => return slot_refusal_number(refusal),
+    };
+    match accepted.ended {
+        Some(finished) => {
+            write_block(words, erasures, &finished, &slot.bursts, block);
+            slot.put(&accepted, burst, came);
             BLOCK
         }
+        None => match slot.put(&accepted, burst, came) {
+            Some(finished) => {
+                write_block(words, erasures, &finished, &slot.bursts, block);
+                BLOCK
+            }
+            None => TAKEN,
+        },
     }
 }
 
-/// The report on a block whose bursts were collected.
-fn slot_block_of(
+/// Writes the report on a block whose bursts were collected.
+fn write_block(
     words: u8,
     erasures: u8,
     finished: &FinishedBlock,
     bursts: &[[i8; BURST_BITS]; 4],
-) -> SlotBlock
+    block: &mut SlotBlock,
+)
     requires at_least { 1 ≤ words }
     requires at_most { words ≤ 64 }
     requires erasures { erasures ≤ 4 }
-    ensures { IsSlotBlock words erasures finished.now bursts.now result }
+    ensures { IsSlotBlock words erasures finished.now bursts.now block.new }
 {
-    let decoded = erasing_report_of(&softened(bursts), u32::from(words), erasures);
-    SlotBlock {
-        report: decoded.report,
-        rank: decoded.rank,
-        first: finished.place.first,
-        channel: channel_number(finished.place.position.channel),
-        subchannel: finished.place.position.subchannel,
-        heard: finished.heard,
-        erasure: decoded.erasure,
+    let decoded = slot_report_of(u32::from(words), erasures, bursts);
+    block.report = decoded.report;
+    block.rank = decoded.rank;
+    block.erasure = decoded.erasure;
+    block.first = finished.place.first;
+    block.channel = channel_number(finished.place.position.channel);
+    block.subchannel = finished.place.position.subchannel;
+    block.heard = finished.heard;
+}
+
+/// The report on the block that is decoded from the bursts of a receiver.
+#[tactic(auto, using(crate::proofs::ErasingReports::softened_bursts))]
+fn slot_report_of(words: u32, erasures: u8, bursts: &[[i8; BURST_BITS]; 4]) -> ErasingReport
+    requires at_least { 1 ≤ words }
+    requires at_most { words ≤ 64 }
+    requires erasures { erasures ≤ 4 }
+    ensures { IsErasingReport (map (map softened) bursts.now) words erasures result.rank result.report result.erasure }
+{
+    if are_soft_bursts(bursts) {
+        erasing_report_of(bursts, words, erasures)
+    } else {
+        softened_report_of(words, erasures, bursts)
     }
+}
+
+/// The same of bursts with a value of -128, which only a caller can have put into a receiver.
+#[cold]
+fn softened_report_of(words: u32, erasures: u8, bursts: &[[i8; BURST_BITS]; 4]) -> ErasingReport
+    requires at_least { 1 ≤ words }
+    requires at_most { words ≤ 64 }
+    requires erasures { erasures ≤ 4 }
+    ensures { IsErasingReport (map (map softened) bursts.now) words erasures result.rank result.report result.erasure }
+{
+    erasing_report_of(&softened(bursts), words, erasures)
 }
 
 fn slot_refusal_number(refusal: Refusal) -> u8

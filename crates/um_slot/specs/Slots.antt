@@ -1,12 +1,13 @@
 -- A receiver of one time slot (this project's own): the bursts of each block are collected by their frame numbers, in ascending order.
 use Rattle.std.specs.Prelude.{ℕ, ◌≡◌, ◌+◌, ◌-◌, ◌%◌, ◌==◌, nat_lt, nat_le, min, if◌then◌else◌, Bool, true, false, ◌&&◌}
-use Rattle.std.specs.Prelude.{ℤ, pos, negsuc, int_le, List, replicate, slice_set, Option, Some, None, Result, Ok, Err}
+use Rattle.std.specs.Prelude.{ℤ, pos, negsuc, int_le, List, replicate, slice_set, Option, Some, None, MatchOption, Result, Ok, Err}
 use Rattle.tdma.specs.declared.TheConstants.{HYPERFRAME}
 use Rattle.tdma.specs.declared.channels.Combination.{Combination}
 use Rattle.tdma.specs.declared.channels.Direction.{Direction}
 use Rattle.tdma.specs.declared.places.Place.{Place}
 use Rattle.tdma.specs.Channels.{place_of}
 use Rattle.um_slot.specs.Numbers.{combination_of, direction_of, is_channel_of_blocks}
+use Rattle.um_slot.specs.declared.accepting.AcceptedFrame.{AcceptedFrame}
 use Rattle.um_slot.specs.declared.slots.Slot.{Slot}
 use Rattle.um_slot.specs.declared.slots.FinishedBlock.{FinishedBlock}
 use Rattle.um_slot.specs.declared.slots.Refusal.{Refusal}
@@ -133,12 +134,39 @@ abbrev pub take_at : (place : Option Place) (came : ℕ) (burst : List ℤ) (ste
 take_at None came burst x = x
 take_at (Some p) came burst x = end_if_none p (record x { slot = put_burst p came burst x.slot }) x.finished
 
--- a frame is taken: the block that has ended is finished, and the burst is put into its own
+-- a frame is accepted: the block that has ended is finished
+abbrev pub accept_frame : (settings : Settings) (frame : ℕ) (slot : Slot) (done : List (List ℤ)) → Step
+accept_frame settings frame s done =
+    end_collecting settings.collecting (block_of_frame settings.combination settings.direction s.timeslot frame)
+    (record { slot = record s { last = frame }; finished = None; done = done })
+
+-- a frame is taken: it is accepted, and its burst put into its own block
 abbrev pub take_frame : (settings : Settings) (frame came : ℕ) (burst : List ℤ) (slot : Slot) (done : List (List ℤ)) → Step
 take_frame settings frame came burst s done =
-    let place = block_of_frame settings.combination settings.direction s.timeslot frame in
-    take_at place came burst
-    (end_collecting settings.collecting place (record { slot = record s { last = frame }; finished = None; done = done }))
+    take_at (block_of_frame settings.combination settings.direction s.timeslot frame) came burst (accept_frame settings frame s done)
+
+-- ## Without a copy of the bursts: those of a block that was just finished are still those of the receiver
+
+-- `done` are the bursts of the receiver if a block was finished, and the old ones if none was
+abbrev pub AreDone : (finished : Option FinishedBlock) (slot : Slot) (done_old done : List (List ℤ)) → Type 0
+AreDone finished s done done' = MatchOption finished (done' ≡ done) (λ _. done' ≡ s.bursts)
+
+-- a call that accepts a frame gives `answer`, and changes the receiver as accepting does; a refusal changes nothing
+abbrev pub AcceptsWith : (settings : Option Settings) (refusal : Option Refusal) (old : Slot) (frame : ℕ) (done : List (List ℤ))
+    (answer : Result AcceptedFrame Refusal) (new : Slot) → Type 0
+AcceptsWith None refusal old frame done answer new = (answer ≡ Err Invalid) × (new ≡ old)
+AcceptsWith (Some settings) (Some refusal) old frame done answer new = (answer ≡ Err refusal) × (new ≡ old)
+AcceptsWith (Some settings) None old frame done answer new =
+    let step = accept_frame settings frame old done in
+    (answer ≡ Ok (record {
+      ended = step.finished;
+      place = block_of_frame settings.combination settings.direction old.timeslot frame;
+    }))
+    × (new ≡ step.slot) × AreDone step.finished new done step.done
+
+-- the step of an accepted frame before its burst is put into its block
+abbrev pub accepted_step : (accepted : AcceptedFrame) (slot : Slot) (done : List (List ℤ)) → Step
+accepted_step accepted s done = record { slot = s; finished = accepted.ended; done = done }
 
 -- a call that takes a frame gives `answer`, and changes the receiver and the bursts as the frame does; a refusal changes nothing
 abbrev pub TakesWith : (settings : Option Settings) (refusal : Option Refusal) (old : Slot) (frame came : ℕ) (burst : List ℤ)

@@ -1,12 +1,14 @@
 //! A receiver of one time slot: collects the bursts of each block by their frame numbers.
 #![tactic(auto)]
 
+mod accepting;
 mod numbers;
 mod settings;
 mod slots;
 mod softening;
 mod steps;
 
+pub use accepting::AcceptedFrame;
 pub use burst_map::BURST_BITS;
 pub use numbers::{channel_number, channel_of, combination_of, direction_of};
 pub use settings::Settings;

@@ -116,13 +116,22 @@ impl Slot {
         ensures takes { Takes self.old frame came burst.now done.old result self.new done.new }
         ensures valid { IsOk result → (1 ≤ self.old.words) × (self.old.words ≤ 64) × (self.old.erasures ≤ 4) }
     {
-        let settings = match self.settings() {
-            Some(settings) => settings,
-            None => return Err(Refusal::Invalid),
+        let accepted = match self.accept(frame) {
+            Ok(accepted) => accepted,
+            Err(refusal) => return Err(refusal),
         };
-        if let Some(refusal) = self.frame_refusal(frame) {
-            return Err(refusal);
+        match accepted.ended {
+            Some(_) => {
+                *done = self.bursts;
+                Ok(self.put(&accepted, burst, came))
+            }
+            None => match self.put(&accepted, burst, came) {
+                Some(finished) => {
+                    *done = self.bursts;
+                    Ok(Some(finished))
+                }
+                None => Ok(None),
+            },
         }
-        Ok(self.take_frame(&settings, frame, burst, came, done))
     }
 }
