@@ -1,5 +1,26 @@
 -- Accepting a frame and then putting its burst is taking it.
-use Rattle.{std.proofs.Common.{Err, List, None, Ok, Option, Some, ap, refl, subst, sym, ℕ, ℤ, ◌∙◌, ◌≡◌}, tdma.specs.declared.places.Place.Place, um_slot.specs.Slots.{AcceptsWith, AreDone, Step, TakesWith, accept_frame, accepted_step, block_of_frame, end_if_none, take_at, take_frame}, um_slot.specs.declared.{accepting.AcceptedFrame.AcceptedFrame, settings.Settings.Settings, slots.{FinishedBlock.FinishedBlock, Refusal.Refusal, Slot.Slot}}, um_slot.specs.declared.slots.Refusal.TheVariants.Invalid}
+use Rattle.{
+  std.proofs.Common.{Err, List, None, Ok, Option, Some, ap, refl, subst, sym, ℕ, ℤ, ◌∙◌, ◌≡◌},
+  tdma.specs.declared.places.Place.Place,
+  um_slot.specs.Slots.{
+    AcceptsWith,
+    AreDone,
+    Step,
+    TakesWith,
+    accept_frame,
+    accepted_step,
+    block_of_frame,
+    end_if_none,
+    take_at,
+    take_frame,
+  },
+  um_slot.specs.declared.{
+    accepting.AcceptedFrame.AcceptedFrame,
+    settings.Settings.Settings,
+    slots.{FinishedBlock.FinishedBlock, Refusal.Refusal, Slot.Slot},
+  },
+  um_slot.specs.declared.slots.Refusal.TheVariants.Invalid,
+}
 
 kept : (p : Place) (x : Step) (finished : Option FinishedBlock) (f : FinishedBlock) → finished ≡ Some f →
     (end_if_none p x finished).done ≡ x.done

@@ -15,14 +15,16 @@ pub returns-in-Some-clause-takes : goal.returns-in-Some-clause-takes
 returns-in-Some-clause-takes c =
     took_ended
     c.args.self.now c.args.frame c.args.came c.args.burst.now c.args.done.now
-    (settings_of c.args.self.now) (frame_refusal c.args.self.now c.args.frame) c.in-Ok.accepted c.accept.new.self c.put.new.self c.put.result
+    (settings_of c.args.self.now) (frame_refusal c.args.self.now c.args.frame)
+    c.in-Ok.accepted c.accept.new.self c.put.new.self c.put.result
     c.in-Some.field-0 c.in-Some.is (c.in-Ok.ensures.accepts c.args.done.now) c.put.ensures.slot c.put.ensures.finished
 
 pub returns-in-Some-put-clause-takes : goal.returns-in-Some-put-clause-takes
 returns-in-Some-put-clause-takes c =
     took_none
     c.args.self.now c.args.frame c.args.came c.args.burst.now c.args.done.now
-    (settings_of c.args.self.now) (frame_refusal c.args.self.now c.args.frame) c.in-Ok.accepted c.accept.new.self c.put-in-None.new.self
+    (settings_of c.args.self.now) (frame_refusal c.args.self.now c.args.frame)
+    c.in-Ok.accepted c.accept.new.self c.put-in-None.new.self
     (Some c.in-Some-put.finished) c.put-in-None.new.self.bursts c.in-None.is (c.in-Ok.ensures.accepts c.args.done.now)
     c.in-Some-put.ensures.slot c.in-Some-put.ensures.finished (sym (c.in-Some-put.ensures.done c.in-None.is c.args.done.now))
 
@@ -30,6 +32,7 @@ pub returns-in-None-put-clause-takes : goal.returns-in-None-put-clause-takes
 returns-in-None-put-clause-takes c =
     took_none
     c.args.self.now c.args.frame c.args.came c.args.burst.now c.args.done.now
-    (settings_of c.args.self.now) (frame_refusal c.args.self.now c.args.frame) c.in-Ok.accepted c.accept.new.self c.put-in-None.new.self
+    (settings_of c.args.self.now) (frame_refusal c.args.self.now c.args.frame)
+    c.in-Ok.accepted c.accept.new.self c.put-in-None.new.self
     None c.args.done.now c.in-None.is (c.in-Ok.ensures.accepts c.args.done.now)
     c.in-None-put.ensures.slot c.in-None-put.ensures.finished (sym (c.in-None-put.ensures.done c.in-None.is c.args.done.now))
