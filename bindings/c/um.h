@@ -84,8 +84,8 @@ bool um_receive_block_erasing(const int8_t bursts[4][148], uint32_t most, uint8_
 	um_erasure *erasure) UM_CALL;
 
 /* Detects the training sequence of four normal bursts without decoding them, and counts the wrong training bits of each burst. Writes the
- * training sequence, 0 to 7, that um_receive_block would report. The sum of the counts is its wrong_training: at most 20 in real bursts,
- * at least 25 in noise (docs/RECEIVING.md). False: a soft bit is -128. */
+ * training sequence, 0 to 7, that um_receive_block would report. The sum of the counts is its wrong_training; docs/RECEIVING.md has what
+ * it was for blocks and for random bits. False: a soft bit is -128. */
 bool um_detect_training(const int8_t bursts[4][148], uint8_t *tsc, uint8_t wrong_training[4]) UM_CALL;
 
 typedef struct um_margin_report {
@@ -227,9 +227,10 @@ bool um_next_block(uint8_t combination, uint8_t direction, uint8_t timeslot, uin
 /* A receiver of one time slot: collects the bursts of each block by their frame numbers, and decodes the block.
  *
  * The bursts come in the order of their frame numbers, modulo a hyperframe. Frames may be left out: a burst that never came is zeros. A
- * block is decoded with its fourth burst, or with the first later frame if that burst never came; um_slot_miss with a later frame ends the
- * last one. A block of which no frame was taken or missed is not reported. Bursts of FCCH, SCH, RACH and idle frames are ignored, but
- * keep the order.
+ * block is decoded with its fourth burst, or with the first later frame that is not of this block; um_slot_miss with a later frame ends the
+ * last one. A block of which no frame was taken or missed is not reported. The bursts of FCCH, SCH, RACH and idle frames are ignored, but
+ * such a frame keeps the order and ends a block. So with UM_TCH_F take only the frames for which um_place_frame returns UM_PLACED: between
+ * the bursts of its SACCH block there are frames of traffic.
  *
  * The state is plain numbers and arrays: it can be copied, or saved and restored. Each call tests it; a soft bit of -128 in it counts as
  * -127. */
@@ -497,7 +498,7 @@ typedef struct um_timed_end {
 	uint8_t sent;       /* whether the frame that awaits an answer was sent; any value but 0 means yes */
 	uint8_t clock;      /* slots until that frame is due; 0: due */
 	uint8_t owed;       /* whether `answer` waits for its slot; any value but 0 means yes */
-	uint8_t answer[23]; /* a UA, DM, RR or REJ; zeros if none is owed */
+	uint8_t answer[23]; /* a block with a UA, DM, RR or REJ, as calls write it; zeros if none is owed */
 } um_timed_end;
 
 typedef struct um_datalink {

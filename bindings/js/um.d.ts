@@ -80,8 +80,8 @@ export class Um {
    */
   receiveBlockErasing(bursts: SoftBits, most: number, erasures: number): BlockReport & Erasure & { rank: number };
   /**
-   * The training sequence of four normal bursts and the wrong training bits of each, without decoding them. The sum of the counts is at
-   * most 20 in real bursts, at least 25 in noise.
+   * The training sequence of four normal bursts and the wrong training bits of each, without decoding them. The sum of the counts is the
+   * block's `wrongTraining`.
    */
   detectTraining(bursts: SoftBits): { tsc: number; wrongTrainingOfBursts: number[] };
   /** Corrects a word of 224 bits, data and CRC, with an error burst of at most 12 bits. Null: no codeword is that near. */
@@ -222,7 +222,8 @@ export class Side {
 
 /**
  * A receiver of one time slot. The bursts come in the order of their frame numbers. Frames may be left out: a burst that never came is
- * zeros. A block is decoded with its fourth burst, or with the first later frame if that burst never came.
+ * zeros. A block is decoded with its fourth burst, or with the first later frame that is not of this block. So with "tch_f" take only the
+ * frames that have a place: between the bursts of its SACCH block there are frames of traffic.
  */
 export class Slot {
   private constructor();

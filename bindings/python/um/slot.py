@@ -61,7 +61,7 @@ def receive_block_erasing(bursts: "SoftBits", most: int, erasures: int) -> Tuple
 
 def detect_training(bursts: "SoftBits") -> Tuple[int, Tuple[int, ...]]:
     """The training sequence of four bursts, 0 to 7, and the wrong training bits of each burst, without decoding them. The sum of the
-    counts is at most 20 in real bursts, at least 25 in noise."""
+    counts is the block's `wrong_training`."""
     values, tsc, wrong = soft("bursts", bursts, 4, 148), ctypes.c_uint8(), ctypes.create_string_buffer(4)
     if not lib.um_detect_training(values, ctypes.byref(tsc), wrong):
         raise minus_128("bursts", values, 4, 148)
@@ -72,8 +72,9 @@ class Slot:
     """A receiver of one time slot with a channel combination, in one direction.
 
     The bursts come in the order of their frame numbers. Frames may be left out: a burst that never came is zeros. A block is decoded with
-    its fourth burst, or with the first later frame if that burst never came. If `words` is more than 1, blocks are decoded by list
-    decoding; if `erasures` is above 0, a block that nobody can read is decoded again without its least trusted bursts. A slot is a value:
+    its fourth burst, or with the first later frame that is not of this block. So with "tch_f" take only the frames that have a place:
+    between the bursts of its SACCH block there are frames of traffic. If `words` is more than 1, blocks are decoded by list decoding; if
+    `erasures` is above 0, a block that is not accepted is decoded again without single bursts, the least trusted first. A slot is a value:
     copy, deepcopy and pickle copy it."""
 
     __slots__ = ("_state",)

@@ -32,8 +32,9 @@ impl PlainErasure {
 /// A receiver of one time slot: collects the bursts of each block by their frame numbers, and decodes the block.
 ///
 /// The bursts come in the order of their frame numbers, modulo a hyperframe. Frames may be left out: a burst that never came is zeros. A
-/// block is decoded with its fourth burst, or with the first later frame if that burst never came; [`miss`](Slot::miss) with a later frame
-/// ends the last one. Bursts of FCCH, SCH, RACH and idle frames are ignored.
+/// block is decoded with its fourth burst, or with the first later frame that is not of this block; [`miss`](Slot::miss) with a later frame
+/// ends the last one. The bursts of FCCH, SCH, RACH and idle frames are ignored, but such a frame ends a block. So with `TchF` take only
+/// the frames that have a place: between the bursts of its SACCH block there are frames of traffic.
 ///
 /// ```
 /// use um::{Carried, Combination, Direction, Slot};
@@ -133,7 +134,7 @@ pub fn receive_block_erasing(bursts: &[[i8; 148]; 4], most: u32, erasures: u8) -
 }
 
 /// The training sequence of four bursts, 0 to 7, and the wrong training bits of each burst, without decoding them. The sum of the counts is
-/// at most 20 in real bursts, at least 25 in noise.
+/// the block's `wrong_training`.
 ///
 /// # Errors
 ///
