@@ -2,9 +2,9 @@
 use Rattle.std.specs.Prelude.{◌≡◌, ℕ, ◌-◌, Bool, true, false, ◌||◌, ◌⊎◌, nat_eq, Option, Some, None}
 use Rattle.std.proofs.Common.{inl, inr, arith, refl}
 use Rattle.lapdm_frame.specs.Content.{Frame}
-use Rattle.lapdm_window.specs.declared.State.TheVariants.{Open, Closed}
-use Rattle.lapdm_window.specs.segmenting.Segments.{Segment}
-use Rattle.lapdm_window.specs.Ends.{vr}
+use Rattle.lapdm_end.specs.lapdm_window.declared.State.TheVariants.{Open, Closed}
+use Rattle.lapdm_end.specs.lapdm_window.segmenting.Segments.{Segment}
+use Rattle.lapdm_end.specs.lapdm_window.Ends.{vr}
 use Rattle.lapdm_datalink.specs.Links.{LinkState, after_slot, slot_outcome, sabm_goes_first, is_due, keeps_back}
 use Rattle.lapdm_datalink.specs.Slots.{IsStepOfEndpoint, nr_in, nr_of, took}
 

@@ -11,12 +11,12 @@ use Rattle.lapdm_frame.specs.declared.Channel.{Channel}
 use Rattle.lapdm_frame.specs.Content.{Frame}
 use Rattle.lapdm_frame.specs.Frames.{FrameFits, octets_of}
 use Rattle.lapdm_frame.specs.Readings.{IsOnlyEncodedFrame}
-use Rattle.lapdm_window.specs.declared.effects.Effects.{Effects}
-use Rattle.lapdm_window.specs.Ends.{EndpointState, Outcome, awaits_answer, IsValidEndpoint}
-use Rattle.lapdm_window.specs.Calls.{Call, T200Expires, refusal_of, call_outcome, IsCallAllowedForEndpoint}
+use Rattle.lapdm_end.specs.lapdm_window.declared.effects.Effects.{Effects}
+use Rattle.lapdm_end.specs.lapdm_window.Ends.{EndpointState, Outcome, awaits_answer, IsValidEndpoint}
+use Rattle.lapdm_end.specs.lapdm_window.Calls.{Call, T200Expires, refusal_of, call_outcome, IsCallAllowedForEndpoint}
 use Rattle.lapdm_link.specs.Worlds.{rej_replaced_by_rr}
-use Rattle.lapdm_window.specs.Steps.{HasEffects}
-use Rattle.lapdm_window.proofs.Lemmas.{Keeps, keeps-call, keeps-frame, IsValidEndpoint-initial}
+use Rattle.lapdm_end.specs.lapdm_window.Steps.{HasEffects}
+use Rattle.lapdm_link.proofs.lapdm_window.Lemmas.{Keeps, keeps-call, keeps-frame, IsValidEndpoint-initial}
 use Rattle.lapdm_end.specs.declared.ends.Endpoint.{Endpoint}
 use Rattle.lapdm_end.specs.Abstraction as E
 use Rattle.lapdm_datalink.specs.declared.links.Link.{Link}
@@ -26,10 +26,10 @@ use Rattle.lapdm_datalink.specs.Links.{slot_outcome_owing}
 use Rattle.lapdm_datalink.specs.DataLinks.{DataLinkState, IsDataLink, with_sapi3, link_with_sapi, with_link, having_heard}
 use Rattle.lapdm_datalink.specs.DataLinks.{with_clocks_moved}
 use Rattle.lapdm_datalink.specs.DataLinks.{data_link_outcome}
-use Rattle.lapdm_window.specs.declared.Sapi.TheVariants.{Zero, Three}
+use Rattle.lapdm_end.specs.lapdm_window.declared.Sapi.TheVariants.{Zero, Three}
 use Rattle.lapdm_datalink.specs.Links.{afresh, for_call, for_frame, after_call, after_frame, ignores, received_outcome, slot_outcome}
 use Rattle.lapdm_datalink.specs.Links.{after_slot}
-use Rattle.lapdm_window.specs.declared.Sapi.{Sapi}
+use Rattle.lapdm_end.specs.lapdm_window.declared.Sapi.{Sapi}
 use Rattle.lapdm_datalink.specs.Abstraction.{Represents, IsAnswer}
 use Rattle.lapdm_datalink.specs.Parts.{LinkValues, ValuesRepresent, SomeLinkHasValues, IsAnswerBlockIfAny}
 use Rattle.lapdm_end.specs.Parts.{EndpointValues}

@@ -4,11 +4,11 @@ use Rattle.std.specs.Option.{option_map}
 use Rattle.lapdm_frame.specs.declared.Channel.{Channel}
 use Rattle.lapdm_frame.specs.Content.{Frame}
 use Rattle.lapdm_frame.specs.Frames.{FrameFits, octets_of}
-use Rattle.lapdm_window.specs.declared.Sapi.{Sapi}
-use Rattle.lapdm_window.specs.declared.Notice.{Notice}
-use Rattle.lapdm_window.specs.declared.Notice.TheVariants.{Closed}
-use Rattle.lapdm_window.specs.declared.Reason.TheVariants.{Failed}
-use Rattle.lapdm_window.specs.Ends.{Role}
+use Rattle.lapdm_end.specs.lapdm_window.declared.Sapi.{Sapi}
+use Rattle.lapdm_end.specs.lapdm_window.declared.Notice.{Notice}
+use Rattle.lapdm_end.specs.lapdm_window.declared.Notice.TheVariants.{Closed}
+use Rattle.lapdm_end.specs.lapdm_window.declared.Reason.TheVariants.{Failed}
+use Rattle.lapdm_end.specs.lapdm_window.Ends.{Role}
 use Rattle.lapdm_end.specs.Abstraction as E
 use Rattle.lapdm_datalink.specs.declared.links.Link.{Link}
 use Rattle.lapdm_datalink.specs.Links.{LinkState, is_awaiting_kind}

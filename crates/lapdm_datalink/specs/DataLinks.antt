@@ -3,12 +3,12 @@ use Rattle.std.specs.Prelude.{◌≡◌, ◌≢◌, ℕ, Bool, true, false, not,
 use Rattle.lapdm_frame.specs.declared.Channel.{Channel}
 use Rattle.lapdm_frame.specs.declared.Channel.TheVariants.{Sdcch, Sacch}
 use Rattle.lapdm_frame.specs.Content.{Content, Ui, Frame}
-use Rattle.lapdm_window.specs.declared.Sapi.{Sapi}
-use Rattle.lapdm_window.specs.declared.Sapi.TheVariants.{Zero, Three}
-use Rattle.lapdm_window.specs.declared.State.{State}
-use Rattle.lapdm_window.specs.declared.State.TheVariants.{Open, Closing}
-use Rattle.lapdm_window.specs.declared.Notice.{Notice}
-use Rattle.lapdm_window.specs.Ends.{Role, Mobile, Network, initial_endpoint}
+use Rattle.lapdm_end.specs.lapdm_window.declared.Sapi.{Sapi}
+use Rattle.lapdm_end.specs.lapdm_window.declared.Sapi.TheVariants.{Zero, Three}
+use Rattle.lapdm_end.specs.lapdm_window.declared.State.{State}
+use Rattle.lapdm_end.specs.lapdm_window.declared.State.TheVariants.{Open, Closing}
+use Rattle.lapdm_end.specs.lapdm_window.declared.Notice.{Notice}
+use Rattle.lapdm_end.specs.lapdm_window.Ends.{Role, Mobile, Network, initial_endpoint}
 use Rattle.lapdm_datalink.specs.Links.{LinkState, link_with, after_frame, frame_notices, after_slot, SlotOutcome, slot_outcome}
 
 -- the state of a data link

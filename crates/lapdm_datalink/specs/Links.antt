@@ -3,16 +3,16 @@
 use Rattle.std.specs.Prelude.{ℕ, ◌-◌, Bool, true, false, not, ◌&&◌, ◌||◌, if◌then◌else◌, nat_eq, List, [], ◌∷◌, Option, Some}
 use Rattle.std.specs.Prelude.{None}
 use Rattle.lapdm_frame.specs.Content.{Content, I, Rr, Sabm, Dm, Ui, Disc, Ua, Frame}
-use Rattle.lapdm_window.specs.declared.Sapi.{Sapi}
-use Rattle.lapdm_window.specs.declared.Sapi.TheVariants.{Zero, Three}
-use Rattle.lapdm_window.specs.declared.State.{State}
-use Rattle.lapdm_window.specs.declared.State.TheVariants.{Opening, Closing, Closed}
-use Rattle.lapdm_window.specs.declared.Notice.{Notice}
-use Rattle.lapdm_window.specs.segmenting.Segments.{Message}
-use Rattle.lapdm_window.specs.Ends.{EndpointState, Outcome, initial_endpoint, awaits_answer, command_frame}
-use Rattle.lapdm_window.specs.Rules.{is_open}
-use Rattle.lapdm_window.specs.Tables.{frame_outcome, is_command}
-use Rattle.lapdm_window.specs.Calls.{Call, OpensWithoutInfo, awaited_frame, t200_expiry, call_outcome}
+use Rattle.lapdm_end.specs.lapdm_window.declared.Sapi.{Sapi}
+use Rattle.lapdm_end.specs.lapdm_window.declared.Sapi.TheVariants.{Zero, Three}
+use Rattle.lapdm_end.specs.lapdm_window.declared.State.{State}
+use Rattle.lapdm_end.specs.lapdm_window.declared.State.TheVariants.{Opening, Closing, Closed}
+use Rattle.lapdm_end.specs.lapdm_window.declared.Notice.{Notice}
+use Rattle.lapdm_end.specs.lapdm_window.segmenting.Segments.{Message}
+use Rattle.lapdm_end.specs.lapdm_window.Ends.{EndpointState, Outcome, initial_endpoint, awaits_answer, command_frame}
+use Rattle.lapdm_end.specs.lapdm_window.Rules.{is_open}
+use Rattle.lapdm_end.specs.lapdm_window.Tables.{frame_outcome, is_command}
+use Rattle.lapdm_end.specs.lapdm_window.Calls.{Call, OpensWithoutInfo, awaited_frame, t200_expiry, call_outcome}
 use Rattle.lapdm_link.specs.Worlds.{rej_replaced_by_rr}
 
 -- the state of a link

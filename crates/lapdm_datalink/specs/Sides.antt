@@ -1,9 +1,9 @@
 -- How a `DataLink` represents the state of a data link.
 use Rattle.std.specs.Prelude.{◌≡◌}
 use Rattle.lapdm_frame.specs.declared.Channel.{Channel}
-use Rattle.lapdm_window.specs.Ends.{Role}
-use Rattle.lapdm_window.specs.declared.Sapi.{Sapi}
-use Rattle.lapdm_window.specs.declared.Sapi.TheVariants.{Zero, Three}
+use Rattle.lapdm_end.specs.lapdm_window.Ends.{Role}
+use Rattle.lapdm_end.specs.lapdm_window.declared.Sapi.{Sapi}
+use Rattle.lapdm_end.specs.lapdm_window.declared.Sapi.TheVariants.{Zero, Three}
 use Rattle.lapdm_datalink.specs.declared.links.Link.{Link}
 use Rattle.lapdm_datalink.specs.declared.data_links.DataLink.{DataLink}
 use Rattle.lapdm_datalink.specs.DataLinks.{DataLinkState, IsDataLink}

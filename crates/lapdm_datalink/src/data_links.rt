@@ -5,8 +5,8 @@ ghost use Rattle.std.specs.Option.{option_map};
 ghost use Rattle.std.specs.Result.{result_err};
 ghost use Rattle.lapdm_frame.specs.Content.{frame_of_view};
 ghost use Rattle.lapdm_frame.specs.Frames.{FrameFits, octets_of};
-ghost use Rattle.lapdm_window.specs.Calls.{endpoint_call_of, IsCallAllowedFor, SendsUi, refusal_of};
-ghost use Rattle.lapdm_window.specs.declared.Sapi.TheVariants as P;
+ghost use Rattle.lapdm_end.specs.lapdm_window.Calls.{endpoint_call_of, IsCallAllowedFor, SendsUi, refusal_of};
+ghost use Rattle.lapdm_end.specs.lapdm_window.declared.Sapi.TheVariants as P;
 ghost use Rattle.lapdm_end.specs.Addresses.{spec_role_of};
 ghost use Rattle.lapdm_datalink.specs.Links.{afresh, for_call, after_call, after_frame, frame_notices, ui_frame};
 ghost use Rattle.lapdm_datalink.specs.DataLinks.{

@@ -1,9 +1,9 @@
 //! Laws of one link, slot by slot. The body of a law is empty: call it to use its contract in a proof.
 
 ghost use Rattle.std.specs.Prelude.{◌≡◌, ◌⊎◌, ◌||◌, ℕ, Bool, true, false, nat_eq, Some, None};
-ghost use Rattle.lapdm_window.specs.declared.State.TheVariants.{Open, Closed};
-ghost use Rattle.lapdm_window.specs.segmenting.Segments.{Segment};
-ghost use Rattle.lapdm_window.specs.Ends.{vr};
+ghost use Rattle.lapdm_end.specs.lapdm_window.declared.State.TheVariants.{Open, Closed};
+ghost use Rattle.lapdm_end.specs.lapdm_window.segmenting.Segments.{Segment};
+ghost use Rattle.lapdm_end.specs.lapdm_window.Ends.{vr};
 ghost use Rattle.lapdm_datalink.specs.Links.{LinkState, after_slot, slot_outcome, sabm_goes_first};
 ghost use Rattle.lapdm_datalink.specs.Slots.{IsStepOfEndpoint, nr_of, took};
 

@@ -6,9 +6,9 @@ ghost use Rattle.std.specs.Option.{option_map};
 ghost use Rattle.std.specs.Result.{result_err};
 ghost use Rattle.lapdm_frame.specs.Content.{Frame, content_of_body, frame_of_view};
 ghost use Rattle.lapdm_frame.specs.Frames.{FrameFits, octets_of};
-ghost use Rattle.lapdm_window.specs.Calls.{endpoint_call_of, IsCallAllowedFor, SendsUi, refusal_of, call_outcome};
-ghost use Rattle.lapdm_window.specs.Ends.{initial_endpoint, awaits_answer};
-ghost use Rattle.lapdm_window.specs.declared.Sapi.TheVariants as P;
+ghost use Rattle.lapdm_end.specs.lapdm_window.Calls.{endpoint_call_of, IsCallAllowedFor, SendsUi, refusal_of, call_outcome};
+ghost use Rattle.lapdm_end.specs.lapdm_window.Ends.{initial_endpoint, awaits_answer};
+ghost use Rattle.lapdm_end.specs.lapdm_window.declared.Sapi.TheVariants as P;
 ghost use Rattle.lapdm_link.specs.Worlds.{rej_replaced_by_rr};
 ghost use Rattle.lapdm_end.specs.Addresses.{spec_role_of};
 ghost use Rattle.lapdm_datalink.specs.Links.{

@@ -1,7 +1,7 @@
 use Rattle.std.proofs.Common.{sym, ◌∙◌}
 use Rattle.std.proofs.lemmas.Result.{on_err_weaker}
-use Rattle.lapdm_window.specs.declared.Sapi.TheVariants.{Zero, Three}
-use Rattle.lapdm_window.specs.Calls.{endpoint_call_of}
+use Rattle.lapdm_end.specs.lapdm_window.declared.Sapi.TheVariants.{Zero, Three}
+use Rattle.lapdm_end.specs.lapdm_window.Calls.{endpoint_call_of}
 use Rattle.lapdm_datalink.proofs.Lemmas.{on_ok_known, replaced, same_after_call, same_for_call}
 use Rattle.lapdm_datalink.proofs.data_links.DataLink.call.Goals as goal
 

@@ -4,7 +4,7 @@ use Rattle.lapdm_frame.specs.{declared.Channel.{Channel}, Frames.{octets_of}}
 use Rattle.lapdm_datalink.specs.Links.{slot_outcome}
 use Rattle.lapdm_datalink.specs.DataLinks.{with_clocks_moved, with_link}
 use Rattle.lapdm_datalink.proofs.Lemmas.{sapi0_sends, sapi3_sends, replaced, same_slot}
-use Rattle.lapdm_window.specs.declared.Sapi.TheVariants.{Zero, Three}
+use Rattle.lapdm_end.specs.lapdm_window.declared.Sapi.TheVariants.{Zero, Three}
 use Rattle.lapdm_datalink.proofs.data_links.DataLink.next.Goals as goal
 
 pub returns-in-Some-clause-represents : goal.returns-in-Some-clause-represents

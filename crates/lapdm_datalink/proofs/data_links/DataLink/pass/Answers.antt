@@ -1,5 +1,5 @@
 use Rattle.lapdm_frame.specs.Content.{frame_of_view}
-use Rattle.lapdm_window.specs.declared.Sapi.TheVariants.{Zero, Three}
+use Rattle.lapdm_end.specs.lapdm_window.declared.Sapi.TheVariants.{Zero, Three}
 use Rattle.lapdm_datalink.proofs.Lemmas.{replaced, same_after_frame}
 use Rattle.lapdm_datalink.proofs.data_links.DataLink.pass.Goals as goal
 

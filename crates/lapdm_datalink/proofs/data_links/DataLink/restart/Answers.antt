@@ -1,4 +1,4 @@
-use Rattle.lapdm_window.specs.declared.Sapi.TheVariants.{Zero, Three}
+use Rattle.lapdm_end.specs.lapdm_window.declared.Sapi.TheVariants.{Zero, Three}
 use Rattle.lapdm_datalink.proofs.Lemmas.{replaced, same_afresh}
 use Rattle.lapdm_datalink.proofs.data_links.DataLink.restart.Goals as goal
 

@@ -1,5 +1,5 @@
 use Rattle.std.proofs.lemmas.Result.{on_ok_weaker}
-use Rattle.lapdm_window.specs.Calls.{endpoint_call_of}
+use Rattle.lapdm_end.specs.lapdm_window.Calls.{endpoint_call_of}
 use Rattle.lapdm_datalink.specs.Links.{for_call}
 use Rattle.lapdm_datalink.proofs.links.Link.call.Goals as goal
 

@@ -1,6 +1,6 @@
-use Rattle.{std.proofs.Common.{◌≡◌, None, arith, refl}, lapdm_window.specs.Calls.{endpoint_call_of, call_outcome, refusal_of}}
-use Rattle.lapdm_window.specs.Calls.{IsCallAllowedForEndpoint}
-use Rattle.lapdm_window.proofs.Lemmas.{keeps-call}
+use Rattle.std.proofs.Common.{◌≡◌, None, arith, refl}
+use Rattle.lapdm_end.specs.lapdm_window.Calls.{IsCallAllowedForEndpoint, endpoint_call_of, call_outcome, refusal_of}
+use Rattle.lapdm_link.proofs.lapdm_window.Lemmas.{keeps-call}
 use Rattle.lapdm_datalink.proofs.Lemmas.{outcome_kept}
 use Rattle.lapdm_datalink.proofs.links.Link.call_endpoint.Goals as goal
 

@@ -1,5 +1,5 @@
 use Rattle.{std.proofs.Common.{◌≡◌, sym}, lapdm_frame.specs.{Content.{Frame, frame_of_view}, Frames.{FrameFits}}}
-use Rattle.lapdm_window.proofs.Lemmas.{keeps-frame}
+use Rattle.lapdm_link.proofs.lapdm_window.Lemmas.{keeps-frame}
 use Rattle.lapdm_link.specs.Worlds.{rej_replaced_by_rr}
 use Rattle.lapdm_datalink.{specs.Links.{received_outcome}, proofs.Lemmas.{outcome_kept, rr_fits}}
 use Rattle.lapdm_datalink.proofs.links.Link.take_considered.Goals as goal
