@@ -24,11 +24,13 @@ Says m = ((f : Frame) × (m.answer ≡ Some f) × (nr_in f.content ≡ Some (vr 
 abbrev pub Carries : LinkState → Type 0
 Carries m = (nr_of (slot_outcome m).frame ≡ Some (vr m.endpoint)) ⊎ ((slot_outcome m).link.endpoint.state ≡ Closed)
 
-carries_answer : (m : LinkState) (f : Frame) → m.endpoint.state ≡ Open → m.answer ≡ Some f → nr_in f.content ≡ Some (vr m.endpoint) →
+carries_answer : (m : LinkState) (f : Frame) → m.endpoint.state ≡ Open → m.answer ≡ Some f →
+    nr_in f.content ≡ Some (vr m.endpoint) →
     Carries m
 carries_answer m f h g k = grind arith
 
-carries_first : (m : LinkState) → m.endpoint.state ≡ Open → m.answer ≡ None → is_due m ≡ true → m.is_sent ≡ false → Carries m
+carries_first : (m : LinkState) → m.endpoint.state ≡ Open → m.answer ≡ None → is_due m ≡ true → m.is_sent ≡ false →
+    Carries m
 carries_first m h g k i = grind arith
 
 carries : (m : LinkState) → m.endpoint.state ≡ Open → Says m → Carries m
@@ -64,7 +66,8 @@ module _ (l : LinkState) (h : l.endpoint.state ≡ Open) (g : l.answer ≡ None)
       by_match false e = says_rejected ns nr segment e
   says_took ns nr false segment k = says_accepted ns nr segment (grind (arith, k))
 
-pub answers_i_frame : (l : LinkState) → l.endpoint.state ≡ Open → l.answer ≡ None → (ns nr : ℕ) (p : Bool) (segment : Segment) →
+pub answers_i_frame : (l : LinkState) → l.endpoint.state ≡ Open → l.answer ≡ None →
+    (ns nr : ℕ) (p : Bool) (segment : Segment) →
     (nat_eq ns (vr l.endpoint) || p) ≡ true →
     (nr_of (slot_outcome (after_slot (took ns nr p segment l))).frame ≡ Some (vr (took ns nr p segment l).endpoint))
     ⊎ ((slot_outcome (after_slot (took ns nr p segment l))).link.endpoint.state ≡ Closed)

@@ -1,5 +1,6 @@
 -- Lemmas about links and data links.
-use Rattle.std.proofs.Common.{◌≡◌, ◌≢◌, ◌≤◌, ◌∙◌, refl, sym, arith, subst, ap, ℕ, Bool, true, false, List, [], ◌∷◌, map, length, get_or}
+use Rattle.std.proofs.Common.{◌≡◌, ◌≢◌, ◌≤◌, ◌∙◌, refl, sym, arith, subst, ap, ℕ, Bool, true, false, List, []}
+use Rattle.std.proofs.Common.{◌∷◌, map, length, get_or}
 use Rattle.std.proofs.Common.{All, if◌then◌else◌}
 use Rattle.std.proofs.Common.{Option, Some, None, Result, Ok, Err, OnOk}
 use Rattle.std.specs.Result.{result_err}
@@ -36,7 +37,8 @@ use Rattle.lapdm_end.specs.Parts.{EndpointValues}
 use Rattle.lapdm_end.specs.Parts as P
 
 -- reading the octets of a frame gives this frame
-pub read_back : {c : Channel} {f g : Frame} {block : List ℕ} → FrameFits c f → block ≡ octets_of c f → IsOnlyEncodedFrame c g block → g ≡ f
+pub read_back : {c : Channel} {f g : Frame} {block : List ℕ} → FrameFits c f → block ≡ octets_of c f →
+    IsOnlyEncodedFrame c g block → g ≡ f
 read_back {c} {f} {g} {block} fits is read = (only_canonical c f fits).encodes_only_this_frame.unique g (rw is at read.frame)
 
 -- a frame that awaits an answer is due, any other is the answer
@@ -62,7 +64,8 @@ abbrev pub HasKeptAll : (m n : Link) (blocks : List (List ℕ)) → Type 0
 HasKeptAll m n blocks = (fs : List Frame) (l : LinkState) → All (FrameFits l.endpoint.channel) fs →
     blocks ≡ map (octets_of l.endpoint.channel) fs → Represents m l → Represents n (with_frames fs l)
 
-pub kept_one : (m n : Link) (blocks : List (List ℕ)) → length blocks ≡ 1 → HasKept m n (get_or blocks 0 []) → HasKeptAll m n blocks
+pub kept_one : (m n : Link) (blocks : List (List ℕ)) → length blocks ≡ 1 → HasKept m n (get_or blocks 0 []) →
+    HasKeptAll m n blocks
 kept_one m n blocks one kept [] l fits is h = absurd (omega (arith, ap length is))
 kept_one m n blocks one kept (f ∷ []) l fits is h =
     kept f l (All-head (FrameFits l.endpoint.channel) f [] fits) (ap (λ (bs : List (List ℕ)). get_or bs 0 []) is) h
@@ -92,7 +95,8 @@ endpoint_replaced m e l o k h does = record {
 }
 
 -- the Rust link represents the outcome of its endpoint once it has kept the frames of this outcome
-pub outcome_kept : (m n : Link) (e : Endpoint) (effects : Effects) (l : LinkState) (o : Outcome) → Keeps l.endpoint o → Represents m l →
+pub outcome_kept : (m n : Link) (e : Endpoint) (effects : Effects) (l : LinkState) (o : Outcome) → Keeps l.endpoint o →
+    Represents m l →
     E.Represents e o.new_state × HasEffects effects l.endpoint.channel o →
     HasKeptAll (record m { endpoint = e }) n effects.frames → Represents n (with_outcome o l)
 outcome_kept m n e effects l o k h does kept =
@@ -120,7 +124,8 @@ awaits_needless l due = grind arith
 pub due_again : (l : LinkState) → is_due l ≡ true → l.is_sent ≡ true → sends_due_frame l ≡ expires (without_needless_answer l)
 due_again l due sent = rw (due, sent) refl
 
-pub due_first : (l : LinkState) → is_due l ≡ true → l.is_sent ≡ false → sends_due_frame l ≡ sends_awaited (without_needless_answer l)
+pub due_first : (l : LinkState) → is_due l ≡ true → l.is_sent ≡ false →
+    sends_due_frame l ≡ sends_awaited (without_needless_answer l)
 due_first l due sent = rw (due, sent) refl
 
 -- ## Slots: SAPI 3 has the slot exactly if SAPI 0 sends nothing.
@@ -157,7 +162,8 @@ channel_of_values : (x : LinkValues) (l : LinkState) → ValuesRepresent x l →
 channel_of_values x l h =
     sym h.represents.endpoint.variables.channel ∙ ap (λ (y : LinkValues). y.endpoint.window.channel) h.values_match
 
-block_of_answer : (c : Channel) (a : Option Frame) (b : Option (List ℕ)) → b ≡ option_map (octets_of c) a → IfSome a (IsAnswer c) →
+block_of_answer : (c : Channel) (a : Option Frame) (b : Option (List ℕ)) → b ≡ option_map (octets_of c) a →
+    IfSome a (IsAnswer c) →
     IsAnswerBlockIfAny c b
 block_of_answer c None b is h = rw is tt
 block_of_answer c (Some f) b is h = rw is (f, h, refl)

@@ -1,6 +1,7 @@
 -- One link of a data link: an endpoint, the answer that it owes, and T200 in slots. A link has no queue: what it sends in a slot is a
 -- function of this state. T200 is that of GSM 04.06, section 5.8.1; all other rules here are this project's own.
-use Rattle.std.specs.Prelude.{ℕ, ◌-◌, Bool, true, false, not, ◌&&◌, ◌||◌, if◌then◌else◌, nat_eq, List, [], ◌∷◌, Option, Some}
+use Rattle.std.specs.Prelude.{ℕ, ◌-◌, Bool, true, false, not, ◌&&◌, ◌||◌, if◌then◌else◌, nat_eq, List, [], ◌∷◌}
+use Rattle.std.specs.Prelude.{Option, Some}
 use Rattle.std.specs.Prelude.{None}
 use Rattle.lapdm_frame.specs.Content.{Content, I, Rr, Sabm, Dm, Ui, Disc, Ua, Frame}
 use Rattle.lapdm_end.specs.lapdm_window.declared.Sapi.{Sapi}

@@ -1,6 +1,7 @@
 //! One link of a data link: what its endpoint sends, slot by slot.
 
-ghost use Rattle.std.specs.Prelude.{◌≡◌, ◌≤◌, ◌<◌, ◌↔◌, [], ◌∷◌, if◌then◌else◌, map, length, true, false, All, List, IsTrue, IfOk, OnErr};
+ghost use Rattle.std.specs.Prelude.{◌≡◌, ◌≤◌, ◌<◌, ◌↔◌, [], ◌∷◌, if◌then◌else◌, map, length, true};
+ghost use Rattle.std.specs.Prelude.{false, All, List, IsTrue, IfOk, OnErr};
 ghost use Rattle.std.specs.Prelude.{OnOk, Some, None};
 ghost use Rattle.std.specs.Option.{option_map};
 ghost use Rattle.std.specs.Result.{result_err};

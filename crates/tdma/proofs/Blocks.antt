@@ -1,7 +1,8 @@
 -- No frame carries bursts of two rows, and the bursts of a block have one place.
 use Rattle.bit_blocks.proofs.Lemmas.{at_passes_below, both_true, passes_below}
 use Rattle.std.proofs.Common.{Bool, Contains, Option, None, Some, [], ap, arith, eqb, false, ltb, not, refl, subst, sym, true}
-use Rattle.std.proofs.Common.{ℕ, cond, inl, inr, ◌%◌, ◌&&◌, ◌*◌, ◌+◌, ◌-◌, ◌/◌, ◌<◌, ◌∙◌, ◌≡◌, ◌≢◌, ◌⊎◌, ◌||◌}
+use Rattle.std.proofs.Common.{ℕ, cond, inl, inr, ◌%◌, ◌&&◌, ◌*◌, ◌+◌, ◌-◌, ◌/◌, ◌<◌, ◌∙◌, ◌≡◌}
+use Rattle.std.proofs.Common.{◌≢◌, ◌⊎◌, ◌||◌}
 use Rattle.std.specs.List.{list_all}
 use Rattle.std.proofs.lemmas.Bool.Decides.{Decides-eqb, Decides-ltb, Decides-or, nat_tests}
 use Rattle.std.proofs.lemmas.List.Elements.{All-cons, All-contains, All-nil}
@@ -101,7 +102,8 @@ mappings_same Sdcch8 Downlink t h = refl
 mappings_same Sdcch8 Uplink t h = refl
 mappings_same TchF d t h = absurd (h refl)
 
-alone_in_slot : (c : Combination) (d : Direction) (timeslot f : ℕ) (row : Mapping) → c ≢ TchF → Contains (mappings c d timeslot) row →
+alone_in_slot : (c : Combination) (d : Direction) (timeslot f : ℕ) (row : Mapping) → c ≢ TchF →
+    Contains (mappings c d timeslot) row →
     carries 1 row f ≡ true → position_of c d timeslot f ≡ Some (burst_of_row 1 row f)
 alone_in_slot c d t f row h among carried =
     let there = subst (λ ms. Contains ms row) (mappings_same c d t h) among in

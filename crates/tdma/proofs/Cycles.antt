@@ -1,7 +1,8 @@
 -- The tables repeat: what a frame carries depends on its place in a cycle of 102 frames, or 104 for a traffic channel.
 use Rattle.bit_blocks.proofs.Lemmas.{both_true}
 use Rattle.std.proofs.Common.{Bool, List, Option, [], ap, arith, eqb, refl, sym, true}
-use Rattle.std.proofs.Common.{ℕ, inl, inr, ◌%◌, ◌&&◌, ◌+◌, ◌-◌, ◌<◌, ◌∙◌, ◌≡◌, ◌≢◌, ◌⊎◌, ◌∷◌}
+use Rattle.std.proofs.Common.{ℕ, inl, inr, ◌%◌, ◌&&◌, ◌+◌, ◌-◌, ◌<◌, ◌∙◌, ◌≡◌, ◌≢◌, ◌⊎◌}
+use Rattle.std.proofs.Common.{◌∷◌}
 use Rattle.std.proofs.Common.{Some, leb, ◌||◌}
 use Rattle.std.specs.List.{list_all}
 use Rattle.std.proofs.lemmas.Bool.Decides.{nat_tests, Decides-eqb, Decides-or}
@@ -56,7 +57,8 @@ same_in_cycle Sdcch8 Uplink t f g same = same_among 1 (mappings Sdcch8 Uplink t)
 same_in_cycle TchF d t f g same = cc
 
 -- only a traffic channel's table depends on the time slot
-pub same_in_slots : (c : Combination) (d : Direction) (timeslot f : ℕ) → c ≢ TchF → position_of c d timeslot f ≡ position_of c d 0 f
+pub same_in_slots : (c : Combination) (d : Direction) (timeslot f : ℕ) → c ≢ TchF →
+    position_of c d timeslot f ≡ position_of c d 0 f
 same_in_slots BcchCcch Downlink t f h = refl
 same_in_slots BcchCcch Uplink t f h = refl
 same_in_slots BcchCcchSdcch4 Downlink t f h = refl
@@ -109,5 +111,6 @@ few_rows Sdcch8 Downlink t = refl
 few_rows Sdcch8 Uplink t = refl
 few_rows TchF d t = refl
 
-pub burst_below_4 : (c : Combination) (d : Direction) (timeslot f : ℕ) (p : Position) → position_of c d timeslot f ≡ Some p → p.burst < 4
+pub burst_below_4 : (c : Combination) (d : Direction) (timeslot f : ℕ) (p : Position) → position_of c d timeslot f ≡ Some p →
+    p.burst < 4
 burst_below_4 c d t f p found = few_among (burst_spacing c) (mappings c d t) f p (few_rows c d t) found

@@ -2,7 +2,8 @@
 use Rattle.bit_blocks.proofs.Lemmas.{at_passes_below, octets_of-bits_of, passes_below}
 use Rattle.bit_blocks.specs.Octets.{AllOctets, IsOctet, bits_of, octets_of}
 use Rattle.std.proofs.Common.{Bool, List, [], ap, ap₂, arith, eqb, get_or, length, refl, rules, sym, take, tests, true}
-use Rattle.std.proofs.Common.{suc, ℕ, ◌%◌, ◌*◌, ◌++◌, ◌+◌, ◌-◌, ◌/◌, ◌<◌, ◌∙◌, ◌∷◌, ◌≡◌, ◌≤◌, inl, inr}
+use Rattle.std.proofs.Common.{suc, ℕ, ◌%◌, ◌*◌, ◌++◌, ◌+◌, ◌-◌, ◌/◌, ◌<◌, ◌∙◌, ◌∷◌, ◌≡◌}
+use Rattle.std.proofs.Common.{◌≤◌, inl, inr}
 use Rattle.std.proofs.lemmas.Bool.{cases_lt}
 use Rattle.std.proofs.lemmas.List.{take_all}
 use Rattle.std.proofs.Math.Seq.{take-suc}
@@ -70,7 +71,8 @@ pub record HasFields (info : SchInfo) (first second third last : ℕ) : Type 0 w
   pub t3 : info.frame % 51 ≡ 10 * (third % 4 * 2 + last) + 1
   pub reduced : third % 4 * 2 + last ≤ 4
 
-pub fields_of_bits : (info : SchInfo) (bits : List ℕ) (a b c x : ℕ) → AreSyncBits bits a b c x → HasSch info → sch_bits info ≡ bits →
+pub fields_of_bits : (info : SchInfo) (bits : List ℕ) (a b c x : ℕ) → AreSyncBits bits a b c x → HasSch info →
+    sch_bits info ≡ bits →
     HasFields info a b c x
 unfolding sch_bits
 fields_of_bits info bits a b c x are has e =
@@ -149,7 +151,8 @@ reading_some info bits a b c x are fields has other has' same =
     same_info info other a b c x fields (fields_of_bits other bits a b c x are has' same)
 
 pub reading_none : (bits : List ℕ) (a b c x : ℕ) → AreSyncBits bits a b c x →
-    ((frame : ℕ) → ¬ IsFrameAt (record { t1 = a % 4 * 512 + b * 2 + c / 128; t2 = c / 4 % 32; t3 = 10 * (c % 4 * 2 + x) + 1 }) frame) →
+    ((frame : ℕ) → ¬ IsFrameAt (record { t1 = a % 4 * 512 + b * 2 + c / 128; t2 = c / 4 % 32; t3 = 10 * (c % 4 * 2 + x) + 1 })
+    frame) →
     (info : SchInfo) → HasSch info → sch_bits info ≡ bits → ⊥
 reading_none bits a b c x are none info has same =
     let f = fields_of_bits info bits a b c x are has same in
@@ -159,7 +162,8 @@ reading_none bits a b c x are none info has same =
     none info.frame (has.1, cc)
 
 pub t2_beyond : (a b c x : ℕ) → a < 256 → b < 256 → c < 256 → x ≤ 1 → c % 4 * 2 + x ≤ 4 →
-    ((frame : ℕ) → ¬ IsFrameAt (record { t1 = a % 4 * 512 + b * 2 + c / 128; t2 = c / 4 % 32; t3 = 10 * (c % 4 * 2 + x) + 1 }) frame) →
+    ((frame : ℕ) → ¬ IsFrameAt (record { t1 = a % 4 * 512 + b * 2 + c / 128; t2 = c / 4 % 32; t3 = 10 * (c % 4 * 2 + x) + 1 })
+    frame) →
     26 ≤ c / 4 % 32
 t2_beyond a b c x ha hb hc hx h3 none = elim (cases_lt (c / 4 % 32) 26) [
   | inl below ↦

@@ -80,12 +80,14 @@ every_vii_is_turned : passes_below (is_turned Sdcch8 false) 102 ≡ true
 unfolding passes_below
 every_vii_is_turned = cc
 
-pub iv_uplink : (n : ℕ) → n < 102 → position_of BcchCcch Uplink 0 n ≡ uplink_after true (position_of BcchCcch Downlink 0 ((n + 87) % 102))
+pub iv_uplink : (n : ℕ) → n < 102 → position_of BcchCcch Uplink 0 n ≡ uplink_after true
+    (position_of BcchCcch Downlink 0 ((n + 87) % 102))
 iv_uplink n h = same_positions _ _ (at_passes_below (is_turned BcchCcch true) 102 every_iv_is_turned n h)
 
 pub v_uplink : (n : ℕ) → n < 102 →
     position_of BcchCcchSdcch4 Uplink 0 n ≡ uplink_after true (position_of BcchCcchSdcch4 Downlink 0 ((n + 87) % 102))
 v_uplink n h = same_positions _ _ (at_passes_below (is_turned BcchCcchSdcch4 true) 102 every_v_is_turned n h)
 
-pub vii_uplink : (n : ℕ) → n < 102 → position_of Sdcch8 Uplink 0 n ≡ uplink_after false (position_of Sdcch8 Downlink 0 ((n + 87) % 102))
+pub vii_uplink : (n : ℕ) → n < 102 → position_of Sdcch8 Uplink 0 n ≡ uplink_after false
+    (position_of Sdcch8 Downlink 0 ((n + 87) % 102))
 vii_uplink n h = same_positions _ _ (at_passes_below (is_turned Sdcch8 false) 102 every_vii_is_turned n h)

@@ -1,5 +1,6 @@
 -- The channels of a time slot (GSM 05.02, today 3GPP TS 45.002, section 7, tables 1, 3 and 4): where the bursts of each block come.
-use Rattle.std.specs.Prelude.{ℕ, zero, suc, ◌+◌, ◌-◌, ◌*◌, ◌/◌, ◌%◌, ◌==◌, nat_lt, ◌&&◌, if◌then◌else◌, List, [], ◌∷◌, ◌++◌}
+use Rattle.std.specs.Prelude.{ℕ, zero, suc, ◌+◌, ◌-◌, ◌*◌, ◌/◌, ◌%◌, ◌==◌, nat_lt, ◌&&◌}
+use Rattle.std.specs.Prelude.{if◌then◌else◌, List, [], ◌∷◌, ◌++◌}
 use Rattle.std.specs.Prelude.{◌≡◌, ◌<◌, Bool, Option, Some, None}
 use Rattle.tdma.specs.declared.TheConstants.{HYPERFRAME}
 use Rattle.tdma.specs.declared.channels.Combination.{Combination}
@@ -53,9 +54,11 @@ mappings BcchCcchSdcch4 Uplink timeslot =
     blocks Sdcch 0 51 (37 ∷ 41 ∷ 47 ∷ 0 ∷ []) ++ blocks Sacch 0 102 (57 ∷ 61 ∷ 6 ∷ 10 ∷ [])
     ++ singles Rach (4 ∷ 5 ∷ frames_from 14 23 ++ 45 ∷ 46 ∷ [])
 mappings Sdcch8 Downlink timeslot =
-    blocks Sdcch 0 51 (0 ∷ 4 ∷ 8 ∷ 12 ∷ 16 ∷ 20 ∷ 24 ∷ 28 ∷ []) ++ blocks Sacch 0 102 (32 ∷ 36 ∷ 40 ∷ 44 ∷ 83 ∷ 87 ∷ 91 ∷ 95 ∷ [])
+    blocks Sdcch 0 51 (0 ∷ 4 ∷ 8 ∷ 12 ∷ 16 ∷ 20 ∷ 24 ∷ 28 ∷ [])
+    ++ blocks Sacch 0 102 (32 ∷ 36 ∷ 40 ∷ 44 ∷ 83 ∷ 87 ∷ 91 ∷ 95 ∷ [])
 mappings Sdcch8 Uplink timeslot =
-    blocks Sdcch 0 51 (15 ∷ 19 ∷ 23 ∷ 27 ∷ 31 ∷ 35 ∷ 39 ∷ 43 ∷ []) ++ blocks Sacch 0 102 (47 ∷ 51 ∷ 55 ∷ 59 ∷ 98 ∷ 0 ∷ 4 ∷ 8 ∷ [])
+    blocks Sdcch 0 51 (15 ∷ 19 ∷ 23 ∷ 27 ∷ 31 ∷ 35 ∷ 39 ∷ 43 ∷ [])
+    ++ blocks Sacch 0 102 (47 ∷ 51 ∷ 55 ∷ 59 ∷ 98 ∷ 0 ∷ 4 ∷ 8 ∷ [])
 mappings TchF direction timeslot = blocks Sacch 0 104 ((12 + 13 * timeslot) ∷ [])
 
 -- how many frames after one burst of a block the next one comes
@@ -93,14 +96,16 @@ abbrev pub place_of : (combination : Combination) (direction : Direction) (times
 place_of c direction timeslot frame = place_at (burst_spacing c) frame (position_of c direction timeslot frame)
 
 -- a block (or single burst) of the channel and subchannel begins in a frame
-abbrev pub BeginsBlock : (combination : Combination) (direction : Direction) (timeslot : ℕ) (channel : Channel) (subchannel frame : ℕ) →
+abbrev pub BeginsBlock : (combination : Combination) (direction : Direction) (timeslot : ℕ) (channel : Channel)
+    (subchannel frame : ℕ) →
     Type 0
 BeginsBlock c direction timeslot channel subchannel frame =
     position_of c direction timeslot frame ≡ Some (record { channel = channel; subchannel = subchannel; burst = 0 })
 
 -- `next` is the first frame number, from `frame` on, in which a block of the channel and subchannel begins; frame 0 follows the last frame
 -- of the hyperframe
-pub record IsNextBlock (combination : Combination) (direction : Direction) (timeslot : ℕ) (channel : Channel) (subchannel frame next : ℕ) :
+pub record IsNextBlock (combination : Combination) (direction : Direction) (timeslot : ℕ) (channel : Channel)
+    (subchannel frame next : ℕ) :
     Type 0 where
   pub ahead : ℕ
   pub next_is : next ≡ (frame + ahead) % HYPERFRAME

@@ -1,6 +1,7 @@
 -- The 25 information bits of a synchronisation burst (GSM 04.08, today 3GPP TS 44.018, section 9.1.30a): octets, each sent least
 -- significant bit first, with the BSIC in bits 8 to 3 of the first octet, then T1, T2 and T3', each most significant bit first.
-use Rattle.std.specs.Prelude.{ℕ, ◌≡◌, ◌<◌, ◌+◌, ◌*◌, ◌-◌, ◌/◌, ◌%◌, List, [], ◌∷◌, ◌++◌, slice_index}
+use Rattle.std.specs.Prelude.{ℕ, ◌≡◌, ◌<◌, ◌+◌, ◌*◌, ◌-◌, ◌/◌, ◌%◌, List, [], ◌∷◌, ◌++◌}
+use Rattle.std.specs.Prelude.{slice_index}
 use Rattle.bit_blocks.specs.Octets.{bits_of}
 use Rattle.tdma.specs.declared.TheConstants.{HYPERFRAME}
 use Rattle.tdma.specs.declared.sync.SchInfo.{SchInfo}

@@ -1,5 +1,6 @@
 //! The 25 information bits of a synchronisation burst.
-ghost use Rattle.std.specs.Prelude.{◌≡◌, ◌≤◌, ◌↔◌, ◌⊎◌, ◌++◌, ◌∷◌, [], IsNone, MatchOption, SomeIff, Some};
+ghost use Rattle.std.specs.Prelude.{◌≡◌, ◌≤◌, ◌↔◌, ◌⊎◌, ◌++◌, ◌∷◌, [], IsNone, MatchOption, SomeIff};
+ghost use Rattle.std.specs.Prelude.{Some};
 ghost use Rattle.bit_blocks.specs.Bits.{AllBits};
 ghost use Rattle.bit_blocks.specs.Octets.{bits_of};
 ghost use Rattle.tdma.specs.Sync.{HasSch, sch_bits, t2_of_bits, t3_of_bits};

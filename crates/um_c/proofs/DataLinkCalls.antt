@@ -1,5 +1,6 @@
 -- What each data link call returns and writes.
-use Rattle.std.proofs.Common.{◌≡◌, ◌≢◌, ◌≤◌, ◌∙◌, refl, sym, ap, subst, arith, ℕ, Bool, true, false, List, [], ◌∷◌, ◌++◌, ◌-◌, map, length}
+use Rattle.std.proofs.Common.{◌≡◌, ◌≢◌, ◌≤◌, ◌∙◌, refl, sym, ap, subst, arith, ℕ, Bool, true, false, List, []}
+use Rattle.std.proofs.Common.{◌∷◌, ◌++◌, ◌-◌, map, length}
 use Rattle.std.proofs.Common.{replicate, Option, Some, None}
 use Rattle.std.specs.Option.{unwrap_or, is_none, option_map}
 use Rattle.std.specs.Prelude.{◌==◌, if◌then◌else◌}
@@ -53,7 +54,8 @@ data_link-c_struct m =
     ) refl
 
 -- a struct that was written from a Rust data link represents what that represents
-pub written : (m : DataLink) (s : DataLinkState) (after : CDataLink) → D.Represents m s → after ≡ c_data_link (data_link_values_of m) →
+pub written : (m : DataLink) (s : DataLinkState) (after : CDataLink) → D.Represents m s →
+    after ≡ c_data_link (data_link_values_of m) →
     RepresentsDataLink after s
 written m s after h is = record {
   values = data_link_values_of m;
@@ -84,7 +86,8 @@ pub report_is : (sapi : Sapi) (ns : List Notice) (r : CReport) → length ns ≤
 report_is sapi [] r h notices sapis count = λ i. record { notices = notices i; sapis = sapis i; notice_count = count i }
 report_is sapi (a ∷ []) r h notices sapis count = λ i. record { notices = notices i; sapis = sapis i; notice_count = count i }
 report_is sapi (a ∷ b ∷ []) r h notices sapis count = λ i. record { notices = notices i; sapis = sapis i; notice_count = count i }
-report_is sapi (a ∷ b ∷ c ∷ []) r h notices sapis count = λ i. record { notices = notices i; sapis = sapis i; notice_count = count i }
+report_is sapi (a ∷ b ∷ c ∷ []) r h notices sapis count =
+    λ i. record { notices = notices i; sapis = sapis i; notice_count = count i }
 report_is sapi (a ∷ b ∷ c ∷ d ∷ ns) r h notices sapis count = absurd (omega arith)
 
 -- ## Calls: A call reads the caller's struct into a Rust data link and calls this. Its contract determines what the C call returns and
@@ -148,7 +151,8 @@ module _ {c : CDataLink} {m : DataLink} (sapi : ℕ) (p : Sapi) (is : Some p ≡
         none_some : (r : Refused) → None ≡ Some r → ⊥
         none_some r e = absurd cc
 
-    pub answers_unsupported : ((s : DataLinkState) → D.Represents m s → IsCallAllowedForEndpoint (link_with_sapi p s).endpoint call → ⊥) →
+    pub answers_unsupported : ((s : DataLinkState) → D.Represents m s →
+        IsCallAllowedForEndpoint (link_with_sapi p s).endpoint call → ⊥) →
         DataLinkAnswersCall sapi call 8 c c
     answers_unsupported never = record {
       carried_out = λ s h q e a none. absurd (never s (read.represents s h) (rw (sym (same_sapi sapi p q is e)) a));
@@ -159,7 +163,8 @@ module _ {c : CDataLink} {m : DataLink} (sapi : ℕ) (p : Sapi) (is : Some p ≡
       unchanged = λ other. refl;
     }
 
-  pub changes_link : (n : DataLink) (after : CDataLink) (change : LinkState → LinkState) → after ≡ c_data_link (data_link_values_of n) →
+  pub changes_link : (n : DataLink) (after : CDataLink) (change : LinkState → LinkState) →
+      after ≡ c_data_link (data_link_values_of n) →
       ((s : DataLinkState) → D.Represents m s → D.Represents n (with_link p (change (link_with_sapi p s)) s)) →
       DataLinkChangesLink sapi change 0 c after
   changes_link n after change wrote does = record {
@@ -173,7 +178,8 @@ module _ {c : CDataLink} {m : DataLink} (sapi : ℕ) (p : Sapi) (is : Some p ≡
   }
 
 module _ {c : CDataLink} {m : DataLink} (read : IsRead c m) where
-  pub changes : (n : DataLink) (after : CDataLink) (change : DataLinkState → DataLinkState) → after ≡ c_data_link (data_link_values_of n) →
+  pub changes : (n : DataLink) (after : CDataLink) (change : DataLinkState → DataLinkState) →
+      after ≡ c_data_link (data_link_values_of n) →
       ((s : DataLinkState) → D.Represents m s → D.Represents n (change s)) → DataLinkChanges change 0 c after
   changes n after change wrote does = record {
     carried_out = λ s h. record { answer_is_0 = refl; represents = written n _ after (does s (read.represents s h)) wrote };
@@ -194,7 +200,8 @@ module _ {c : CDataLink} {m : DataLink} (read : IsRead c m) where
 
   pub receives : (octets : List ℕ) (channel : Channel) (f : Frame) (n : DataLink) (after : CDataLink) (r report : CReport) →
       ((s : DataLinkState) → D.Represents m s → channel ≡ s.link0.endpoint.channel) → IsOnlyEncodedFrame channel f octets →
-      after ≡ c_data_link (data_link_values_of n) → ((s : DataLinkState) → D.Represents m s → D.Represents n (after_arrival f s)) →
+      after ≡ c_data_link (data_link_values_of n) → ((s : DataLinkState) → D.Represents m s →
+      D.Represents n (after_arrival f s)) →
       ((s : DataLinkState) → D.Represents m s → report ≡ c_report (reports_if_taken (sapi_for_frame f s) (arrival_notices f s))) →
       DataLinkReceivesBlock octets 0 c after r report
   receives octets channel f n after r report on frame wrote does reports =
@@ -226,7 +233,8 @@ module _ {c : CDataLink} {m : DataLink} (read : IsRead c m) where
       (after : CDataLink) (old block plain : List ℕ) (r report : CReport) (answer : ℕ) →
       channel ≡ D.channel_of m → role ≡ D.role_of m → after ≡ c_data_link (data_link_values_of n) →
       plain ≡ unwrap_or sent (octets_of channel (fill_frame (command_cr role))) → block ≡ with_layer1 channel layer1 plain →
-      report ≡ c_report (reports_of Zero (notices_if g0) ++ reports_of Three (notices_if g3)) → answer ≡ (if is_none sent then 10 else 0) →
+      report ≡ c_report (reports_of Zero (notices_if g0) ++ reports_of Three (notices_if g3)) →
+      answer ≡ (if is_none sent then 10 else 0) →
       ((s : DataLinkState) → D.Represents m s → D.Represents n (data_link_outcome s).new_state) →
       ((s : DataLinkState) → D.Represents m s → sent ≡ option_map (octets_of (D.channel_of m)) (data_link_outcome s).frame) →
       ((s : DataLinkState) → D.Represents m s → notices_if g0 ≡ (data_link_outcome s).notices0) →
@@ -276,14 +284,17 @@ module _ {c : CDataLink} {m : DataLink} (sapi : ℕ) (p : Sapi) (is : Some p ≡
         one_reason : (r q : Refused) → Some r ≡ Some q → r ≡ q
         one_reason r q e = cc
 
-    pub unit_written : (channel : Channel) (plain block : List ℕ) → channel ≡ D.channel_of m → block ≡ with_layer1 channel layer1 plain →
+    pub unit_written : (channel : Channel) (plain block : List ℕ) → channel ≡ D.channel_of m →
+        block ≡ with_layer1 channel layer1 plain →
         ((s : DataLinkState) → D.Represents m s → None ≡ refusal_of (SendsUi message) (link_with_sapi p s).endpoint) →
-        ((s : DataLinkState) → D.Represents m s → plain ≡ octets_of (D.channel_of m) (ui_frame message (link_with_sapi p s).endpoint)) →
+        ((s : DataLinkState) → D.Represents m s → plain ≡ octets_of (D.channel_of m)
+        (ui_frame message (link_with_sapi p s).endpoint)) →
         DataLinkEncodesUnit sapi message layer1 0 c old block
     unit_written channel plain block on block_is refusal plain_is = record {
       carried_out = λ s h q e none. (
         refl,
-        rw (same_sapi sapi p q is e) (block_is ∙ (λ i. with_layer1 ((on ∙ (read.represents s h).link0.endpoint.address.channel) i) layer1 (
+        rw (same_sapi sapi p q is e) (block_is ∙ (λ i. with_layer1 ((on ∙ (read.represents s h).link0.endpoint.address.channel) i)
+            layer1 (
             (plain_is s (read.represents s h) ∙ ap (λ (x : Channel). octets_of x (ui_frame message (link_with_sapi p s).endpoint))
             (read.represents s h).link0.endpoint.address.channel) i))),
       );

@@ -1,5 +1,6 @@
 -- The report on a block that was decoded with erasures is unique.
-use Rattle.std.proofs.Common.{Err, List, None, Ok, Option, Some, [], All, ap, arith, map, pos, refl, subst, sym, ℕ, ℤ, ◌∙◌, ◌≡◌}
+use Rattle.std.proofs.Common.{Err, List, None, Ok, Option, Some, [], All, ap, arith, map, pos, refl, subst, sym, ℕ, ℤ, ◌∙◌}
+use Rattle.std.proofs.Common.{◌≡◌}
 use Rattle.std.proofs.lemmas.List.{ext_get_or, get_or-map, length-map}
 use Rattle.std.specs.Prelude.{IsSome, MatchOption}
 use Rattle.um_block.specs.bit_blocks.SoftValues.{AllSoftBits, IsSoftBit}

@@ -1,5 +1,6 @@
 -- What the data link calls of the C library return and write.
-use Rattle.std.specs.Prelude.{ℕ, ◌≡◌, ◌≢◌, ◌-◌, Bool, true, false, if◌then◌else◌, List, [], ◌++◌, map, length, drop}
+use Rattle.std.specs.Prelude.{ℕ, ◌≡◌, ◌≢◌, ◌-◌, Bool, true, false, if◌then◌else◌, List, [], ◌++◌, map, length}
+use Rattle.std.specs.Prelude.{drop}
 use Rattle.std.specs.Prelude.{replicate, Option, Some, None}
 use Rattle.lapdm_frame.specs.declared.Channel.{Channel}
 use Rattle.lapdm_frame.specs.declared.Channel.TheVariants.{Sdcch, Sacch}
@@ -138,7 +139,8 @@ WritesDataLinkIfValid role channel t t3 are_set answer before after = (answer �
 -- support it, and 7 if `before` represents no data link; unless it returns 0, it writes nothing
 pub record DataLinkAnswersCall (sapi : ℕ) (call : Call) (answer : ℕ) (before after : CDataLink) : Type 0 where
   pub carried_out : (s : DataLinkState) → RepresentsDataLink before s → (p : Sapi) → Some p ≡ sapi_of sapi →
-      IsCallAllowedForEndpoint (link_with_sapi p s).endpoint call → refusal_of call (for_call call (link_with_sapi p s)).endpoint ≡ None →
+      IsCallAllowedForEndpoint (link_with_sapi p s).endpoint call →
+      refusal_of call (for_call call (link_with_sapi p s)).endpoint ≡ None →
       Succeeds (with_link p (after_call call (link_with_sapi p s)) s) answer after
   pub refused : (s : DataLinkState) → RepresentsDataLink before s → (p : Sapi) → Some p ≡ sapi_of sapi →
       IsCallAllowedForEndpoint (link_with_sapi p s).endpoint call → (reason : Refused) →
@@ -167,9 +169,11 @@ pub record DataLinkChanges (change : DataLinkState → DataLinkState) (answer : 
 -- no
 -- data link; unless it returns 0, it writes nothing
 pub record DataLinkReceivesBlock (octets : List ℕ) (answer : ℕ) (before after : CDataLink) (report_old report : CReport) : Type 0 where
-  pub carried_out : (s : DataLinkState) → RepresentsDataLink before s → (f : Frame) → IsOnlyEncodedFrame s.link0.endpoint.channel f octets →
+  pub carried_out : (s : DataLinkState) → RepresentsDataLink before s → (f : Frame) →
+      IsOnlyEncodedFrame s.link0.endpoint.channel f octets →
       Succeeds (after_arrival f s) answer after
-  pub reported : (s : DataLinkState) → RepresentsDataLink before s → (f : Frame) → IsOnlyEncodedFrame s.link0.endpoint.channel f octets →
+  pub reported : (s : DataLinkState) → RepresentsDataLink before s → (f : Frame) →
+      IsOnlyEncodedFrame s.link0.endpoint.channel f octets →
       report ≡ c_report (reports_if_taken (sapi_for_frame f s) (arrival_notices f s))
   pub invalid_frame : (s : DataLinkState) → RepresentsDataLink before s → (reason : Refusal) →
       IsOnlyRefusalReason s.link0.endpoint.channel octets reason → answer ≡ 9
@@ -206,7 +210,8 @@ pub record DataLinkFillsSlot (layer1 : List ℕ) (answer : ℕ) (before after : 
 
 -- the UI frame with this message is written; the call returns the number of a refusal, 8 if no link has this SAPI, and 7 if the struct
 -- represents no data link; unless it returns 0, it writes nothing
-pub record DataLinkEncodesUnit (sapi : ℕ) (m : Message) (layer1 : List ℕ) (answer : ℕ) (c : CDataLink) (block_old block : List ℕ) : Type 0
+pub record DataLinkEncodesUnit (sapi : ℕ) (m : Message) (layer1 : List ℕ) (answer : ℕ) (c : CDataLink)
+    (block_old block : List ℕ) : Type 0
   where
     pub carried_out : (s : DataLinkState) → RepresentsDataLink c s → (p : Sapi) → Some p ≡ sapi_of sapi →
         refusal_of (SendsUi m) (link_with_sapi p s).endpoint ≡ None →

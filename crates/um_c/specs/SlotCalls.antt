@@ -23,7 +23,8 @@ decoded_bursts bursts (Some index) = without_burst bursts index
 
 -- `report`, `rank` and `erasure` are the report on a block of which at most `max_words` words were tried, and as many without each of at
 -- most `erasures` bursts; `soft` are the deinterleaved soft bits that were decoded in the end
-pub record IsErasingReport (bursts : List (List ℤ)) (max_words erasures rank : ℕ) (report : BlockReport) (erasure : Erasure) : Type 0 where
+pub record IsErasingReport (bursts : List (List ℤ)) (max_words erasures rank : ℕ) (report : BlockReport) (erasure : Erasure) : Type
+    0 where
   pub received : ErasingDecodedBlock
   pub is_received : IsErasingDecodedBlock bursts max_words erasures received
   pub soft : List ℤ

@@ -1,5 +1,6 @@
 -- The C structs of frame numbers, synchronisation bursts and places, and what the calls answer.
-use Rattle.std.specs.Prelude.{ℕ, ◌≡◌, ◌<◌, ◌/◌, ◌%◌, nat_lt, ◌&&◌, Bool, true, false, List, Option, Some, MatchOption}
+use Rattle.std.specs.Prelude.{ℕ, ◌≡◌, ◌<◌, ◌/◌, ◌%◌, nat_lt, ◌&&◌, Bool, true, false, List, Option, Some}
+use Rattle.std.specs.Prelude.{MatchOption}
 use Rattle.um_slot.specs.tdma.Sync.{HasSch, sch_bits}
 use Rattle.um_slot.specs.tdma.Channels.{IsNextBlock, BeginsBlock, place_of}
 use Rattle.um_slot.specs.tdma.declared.TheConstants.{HYPERFRAME}

@@ -1,5 +1,6 @@
 //! C functions for a data link: one side of a channel with its loop. The caller holds the state.
-ghost use Rattle.std.specs.Prelude.{◌≡◌, ◌≢◌, ◌↔◌, ◌≤◌, ◌<◌, ◌==◌, ◌&&◌, not, ◌-◌, length, replicate, ◌++◌, if◌then◌else◌, Option, Some};
+ghost use Rattle.std.specs.Prelude.{◌≡◌, ◌≢◌, ◌↔◌, ◌≤◌, ◌<◌, ◌==◌, ◌&&◌, not, ◌-◌, length};
+ghost use Rattle.std.specs.Prelude.{replicate, ◌++◌, if◌then◌else◌, Option, Some};
 ghost use Rattle.std.specs.Prelude.{None, true, false, IsTrue, IsSome, IfSome, MatchOption};
 ghost use Rattle.lapdm_frame.specs.declared.Channel.{Channel as ChannelOf};
 ghost use Rattle.lapdm_frame.specs.Content.{fill_frame};

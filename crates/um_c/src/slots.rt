@@ -47,7 +47,8 @@ pub extern "C" fn um_slot_new(
     erasures: u8,
 ) -> bool
     ensures { let made = new_slot combination direction timeslot words erasures in
-        (IsTrue result ↔ IsSome (settings_of made)) × (IsTrue result → slot.new ≡ made) × (result ≡ false → slot.new ≡ slot.old) }
+        (IsTrue result ↔ IsSome (settings_of made)) × (IsTrue result → slot.new ≡ made) × (result ≡ false →
+        slot.new ≡ slot.old) }
 {
     match Slot::new(combination, direction, timeslot, words, erasures) {
         Some(made) => {

@@ -1,5 +1,6 @@
 -- The report is unique; without erasures it is that of the list decoder.
-use Rattle.std.proofs.Common.{arith, List, None, Option, Some, ap, map, refl, set, subst, suc, sym, zero, ℕ, ℤ, ◌+◌, ◌-◌, ◌∙◌, ◌≡◌, ◌≢◌}
+use Rattle.std.proofs.Common.{arith, List, None, Option, Some, ap, map, refl, set, subst, suc, sym, zero, ℕ, ℤ, ◌+◌, ◌-◌}
+use Rattle.std.proofs.Common.{◌∙◌, ◌≡◌, ◌≢◌}
 use Rattle.std.specs.Prelude.{IsSome, MatchOption}
 use Rattle.um_among.specs.declared.reports.ListDecodedBlock.{ListDecodedBlock}
 use Rattle.um_among.specs.ListDecoding.{IsListDecodedBlock}
@@ -49,7 +50,8 @@ one_block bursts most erasures first wrong None block block' erased erased' h g 
     one_found first h.0 block block' erased erased' h.2 (subst (λ found. IsFoundOrFirst first found block' erased') same g.2)
 one_block bursts most erasures first wrong (Some x) block block' erased erased' h g = (h.0 ∙ sym g.0, h.1 ∙ sym g.1)
 
-same_decoded : (block block' : ListDecodedBlock) (erased erased' : Option ℕ) (wrong wrong' : List ℕ) → block ≡ block' → erased ≡ erased' →
+same_decoded : (block block' : ListDecodedBlock) (erased erased' : Option ℕ) (wrong wrong' : List ℕ) → block ≡ block' →
+    erased ≡ erased' →
     wrong ≡ wrong' →
     let made : ErasingDecodedBlock = record { block = block; erased = erased; wrong_training = wrong } in
     let made' : ErasingDecodedBlock = record { block = block'; erased = erased'; wrong_training = wrong' } in made ≡ made'
@@ -74,7 +76,8 @@ one_erasing bursts most erasures r r' h g =
 none_found : (bursts : List (List ℤ)) (most : ℕ) (first : ListDecodedBlock) (wrong : List ℕ) (accepted : Option (List ℕ))
     (block : ListDecodedBlock) (erased : Option ℕ) →
     MatchOption accepted
-    ((found : Option ErasedBlock) × IsErasingSearch bursts most 0 (map (λ w. w + 1) wrong) found × IsFoundOrFirst first found block erased)
+    ((found : Option ErasedBlock) × IsErasingSearch bursts most 0 (map (λ w. w + 1) wrong) found
+    × IsFoundOrFirst first found block erased)
     (λ _. (block ≡ first) × (erased ≡ None)) → (block ≡ first) × (erased ≡ None)
 none_found bursts most first wrong None block erased h = subst (λ found. IsFoundOrFirst first found block erased) h.1 h.2
 none_found bursts most first wrong (Some x) block erased h = h
@@ -149,7 +152,8 @@ first_accepted bursts most erasures first wrong decoded counted accepted = recor
 pub searched : (bursts : List (List ℤ)) (most erasures : ℕ) (first : ListDecodedBlock) (wrong distrust : List ℕ)
     (found : Option ErasedBlock)
     (block : ListDecodedBlock) (erased : Option ℕ) →
-    IsListDecodedBlock bursts most first → wrong ≡ wrong_training_of_bursts bursts first.report.tsc → ¬ IsSome first.report.accepted →
+    IsListDecodedBlock bursts most first → wrong ≡ wrong_training_of_bursts bursts first.report.tsc →
+    ¬ IsSome first.report.accepted →
     distrust ≡ map (λ w. w + 1) wrong → IsErasingSearch bursts most erasures distrust found →
     IsFoundOrFirst first found block erased →
     IsErasingDecodedBlock bursts most erasures (record { block = block; erased = erased; wrong_training = wrong })

@@ -1,6 +1,7 @@
 -- Erasure decoding (this project's own rule): if the CRC holds for no word of a block, the block is decoded again with single bursts set to
 -- zeros, the burst with the most wrong training bits first.
-use Rattle.std.specs.Prelude.{ℕ, zero, suc, ◌≡◌, ◌+◌, nat_lt, if◌then◌else◌, ℤ, pos, List, [], ◌∷◌, map, replicate, slice_index, slice_set}
+use Rattle.std.specs.Prelude.{ℕ, zero, suc, ◌≡◌, ◌+◌, nat_lt, if◌then◌else◌, ℤ, pos, List, [], ◌∷◌, map}
+use Rattle.std.specs.Prelude.{replicate, slice_index, slice_set}
 use Rattle.std.specs.Prelude.{Option, Some, None, MatchOption}
 use Rattle.um_block.specs.bit_blocks.SoftValues.{count_wrong_bits}
 use Rattle.um_block.specs.burst_map.training_seq.Sequences.{midamble}
@@ -34,7 +35,8 @@ index_of_greatest numbers = greater_of numbers (greater_of numbers (greater_of n
 
 -- `found` is the first block that is accepted when at most `count` bursts are erased in turn, that with the greatest distrust first; an
 -- erased burst gets the distrust 0, those not erased yet have more
-abbrev pub IsErasingSearch : (bursts : List (List ℤ)) (max_words count : ℕ) (distrust : List ℕ) (found : Option ErasedBlock) → Type 0
+abbrev pub IsErasingSearch : (bursts : List (List ℤ)) (max_words count : ℕ) (distrust : List ℕ) (found : Option ErasedBlock) →
+    Type 0
 IsErasingSearch bursts most zero distrust found = found ≡ None
 IsErasingSearch bursts most (suc n) distrust found =
     let index = index_of_greatest distrust in
@@ -44,7 +46,8 @@ IsErasingSearch bursts most (suc n) distrust found =
     (λ _. found ≡ Some (record { block = decoded; erased = index }))
 
 -- the report with the erased block that was found, or else the block as received
-abbrev pub IsFoundOrFirst : (first : ListDecodedBlock) (found : Option ErasedBlock) (block : ListDecodedBlock) (erased : Option ℕ) → Type 0
+abbrev pub IsFoundOrFirst : (first : ListDecodedBlock) (found : Option ErasedBlock) (block : ListDecodedBlock) (erased : Option ℕ)
+    → Type 0
 IsFoundOrFirst first None block erased = (block ≡ first) × (erased ≡ None)
 IsFoundOrFirst first (Some e) block erased = (block ≡ e.block) × (erased ≡ Some e.erased)
 

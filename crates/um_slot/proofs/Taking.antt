@@ -32,7 +32,8 @@ done_kept : (place : Option Place) (came : ℕ) (burst : List ℤ) (x : Step) (f
 done_kept None came burst x f e = refl
 done_kept (Some p) came burst x f e = kept p _ x.finished f e
 
-same_made : (slot slot' : Slot) (finished finished' : Option FinishedBlock) (done : List (List ℤ)) → slot ≡ slot' → finished ≡ finished' →
+same_made : (slot slot' : Slot) (finished finished' : Option FinishedBlock) (done : List (List ℤ)) → slot ≡ slot' →
+    finished ≡ finished' →
     let made : Step = record { slot = slot; finished = finished; done = done } in
     let made' : Step = record { slot = slot'; finished = finished'; done = done } in made ≡ made'
 same_made slot slot' finished finished' done hs hf = cc

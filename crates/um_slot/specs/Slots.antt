@@ -1,5 +1,6 @@
 -- A receiver of one time slot (this project's own): the bursts of each block are collected by their frame numbers, in ascending order.
-use Rattle.std.specs.Prelude.{ℕ, ◌≡◌, ◌+◌, ◌-◌, ◌%◌, ◌==◌, nat_lt, nat_le, min, if◌then◌else◌, Bool, true, false, ◌&&◌}
+use Rattle.std.specs.Prelude.{ℕ, ◌≡◌, ◌+◌, ◌-◌, ◌%◌, ◌==◌, nat_lt, nat_le, min, if◌then◌else◌, Bool, true}
+use Rattle.std.specs.Prelude.{false, ◌&&◌}
 use Rattle.std.specs.Prelude.{ℤ, pos, negsuc, int_le, List, replicate, slice_set, Option, Some, None, MatchOption, Result, Ok, Err}
 use Rattle.tdma.specs.declared.TheConstants.{HYPERFRAME}
 use Rattle.tdma.specs.declared.channels.Combination.{Combination}

@@ -23,7 +23,8 @@ impl Slot {
             AcceptsWith (settings_of self.old) (frame_refusal self.old frame) self.old frame done result self.new }
         ensures valid { IsOk result → (1 ≤ self.old.words) × (self.old.words ≤ 64) × (self.old.erasures ≤ 4) }
         ensures heard { IsOk result → self.new.heard ≤ 4 }
-        ensures burst { (accepted : AcceptedFrame) → result ≡ Ok accepted → IfSome accepted.place (λ place. place.position.burst < 4) }
+        ensures burst { (accepted : AcceptedFrame) → result ≡ Ok accepted →
+            IfSome accepted.place (λ place. place.position.burst < 4) }
     {
         let settings = match self.settings() {
             Some(settings) => settings,

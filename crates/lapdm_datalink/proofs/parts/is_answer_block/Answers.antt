@@ -13,5 +13,6 @@ returns-else-is_awaiting_kind c =
         record { fits = c.in-Ok.ensures.frame.frame.fits; kind = sym c.is_awaiting_kind.ensures ∙ c.if-is_awaiting_kind.false },
         sym (decides.0 t) ∙ c.write_on.ensures.octets,
       ),
-      λ h. decides.1 (c.write_on.ensures.octets ∙ ap (octets_of c.args.channel) (read_back h.1.fits h.2 c.in-Ok.ensures.frame) ∙ sym h.2),
+      λ h. decides.1 (c.write_on.ensures.octets ∙ ap (octets_of c.args.channel) (read_back h.1.fits h.2 c.in-Ok.ensures.frame)
+          ∙ sym h.2),
     )

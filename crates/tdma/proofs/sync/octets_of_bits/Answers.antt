@@ -15,4 +15,5 @@ returns-clause-same c =
     let last : c.get.result ≡ get_or bits 24 0 = c.get.ensures.value in
     let whole : slice ≡ take 24 slice ++ (get_or slice 24 0 ∷ []) = front_and_last slice 24 count in
     sym same ∙ whole
-    ∙ ap₂ (λ (f : List ℕ) (x : ℕ). f ++ (x ∷ [])) (sym front ∙ ap bits_of three) (ap (λ (l : List ℕ). get_or l 24 0) same ∙ sym last)
+    ∙ ap₂ (λ (f : List ℕ) (x : ℕ). f ++ (x ∷ [])) (sym front ∙ ap bits_of three)
+    (ap (λ (l : List ℕ). get_or l 24 0) same ∙ sym last)

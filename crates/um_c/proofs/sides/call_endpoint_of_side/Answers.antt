@@ -1,11 +1,18 @@
-use Rattle.{std.proofs.Common.{◌≡◌, ◌≢◌, ◌∙◌, Some, ap, refl, subst, sym, ℕ}, um_air.specs.lapdm_window.{Calls.Call, declared.Sapi.{Sapi, TheVariants.{Three, Zero}}}, lapdm_end.specs.Sides.other, um_c.specs.{EndCalls.EndpointAnswersCall, SideCalls.{IsValidSide, SideAnswersCall, endpoint_of}, States.{IsCanonicalStruct, sapi_of}}, um_c.specs.declared.{states.CEndpoint.CEndpoint, sides.CSide.CSide, effects.CEffects.CEffects}}
+use Rattle.{
+  std.proofs.Common.{◌≡◌, ◌≢◌, ◌∙◌, Some, ap, refl, subst, sym, ℕ},
+  um_air.specs.lapdm_window.{Calls.Call, declared.Sapi.{Sapi, TheVariants.{Three, Zero}}},
+  lapdm_end.specs.Sides.other,
+  um_c.specs.{EndCalls.EndpointAnswersCall, SideCalls.{IsValidSide, SideAnswersCall, endpoint_of}, States.{IsCanonicalStruct, sapi_of}},
+  um_c.specs.declared.{states.CEndpoint.CEndpoint, sides.CSide.CSide, effects.CEffects.CEffects},
+}
 use Rattle.um_c.proofs.sides.call_endpoint_of_side.Goals as goal
 
 one_sapi : (s k : Sapi) (number : ℕ) → Some s ≡ sapi_of number → Some k ≡ sapi_of number → k ≡ s
 one_sapi s k number is at = cc (at ∙ sym is)
 
 -- a call that goes to the endpoint of one SAPI is a call of the side
-side_answers : (k : Sapi) (sapi : ℕ) {call : Call} {answer : ℕ} (before after : CSide) {old new : CEffects} → Some k ≡ sapi_of sapi →
+side_answers : (k : Sapi) (sapi : ℕ) {call : Call} {answer : ℕ} (before after : CSide) {old new : CEffects} →
+    Some k ≡ sapi_of sapi →
     IsValidSide before → EndpointAnswersCall call answer (endpoint_of k before) (endpoint_of k after) old new →
     endpoint_of (other k) after ≡ endpoint_of (other k) before → (answer ≢ 0 → after ≡ before) →
     SideAnswersCall sapi call answer before after old new

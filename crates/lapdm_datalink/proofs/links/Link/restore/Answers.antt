@@ -7,7 +7,8 @@ use Rattle.lapdm_datalink.proofs.links.Link.restore.Goals as goal
 pub returns-then-not-restore-clause-valid : goal.returns-then-not-restore-clause-valid
 returns-then-not-restore-clause-valid c = (
   λ s. absurd (false≢true s),
-  λ h. absurd (false≢true (sym c.if-not-restore.true ∙ c.restore.ensures.valid.1 (some_endpoint (values_of_parts c.args.parts.now) h.1))),
+  λ h. absurd (false≢true (sym c.if-not-restore.true ∙ c.restore.ensures.valid.1
+      (some_endpoint (values_of_parts c.args.parts.now) h.1))),
 )
 
 pub returns-then-not-is_answer_block_if_any-clause-valid : goal.returns-then-not-is_answer_block_if_any-clause-valid
