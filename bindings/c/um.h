@@ -504,7 +504,7 @@ typedef struct um_timed_end {
 typedef struct um_datalink {
 	um_timed_end link0; /* SAPI 0 */
 	um_timed_end link3; /* SAPI 3 */
-	uint8_t heard0;     /* whether a SAPI 0 frame other than UI arrived since the last slot; any value but 0 means yes */
+	uint8_t heard0;     /* whether the last frame taken since um_datalink_next was of SAPI 0 and not UI; any value but 0 means yes */
 	uint8_t main;       /* what um_datalink_main said last; any value but 0 means yes */
 } um_datalink;
 
