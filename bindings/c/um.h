@@ -227,10 +227,9 @@ bool um_next_block(uint8_t combination, uint8_t direction, uint8_t timeslot, uin
 /* A receiver of one time slot: collects the bursts of each block by their frame numbers, and decodes the block.
  *
  * The bursts come in the order of their frame numbers, modulo a hyperframe. Frames may be left out: a burst that never came is zeros. A
- * block is decoded with its fourth burst, or with the first later frame that is not of this block; um_slot_miss with a later frame ends the
- * last one. A block of which no frame was taken or missed is not reported. The bursts of FCCH, SCH, RACH and idle frames are ignored, but
- * such a frame keeps the order and ends a block. So with UM_TCH_F take only the frames for which um_place_frame returns UM_PLACED: between
- * the bursts of its SACCH block there are frames of traffic.
+ * block is decoded with its fourth burst, or with the first later frame that is of another block; um_slot_miss with such a frame ends the
+ * last one. A block of which no frame was taken or missed is not reported. The bursts of FCCH, SCH, RACH, traffic and idle frames are
+ * ignored, but such a frame keeps the order.
  *
  * The state is plain numbers and arrays: it can be copied, or saved and restored. Each call tests it; a soft bit of -128 in it counts as
  * -127. */

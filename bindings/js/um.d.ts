@@ -222,8 +222,8 @@ export class Side {
 
 /**
  * A receiver of one time slot. The bursts come in the order of their frame numbers. Frames may be left out: a burst that never came is
- * zeros. A block is decoded with its fourth burst, or with the first later frame that is not of this block. So with "tch_f" take only the
- * frames that have a place: between the bursts of its SACCH block there are frames of traffic.
+ * zeros. A block is decoded with its fourth burst, or with the first later frame that is of another block; frames without a place only keep
+ * the order.
  */
 export class Slot {
   private constructor();

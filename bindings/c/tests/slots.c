@@ -230,6 +230,31 @@ static void slots(void)
 		"frame 0 follows the last of the hyperframe");
 }
 
+/* SACCH of TCH/F, time slot 0: its bursts are in frames 12, 38, 64 and 90 of 104, with frames of traffic between them */
+static void traffic_between(void)
+{
+	static const uint8_t octets[23] = { 0, 0, 3, 3, 1, 0x2b };
+	uint8_t bits[4][148];
+	int8_t soft[4][148], noise[148];
+	um_slot slot;
+	um_slot_block block;
+	uint32_t frame;
+	int blocks = 0;
+
+	memset(noise, 77, sizeof noise);
+	check(um_send_block(octets, 3, bits) && um_soft_from_bits(bits[0], soft[0], 592), "a block of SACCH");
+	check(um_slot_new(&slot, UM_TCH_F, UM_DOWNLINK, 0, 1, 0), "a time slot with TCH/F");
+	for (frame = 0; frame < 104; frame++) {
+		bool sacch = frame % 26 == 12;
+		if (um_slot_take(&slot, frame, sacch ? soft[frame / 26] : noise, &block) == UM_SLOT_BLOCK) {
+			blocks++;
+			check(frame == 90 && block.channel == UM_SACCH && block.first == 12 && block.heard == 4 && block.report.accepted
+				&& memcmp(block.report.octets, octets, 23) == 0, "the block of SACCH between frames of traffic");
+		}
+	}
+	check(blocks == 1, "one block of SACCH in 104 frames of TCH/F");
+}
+
 static void soft_bits(void)
 {
 	static const int8_t sbits[3] = { -128, 0, 127 };
@@ -267,6 +292,7 @@ int main(int argc, char **argv)
 	schedule(argv[2]);
 	erasing();
 	slots();
+	traffic_between();
 	soft_bits();
 	return failed;
 }

@@ -72,10 +72,9 @@ class Slot:
     """A receiver of one time slot with a channel combination, in one direction.
 
     The bursts come in the order of their frame numbers. Frames may be left out: a burst that never came is zeros. A block is decoded with
-    its fourth burst, or with the first later frame that is not of this block. So with "tch_f" take only the frames that have a place:
-    between the bursts of its SACCH block there are frames of traffic. If `words` is more than 1, blocks are decoded by list decoding; if
-    `erasures` is above 0, a block that is not accepted is decoded again without single bursts, the least trusted first. A slot is a value:
-    copy, deepcopy and pickle copy it."""
+    its fourth burst, or with the first later frame that is of another block; frames without a place only keep the order. If `words` is more
+    than 1, blocks are decoded by list decoding; if `erasures` is above 0, a block that is not accepted is decoded again without single
+    bursts, the least trusted first. A slot is a value: copy, deepcopy and pickle copy it."""
 
     __slots__ = ("_state",)
     __hash__ = None  # type: ignore[assignment]

@@ -32,9 +32,8 @@ impl PlainErasure {
 /// A receiver of one time slot: collects the bursts of each block by their frame numbers, and decodes the block.
 ///
 /// The bursts come in the order of their frame numbers, modulo a hyperframe. Frames may be left out: a burst that never came is zeros. A
-/// block is decoded with its fourth burst, or with the first later frame that is not of this block; [`miss`](Slot::miss) with a later frame
-/// ends the last one. The bursts of FCCH, SCH, RACH and idle frames are ignored, but such a frame ends a block. So with `TchF` take only
-/// the frames that have a place: between the bursts of its SACCH block there are frames of traffic.
+/// block is decoded with its fourth burst, or with the first later frame that is of another block; [`miss`](Slot::miss) with such a frame
+/// ends the last one. The bursts of FCCH, SCH, RACH, traffic and idle frames are ignored, but such a frame keeps the order.
 ///
 /// ```
 /// use um::{Carried, Combination, Direction, Slot};

@@ -102,15 +102,16 @@ finish p x = record {
   done = x.slot.bursts;
 }
 
--- whether the place belongs to the block that begins in frame `first`
-abbrev pub is_of_block : (first : ℕ) (place : Option Place) → Bool
-is_of_block first None = false
-is_of_block first (Some p) = p.first == first
+-- whether a frame with this place may come before the last burst of the block that begins in frame `first`: it has no place, as frames of
+-- traffic between the bursts of SACCH, or is of this block
+abbrev pub is_within_block : (first : ℕ) (place : Option Place) → Bool
+is_within_block first None = true
+is_within_block first (Some p) = p.first == first
 
--- if a frame does not belong to the block that is being collected, that block is finished
+-- if a frame is of another block than the one that is being collected, that block is finished
 abbrev pub end_collecting : (collecting place : Option Place) (step : Step) → Step
 end_collecting None place x = x
-end_collecting (Some c) place x = if is_of_block c.first place then x else finish c x
+end_collecting (Some c) place x = if is_within_block c.first place then x else finish c x
 
 -- a receiver that begins to collect the block that begins in frame `first`, of which no burst came
 abbrev pub begun : (first : ℕ) (slot : Slot) → Slot

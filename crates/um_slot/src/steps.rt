@@ -7,7 +7,7 @@ use burst_map::BURST_BITS;
 use tdma::{HYPERFRAME, Place};
 
 impl Slot {
-    /// Finishes the block that is being collected if the frame is not of it.
+    /// Finishes the block that is being collected if the frame is of another.
     pub(crate) fn end_collecting(
         &mut self,
         collecting: &Option<Place>,
@@ -24,9 +24,10 @@ impl Slot {
         let Some(collected) = collecting else {
             return None;
         };
-        if let Some(place) = place
-            && place.first == collected.first
-        {
+        let Some(place) = place else {
+            return None;
+        };
+        if place.first == collected.first {
             return None;
         }
         Some(self.finish(collected))
