@@ -54,7 +54,13 @@ class datalink {
 public:
 	static constexpr std::size_t octet_count = UM_DATALINK_OCTETS;
 
-	explicit datalink(um::role side, um::channel on = um::channel::sdcch, std::uint8_t t200 = 4, std::uint8_t t200_sapi3 = 6)
+	// SAPI 3 gets two slots more than SAPI 0
+	explicit datalink(um::role side, um::channel on = um::channel::sdcch, std::uint8_t t200 = 4)
+		: datalink(side, on, t200, t200 > 253 ? std::uint8_t{255} : static_cast<std::uint8_t>(t200 + 2))
+	{
+	}
+
+	datalink(um::role side, um::channel on, std::uint8_t t200, std::uint8_t t200_sapi3)
 	{
 		if (!um_datalink_new(&plain, number(side), number(on), t200, t200_sapi3))
 			plain = um_datalink{};

@@ -1,4 +1,4 @@
--- The 25 information bits of a synchronisation burst (GSM 04.08, today 3GPP TS 44.018, section 9.1.30a): octets, each sent least
+-- The 25 information bits of a synchronisation burst (GSM 04.08, today 3GPP TS 44.018, section 9.1.30): octets, each sent least
 -- significant bit first, with the BSIC in bits 8 to 3 of the first octet, then T1, T2 and T3', each most significant bit first.
 use Rattle.std.specs.Prelude.{ℕ, ◌≡◌, ◌<◌, ◌+◌, ◌*◌, ◌-◌, ◌/◌, ◌%◌, List, [], ◌∷◌, ◌++◌}
 use Rattle.std.specs.Prelude.{slice_index}
