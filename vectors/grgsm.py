@@ -8,8 +8,8 @@ import numpy
 
 HERE = os.path.dirname(os.path.abspath(__file__))
 sys.path.insert(0, os.path.join(HERE, "..", "checks", "receiver_parts"))
-from cell import CYCLE, cell  # noqa: E402
-from radio import FRAME, SAMPLES, modulated, noise, received  # noqa: E402
+from cell import CYCLE, cell
+from radio import FRAME, SAMPLES, modulated, noise, received
 
 FIRST, TSC = 2160 * CYCLE, 5
 
@@ -20,17 +20,20 @@ def main():
     samples = numpy.pad(modulated(bits), (1000, 20000))
     deviation = numpy.full(len(samples), 0.01)
     deviation[1000 + CYCLE * FRAME :] = numpy.sqrt(SAMPLES / 10**0.4)  # the first cycle is clean: there the receiver finds the cell
-    bursts, messages, _ = received(samples + noise(len(samples), deviation, draw), combined=False, control=False)
+    samples = samples + noise(len(samples), deviation, draw)
+    bursts, messages, _ = received(samples, combined=False, ppm=0, awaited=blocks, quiet=5)
     keys = [key for key in blocks if key[0] < 3 and 0 <= key[1] - FIRST - CYCLE < CYCLE // 2]
     given = 0
-    with open(os.path.join(HERE, "grgsm.in"), "w", encoding="ascii") as lines, open(os.path.join(HERE, "grgsm.out"), "w", encoding="ascii") as out:
+    lines, out = open(os.path.join(HERE, "grgsm.in"), "w", encoding="ascii"), open(os.path.join(HERE, "grgsm.out"), "w", encoding="ascii")
+    with lines, out:
         for slot, frame in keys:
             heard = [bursts[slot, frame + later] for later in range(4)]
-            wrong = numpy.array([list(map(int, burst)) for burst in heard]) != bits[frame - FIRST : frame - FIRST + 4, slot]
+            wrong = numpy.array([list(burst) for burst in heard]) != bits[frame - FIRST : frame - FIRST + 4, slot]
             coded = wrong[:, 3:60].sum() + wrong[:, 88:145].sum()
-            print(f"# time slot {slot} frame {frame}", *(f"n {burst}" for burst in heard), sep="\n", file=lines)
-            print(f"block tsc {TSC} train {wrong[:, 61:87].sum()} metric {127 * (456 - 2 * coded)} parity ok data {blocks[slot, frame]}", file=out)
-            given += messages.get((slot, frame)) == blocks[slot, frame]
+            print(f"# time slot {slot} frame {frame}", *("n " + "".join(map(str, burst)) for burst in heard), sep="\n", file=lines)
+            said = f"train {wrong[:, 61:87].sum()} metric {127 * (456 - 2 * coded)} parity ok data {blocks[slot, frame]}"
+            print(f"block tsc {TSC} {said}", file=out)
+            given += messages.get((slot, frame)) == bytes.fromhex(blocks[slot, frame])
     print(f"{len(keys)} blocks; gr-gsm's decoder gives {given}")
 
 
