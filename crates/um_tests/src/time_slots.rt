@@ -50,7 +50,8 @@ fn the_fourth_burst_finishes_a_block(rt: HostRuntime) {
     }
 }
 
-// Of the block of SDCCH 1, frames 4 to 7, two bursts come; frame 8 begins that of SDCCH 2. An idle frame ends that one.
+// Of the block of SDCCH 1, frames 4 to 7, two bursts come; frame 8 begins that of SDCCH 2. Frame 48 is
+// idle and ends none; frame 63 begins the next block of SDCCH 3.
 #[test]
 fn a_later_frame_finishes_a_block(rt: HostRuntime) {
     let mut slot = receiver(&rt);
@@ -67,7 +68,8 @@ fn a_later_frame_finishes_a_block(rt: HostRuntime) {
         (4, Channel::Sdcch, 1, 2),
         [1, 0, 3, 0],
     );
-    let taken = slot.take(48, &[7; BURST_BITS], &mut done);
+    assert_eq!(rt; slot.take(48, &[6; BURST_BITS], &mut done), Ok(None));
+    let taken = slot.take(63, &[7; BURST_BITS], &mut done);
     let finished = taken.unwrap_or(None);
     check_block(
         &rt,
