@@ -1,6 +1,6 @@
 //! Frame numbers, SCH and the channels of frames, tested on values of libosmocore and osmo-bts, and computed by hand.
 use std::process::Abort;
-use tdma::{
+use um_slot::{
     Channel, Combination, Direction, FrameTime, SchInfo, bits_of_sch, frame_of_time,
     place_of_frame, sch_of_bits, time_of_frame,
 };
