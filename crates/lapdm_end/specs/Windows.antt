@@ -7,7 +7,8 @@ use Rattle.lapdm_window.specs.segmenting.Segments.{Segment}
 use Rattle.lapdm_window.specs.declared.State.TheVariants.{Open}
 use Rattle.lapdm_window.specs.declared.window.Window.{Window}
 use Rattle.lapdm_window.specs.declared.effects.Effects.{Effects}
-use Rattle.lapdm_window.specs.Ends.{EndpointState, Outcome, no_effect, sends_frame, ◌then◌, response_frame, awaits_ack, awaits_answer, vr}
+use Rattle.lapdm_window.specs.Ends.{EndpointState, Outcome, no_effect, sends_frame, ◌then◌, response_frame, awaits_ack, awaits_answer}
+use Rattle.lapdm_window.specs.Ends.{vr}
 use Rattle.lapdm_window.specs.Calls.{awaited_frame}
 use Rattle.lapdm_window.specs.Rules.{outstanding_frame, accepts_segment, answers_segment, rejects_segment, sends_next_segment}
 use Rattle.lapdm_window.specs.Abstraction.{Represents}

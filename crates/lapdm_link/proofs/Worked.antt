@@ -163,7 +163,8 @@ read_on_sacch = record {
 
 -- so if the two ends of a link have different channels, the network opens a link that no mobile has asked for
 abbrev read_on_another_channel : List Move
-read_on_another_channel = Happens (Ask Mobile Three (SendUi (0x3f ∷ 1 ∷ 0 ∷ []))) ∷ Happens (Deliver Mobile (Some sabm_on_sacch)) ∷ []
+read_on_another_channel =
+    Happens (Ask Mobile Three (SendUi (0x3f ∷ 1 ∷ 0 ∷ []))) ∷ Happens (Deliver Mobile (Some sabm_on_sacch)) ∷ []
 
 other_channel : notified_from unbounded_world read_on_another_channel ≡
     Asked Mobile Three (SendsUi (0x3f ∷ 1 ∷ 0 ∷ [])) ∷ Notified Network Three (N.Opened []) ∷ []

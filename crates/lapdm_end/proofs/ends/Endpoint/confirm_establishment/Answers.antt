@@ -12,7 +12,8 @@ returns-clause-refines c e h =
     let none = unopened e (h.valid.no_message_before_open (rw is tt)) h.valid.window in
     record {
       represents = Represents-moved h.valid h.address h.variables h.unacked_messages refl h.sabm_info h.valid.sabm_info_fits
-          (possible_later e.state Open e.sapi e.sabm_info (λ idle. cc) (λ u. cc) h.valid.possible_sabm_info) (λ u. cc) (λ u. absurd u) refl
+          (possible_later e.state Open e.sapi e.sabm_info (λ idle. cc) (λ u. cc) h.valid.possible_sabm_info)
+          (λ u. cc) (λ u. absurd u) refl
           (h.segment_repeats ∙ ap (λ s. segment_repeats_in s e) is ∙ sym (ap (λ b. if b then e.retries else 0) none));
       frames = sym (append-nil c.args.effects.now.frames);
       notices = c.push.ensures ∙ ap (λ o. c.args.effects.now.notices ++ N.Opened o ∷ []) c.new.ensures;
