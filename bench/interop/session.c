@@ -10,7 +10,8 @@ enum { SLOTS = 12000, QUIET = 300, SETTLED = 12, AFTER_END = 40 };
 
 struct link_state {
 	bool asked_open[2], asked_close, again; /* again: the closer's link opened again, and is to be closed again */
-	int opened[2], closed[2], why[2], error[2];
+	int opened[2], closed[2], why[2];
+	unsigned errors[2];           /* the causes reported, a bit each */
 	int given[2], got[2];         /* messages taken by the side; messages that the side got */
 	long next_at[2], settled;
 };
@@ -98,7 +99,7 @@ static void report(struct side *s, int link, enum event event, const uint8_t *oc
 			k->why[role] = number;
 		break;
 	case ERROR:
-		k->error[role] = number;
+		k->errors[role] |= 1u << number;
 		if (is_um(role))
 			say_fault("a frame of the other side was refused", role, link);
 	}
@@ -238,7 +239,7 @@ static bool is_over(int role, const struct link_state *k)
 
 static bool gave_up(int role, const struct link_state *k)
 {
-	return (k->closed[role] && k->why[role] != BY_RELEASE) || k->error[role] == 1 || (k->closed[role] && !k->asked_close);
+	return (k->closed[role] && k->why[role] != BY_RELEASE) || k->errors[role] & 1u << 1 || (k->closed[role] && !k->asked_close);
 }
 
 /* Why a session did not end well, by what a side reported; 1 is the error of libosmogsm for a timer that expired N200 times. */
@@ -252,10 +253,12 @@ static void find_cause(void)
 				what = k->asked_close ? "takes a SABM for a new one after its DISC" : "takes a repeated SABM for a new one and drops what it has sent";
 			else if (k->why[r] == BY_REFUSAL && k->closed[r])
 				what = "is refused by DM";
-			else if (!is_um(r) && k->error[r] == 14)
+			else if (!is_um(r) && k->errors[r] & 1u << 14)
 				what = "answers a repeated SABM by DM";
 			else if (gave_up(r, k))
 				what = !k->opened[r] ? "gives up its SABM" : k->asked_close && r == plan->closer ? "gives up its DISC" : "gives up its I frame";
+			else if (!is_um(r) && k->errors[r] & 1u << 7)
+				what = "reports a sequence error and drops a message";
 			if (what) {
 				snprintf(result.cause, sizeof result.cause, "%s %s", name, what);
 				return;
