@@ -26,6 +26,7 @@
 #define UM_VERSION_MAJOR 0
 #define UM_VERSION_MINOR 2
 #define UM_VERSION_PATCH 0
+#define UM_VERSION_NUMBER (1000000 * UM_VERSION_MAJOR + 1000 * UM_VERSION_MINOR + UM_VERSION_PATCH)
 
 /* UM_CALL marks a call whose answer must not be ignored: what it writes is not written if it refuses. In gcc and clang an enum that a
  * call returns has one octet, so that -Wswitch and debuggers know the answer; elsewhere the answer is a uint8_t. */
@@ -44,6 +45,10 @@
 #ifdef __cplusplus
 extern "C" {
 #endif
+
+/* Returns the version of the library as one number, 1000000 * major + 1000 * minor + patch; that of this header is UM_VERSION_NUMBER. They
+ * differ if the program runs with another shared library than it was compiled for. */
+uint32_t um_version(void);
 
 /* Blocks: SACCH, SDCCH, BCCH, PCH and AGCH use the same coding (3GPP TS 45.003, 4.1). */
 
