@@ -30,7 +30,7 @@ impl MessageBuffer {
         &self.octets[..usize::from(self.count)]
     }
 
-    /// Replaces the message with `octets`, and fills the rest of the buffer with zeros.
+    /// Replaces the message with `octets`, and fills the rest of the buffer with zeros. So the message determines the whole buffer.
     pub fn write(&mut self, octets: &[u8])
         requires { length octets.now ≤ 255 }
         ensures { self.new ≡ message_buffer octets.now }
