@@ -11,7 +11,7 @@ ghost use Rattle.um_link.specs.Queues.{AreBitIndices, IsValidQueue, ReceivesOlde
 use circular_buffer::HeapCircularBuffer;
 use um_block::{BLOCK_OCTETS, BURST_BITS, Radio, Received, soften_block};
 
-/// The capacity of a queue, in blocks.
+/// The capacity of a queue, in blocks. A step is refused if more than 62 wait, since it may add two.
 pub(crate) const QUEUE_CAPACITY: usize = 64;
 
 /// Codes each frame as a block and appends it to the queue.
@@ -79,7 +79,6 @@ fn write_oldest_as_soft_values(
     }
 }
 
-/// Removes the oldest block from the queue `way`.
 // If the queue becomes empty, `clear` makes it start at its first slot again, so that the next block reuses recently used memory.
 pub(crate) fn drop_oldest_block(way: &mut HeapCircularBuffer<[[u8; BURST_BITS]; 4]>)
     requires way { IsValidQueue way.old }
