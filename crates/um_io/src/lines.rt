@@ -36,7 +36,6 @@ enum LineSearchResult {
     Line { length: usize, with_feed: usize },
     /// The end of the input: no octets remain.
     NoOctets,
-    /// A line that exceeds the line limit.
     LineTooLong,
     /// No line feed within the input limit, but octets past that limit.
     PastInputLimit,
@@ -103,7 +102,6 @@ impl Lines {
         self.is_over || self.find_in_held_octets().is_some()
     }
 
-    /// The number of buffered octets within the input limit.
     fn octets_within_limit(&self) -> usize
         ensures within { result ≡ length self.now.held }
         ensures space { result ≤ buffer_limit }
