@@ -64,7 +64,6 @@ pub fn next_block(
     None
 }
 
-/// Returns the channel and the burst that a frame carries.
 #[tactic(auto, using(crate::proofs::Cycles::position_at_remainder))]
 fn position_of_frame(
     combination: Combination,

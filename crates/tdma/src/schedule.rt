@@ -17,7 +17,7 @@ pub struct Position {
     pub burst: u8,
 }
 
-/// Returns what frame `frame` of two 51-multiframes carries in this direction.
+/// Returns what frame `frame` of two 51-multiframes carries in this direction. Some rows of the tables repeat only after two.
 pub(crate) fn position_in_multiframes(
     combination: Combination,
     direction: Direction,
@@ -70,7 +70,6 @@ fn random_access(has_rach: bool) -> Option<Position>
     }
 }
 
-/// Returns what a frame carries in the downlink.
 fn downlink_position(combination: Combination, frame: u8) -> Option<Position>
     requires within { frame < 102 }
     requires no_traffic { combination ≢ C.TchF }
