@@ -157,6 +157,7 @@ impl Lines {
     }
 
     /// Reads from the source once. A read that returns no octets marks the end of the input.
+    // Cold and not inlined: it runs once a reading, and is kept out of the way of each line.
     #[cold]
     #[inline(never)]
     fn read<S: Source>(&mut self, source: &mut S) -> Result<(), Failed>
