@@ -56,7 +56,8 @@ pub(crate) fn receive_oldest_block<R: Radio>(
     *received = Some(radio.receive(soft));
 }
 
-/// Writes the oldest block of the queue as soft values 127 and -127, with the given bits inverted.
+/// Writes the oldest block of the queue as soft values 127 and -127, with the given bits inverted. If there are none, the block is read
+/// where it stands, without a copy.
 fn write_oldest_as_soft_values(
     queue: &HeapCircularBuffer<[[u8; BURST_BITS]; 4]>,
     inverted_bits: &[u16],
