@@ -381,6 +381,7 @@ pub completes : (ps : List Segment) (octets held : List ℕ) → held ≡ partia
 completes ps octets held e some h =
     grind (arith, message_if_fits-some held h, partial_message_after-last [] ps octets, completed_message_after-last [] ps octets)
 
+-- after a segment with M = 1 that makes the message longer than 251 octets, the joiner holds no octets and discards the rest of the message
 pub taken_oversize : (ps : List Segment) (octets : List ℕ) → max_message_octets < length (partial_message ps ++ octets) →
     HoldsReassemblyOf P.Discarding [] (ps ++ (octets, true) ∷ [])
 taken_oversize ps octets h =
@@ -391,6 +392,7 @@ taken_oversize ps octets h =
       completed_message_after-more [] ps octets,
     )
 
+-- after a segment with M = 0 that makes the message longer than 251 octets, the joiner holds no octets and expects a new message
 pub drops : (ps : List Segment) (octets : List ℕ) → max_message_octets < length (partial_message ps ++ octets) →
     HoldsReassemblyOf P.Open [] (ps ++ (octets, false) ∷ [])
 drops ps octets h =

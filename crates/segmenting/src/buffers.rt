@@ -3,7 +3,8 @@
 ghost use Rattle.std.specs.Prelude.{◌≡◌, ◌≤◌, [], length};
 ghost use Rattle.segmenting.specs.Buffers.{octets_in_buffer, message_buffer};
 
-/// A message as plain data, with the memory layout of C. It may be longer than the 251 octets that a link accepts.
+/// A message as plain data, with the memory layout of C. It may be longer than the 251 octets that a link accepts:
+/// there is room for 255, so that every `count` of one octet is within the array.
 #[repr(C)]
 #[derive(Clone, Copy, PartialEq, Eq, Debug)]
 pub struct MessageBuffer {
