@@ -303,6 +303,7 @@ at_crc register =
     let none : register * 2 ^ 184 % 2 ^ 184 ≡ 0 = omega arith in
     rw (register_bits_split 184 40 224 (register * 2 ^ 184) refl, ← low_bits-mod 184 (register * 2 ^ 184), none, low_bits-zero, shl-shr)
 
+-- `v` is the sum of `w` and the error burst `burst`, and `burst` has the same syndrome as `w`
 record IsTurned (w v : List ℕ) : Type 0 where
   burst : Burst
   sum : v ≡ flipped w (pattern burst)
