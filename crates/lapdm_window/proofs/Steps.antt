@@ -267,6 +267,8 @@ one x f h = All-cons (FrameFits x.channel) f [] h (none x)
 
 -- ---- the window rules preserve the invariant and send frames that fit in a block
 
+-- after a window rule with outcome o, the role, channel, SAPI, SABM information and link state of endpoint x are unchanged, at most one
+-- segment is outstanding, and all frames sent fit in a block
 record Runs (x : EndpointState) (o : Outcome) : Type 0 where
   role : o.new_state.role ≡ x.role
   channel : o.new_state.channel ≡ x.channel
