@@ -122,6 +122,7 @@ drop_excess-none n bs h = let e : length bs - n ≡ 0 = omega arith in rw e refl
 
 -- ## Sending: Sending a frame appends one block to a queue; an arrival or a loss removes the oldest block.
 
+-- after i rounds, the loop has appended the blocks of the first i frames to the queue, and the radio has counted these blocks as sent
 pub record AreSentSoFar (tsc : ℕ) (octets : List Octets) (i : ℕ) (old new : Buffer Block) (sent sent' heard heard' : ℕ) : Type 0 where
   pub appends : AppendsBlocks tsc (take i octets) old.items new.items
   pub capacity : new.capacity ≡ old.capacity
