@@ -47,7 +47,6 @@ AllBits-filled {front} {rest} filled = rw filled.content
 
 -- ## WrittenHalves: Writing both halves of a normal burst, in either order, gives the burst of these halves.
 
--- in a list of three parts, `with_range_replaced` replaces the middle one
 with_range_replaced-middle : (places front old back part : List ℕ) (from to : ℕ) → places ≡ front ++ (old ++ back) →
     length front ≡ from → length (front ++ old) ≡ to → with_range_replaced places from to part ≡ front ++ (part ++ back)
 with_range_replaced-middle places front old back part from to is f t =
@@ -106,7 +105,6 @@ write_second-first first second tsc f s known =
     ap (λ burst. with_range_replaced burst 3 60 first) (write_second zeros zeros second tsc refl refl known)
     ∙ write_first zeros first second tsc refl
 
--- writing both halves into a normal burst with zeros in their places gives the normal burst of these halves
 pub both_written : (left burst half other first second : List ℕ) (tsc : ℕ) → length first ≡ 57 → length second ≡ 57 →
     tsc ≤ 7 → burst ≡ normal_burst (replicate 57 0) (replicate 57 0) tsc → half ≡ first → other ≡ second →
     left ≡ with_range_replaced (with_range_replaced burst 3 60 half) 88 145 other → left ≡ normal_burst first second tsc

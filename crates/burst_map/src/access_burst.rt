@@ -8,7 +8,6 @@ ghost use Rattle.burst_map.specs.Parts.{IsSliceAtOffset};
 use crate::place::place;
 use std::marker::Model;
 
-// The eight extended tail bits at the start of the burst.
 const EXTENDED_TAIL_BITS: [u8; 8] = [0, 0, 1, 1, 1, 0, 1, 0];
 
 static ACCESS_TRAINING: [u8; 41] = [

@@ -8,7 +8,7 @@ use crate::BURST_BITS;
 use crate::lending::borrow_range_mut;
 use crate::normal_burst::normal;
 
-/// Borrows a normal burst, so that the caller can write its two halves of 57 coded bits.
+/// Borrows a normal burst, so that the caller can write its two halves of 57 coded bits in place, without a copy.
 #[derive(Debug, Drop)]
 pub struct NormalParts<'a> {
     burst: &'a mut [u8; BURST_BITS],

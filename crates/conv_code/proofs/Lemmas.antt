@@ -69,11 +69,9 @@ delayed_bit-more u k d e h = grind arith
 delayed_bit-none : (u : List ℕ) (k : ℕ) → delayed_bit u k 0 ≡ get_or u k 0
 delayed_bit-none u k = grind arith
 
--- from k = d on, the bit that is d positions before bit k exists
 pub delayed_bit-late : (u : List ℕ) (k d : ℕ) → d ≤ k → delayed_bit u k d ≡ get_or u (k - d) 0
 delayed_bit-late u k d h = grind arith
 
--- a value read from a bit list is at most 1, also past the end of the list, where it is 0
 pub bit_at-most_1 : (u : List ℕ) (k : ℕ) → AllBits u → get_or u k 0 ≤ 1
 bit_at-most_1 u k bits = elim (cases_lt k (length u)) [
   | inl within ↦ bits k 0 within
@@ -406,7 +404,6 @@ module _ (octets : List ℕ) (k : ℕ) where
         delayed_is 4 (k + 4) (omega arith) (omega arith),
       ) is
 
--- 64 octets are the packed coded bits of 32 information octets if each of them holds the coded bits of its four information bits
 pub AreCodedBitsPacked-encode_four_bits_per_octet : (octets packed : List ℕ) → length octets ≡ 32 →
     ((t : ℕ) → t < 64 → HoldsFourCodedPairs (bits_of (0 ∷ octets)) (get_or packed t 0) t) →
     AreCodedBitsPacked 64 (encoding (bits_of octets)) packed
@@ -456,7 +453,6 @@ module _ (u rest : List ℕ) (k : ℕ) (lt : k < length u) where
   front_second =
       rw ((coded_at (u ++ rest) k longer).1, (coded_at u k lt).1, here_front, delayed_front 1, delayed_front 3, delayed_front 4) refl
 
--- the coded bits of a list are the front of the coded bits of any list that begins with it
 pub AreCodedBitsPacked-front : (m n : ℕ) (u rest octets : List ℕ) → n ≤ m → 4 * n ≤ length u →
     AreCodedBitsPacked m (encoding (u ++ rest)) octets →
     AreCodedBitsPacked n (encoding u) octets
@@ -485,7 +481,6 @@ same_list (x ∷ u) (y ∷ v) = elim (same_number x y) [
   | inr other ↦ inr (λ e. other (cc))
 ]
 
--- lexicographic order is asymmetric: two lists cannot each come before the other
 IsLexicographicallyBefore-one_way : (u v : List ℕ) → IsLexicographicallyBefore u v → IsLexicographicallyBefore v u → ⊥
 IsLexicographicallyBefore-one_way u v h g = grind arith
 

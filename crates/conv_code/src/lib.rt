@@ -23,7 +23,8 @@ pub fn encode(u: &[u8], out: &mut [u8])
     encode_from_fifth_bit(u, out);
 }
 
-/// Writes the first four pairs of coded bits. Bits before the first information bit count as 0.
+/// Writes the first four pairs of coded bits. Bits before the first information bit count as 0. Only these pairs need the test for the
+/// front of the list, so they have a loop of their own.
 fn encode_first_four_bits(u: &[u8], out: &mut [u8])
     requires information { IsEncoderInput u.now }
     requires count { length out.old ≡ 2 * length u.now }

@@ -6,7 +6,8 @@ ghost use Rattle.conv_code.specs.Code.{encoding};
 ghost use Rattle.conv_code.specs.CodedPairs.{HoldsFourCodedPairs};
 
 /// Encodes 256 information bits, which `octets` holds least significant bit first. Each octet of the result holds four pairs of coded bits:
-/// the first bits of the pairs in bits 0 to 3, and the second bits in bits 4 to 7.
+/// the first bits of the pairs in bits 0 to 3, and the second bits in bits 4 to 7. An octet 0 in front stands for the bits before the
+/// first, which count as 0.
 pub fn encode_packed(octets: &[u8; 32]) -> [u8; 64]
     ensures { AreCodedBitsPacked 64 (encoding (bits_of octets.now)) result }
 {
@@ -39,7 +40,7 @@ fn straddling_octet(previous_octet: u8, current_octet: u8) -> u8
 }
 
 /// Encodes the upper four of eight information bits. The result holds the first bits of the four coded pairs in bits 0 to 3, and the second
-/// bits in bits 4 to 7.
+/// bits in bits 4 to 7. Shifts and XORs of the whole octet compute the four pairs at once.
 #[inline]
 fn encode_upper_four_bits(straddling_octet: u8) -> u8
     ensures first { (i : ℕ) → i < 4 →

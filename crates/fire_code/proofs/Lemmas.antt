@@ -72,24 +72,20 @@ register_bits_split (suc k) n zero number count = absurd (omega arith)
 register_bits_split (suc k) n (suc m) number count =
     cc (register_bits_split k n m (number / 2) (omega arith), shr-shr number 1 k, one-add k)
 
--- for a number below 2 ^ n, all bits from bit n on are 0
 register_bits_beyond : (n k m number : ℕ) → m ≡ n + k → number < 2 ^ n →
     low_bits m number ≡ low_bits n number ++ replicate k 0
 register_bits_beyond n k m number count within =
     cc (register_bits_split n k m number count, div-eq_of_lt within, low_bits-zero k)
 
--- the n lowest bits of a number are those of its residue modulo 2 ^ n
 pub low_bits-mod : (n number : ℕ) → low_bits n (number % 2 ^ n) ≡ low_bits n number
 unfolding low_bits
 low_bits-mod zero number = refl
 low_bits-mod (suc n) number = cc (add-one n, mod-mod-pow number n 1, field_of number n 1, low_bits-mod n (number / 2))
 
--- registers with equal bits are equal
 pub same_register : (n a b : ℕ) → a < 2 ^ n → b < 2 ^ n → low_bits n a ≡ low_bits n b → a ≡ b
 same_register n a b within within' same =
     same_from_bits_below n a b within within' (λ i lt. cc (get_or-low_bits n a i lt, same, get_or-low_bits n b i lt))
 
--- if two numbers add up to 2 ^ m - 1, the n lowest bits of one are those of the other, inverted (n ≤ m)
 inverted_bits : (n m inverted number : ℕ) → n ≤ m → inverted + number + 1 ≡ 2 ^ m →
     xor_bits (low_bits n inverted) (replicate n 1) ≡ low_bits n number
 unfolding low_bits
@@ -159,7 +155,6 @@ octet_before register k n octet rest first is =
 
 -- ## Steps: One step of the linear feedback shift register is one step of long division.
 
--- the generator, multiplied by the carry bit, is a multiple of the generator
 carry_multiple : (n carry taps : ℕ) → carry ≤ 1 → IsDivisibleBy (carry ∷ low_bits n (carry * taps)) (1 ∷ low_bits n taps)
 carry_multiple n zero taps h =
     rw (zero-mul, low_bits-zero) (IsDivisibleBy-zeros (suc n) _ (omega (arith, length-low_bits n taps)))
@@ -232,7 +227,6 @@ IsRemainder bits register = IsDivisibleBy (bits ++ low_bits 40 register) fire_ge
 pub empty_register : IsRemainder [] 0
 empty_register = (rw low_bits-zero (IsDivisibleBy-zeros 40 fire_generator (omega arith)), omega arith)
 
--- each entry of the table is the Fire code remainder of its octet
 pub entry_multiple : (octet : ℕ) → octet < 256 → IsRemainder (low_bits 8 octet) (get_or OCTET_REMAINDERS octet 0)
 unfolding is_entry
 entry_multiple octet within =
@@ -303,7 +297,6 @@ module _ (n taps : ℕ) (d : List ℕ) where
             (inverted_long p is) (inverted_long p' is') is.quotient is'.quotient,
       )
 
--- adding, modulo 2, a word whose information bits are 0 changes only the check bits
 pub add_after : (n : ℕ) (d p added : List ℕ) → length d ≡ n → AllBits d →
     xor_bits (d ++ p) (replicate n 0 ++ added) ≡ d ++ xor_bits p added
 add_after n d p added count bits =
@@ -372,7 +365,6 @@ xor_again a b = cc (xor_assoc a a b, xor_self a, xor_zero_l b)
 
 module _ (d : List ℕ) (register : ℕ) (ed : length d ≡ 184) (bits : AllBits d)
     (multiple : IsDivisibleBy (d ++ low_bits 40 register) fire_generator) where
-  -- 184 information bits followed by their inverted remainder are a codeword
   inverted_remainder : (check : ℕ) → xor_bits (low_bits 40 check) (replicate 40 1) ≡ low_bits 40 register →
       IsXcchCodeword (d ++ low_bits 40 check)
   inverted_remainder check is =
@@ -440,7 +432,6 @@ rach_word d p b ed bd is eb bb =
           (word_of_crc 8 6 61 d ed p (lit< tt) bd is).2;
     }
 
--- the XOR of the check bits of a RACH codeword and the BSIC is the CRC of the information bits
 rach_crc : (d p b : List ℕ) → length d ≡ 8 → IsRachCodeword (d ++ p) b → IsCrc 6 61 d (xor_bits p b)
     × (xor_bits (xor_bits p b) b ≡ p)
 unfolding low_bits
@@ -467,7 +458,6 @@ one_rach_crc d p p' b ed word word' =
     let crc' = rach_crc d p' b ed word' in
     cc (crc.1, crc'.1, one_crc 6 61 d (xor_bits p b) (xor_bits p' b) crc.0 crc'.0)
 
--- the bits d followed by six bits x are a codeword for the BSIC b exactly if b is the XOR of x and the CRC of d
 pub rach_code : (d p x b : List ℕ) → length d ≡ 8 → AllBits d → IsCrc 6 61 d p → length x ≡ 6 → AllBits x →
     length b ≡ 6 →
     AllBits b → (xor_bits p x ≡ b) ↔ IsRachCodeword (d ++ x) b
@@ -510,7 +500,6 @@ multiple_of_zeros n t small = record {
   quotient = IsDivisibleBy-zeros n (1 ∷ t) (omega arith);
 }
 
--- eight zeros and six ones are a RACH codeword for BSIC 0
 zeros_of_rach : IsRachCodeword (replicate 8 0 ++ replicate 6 1) (replicate 6 0)
 zeros_of_rach = record {
   count = refl;
@@ -520,7 +509,6 @@ zeros_of_rach = record {
   multiple = multiple_of_zeros 14 _ (lit< tt);
 }
 
--- fourteen zeros are a RACH codeword for BSIC 63, and not for BSIC 0
 zeros_of_rach_under_ones : IsRachCodeword (replicate 14 0) (replicate 6 1)
 zeros_of_rach_under_ones = record {
   count = refl;

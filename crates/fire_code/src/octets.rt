@@ -283,7 +283,7 @@ pub fn octet_remainder(octet: u8) -> Bits<40>
 }
 
 /// Returns the Fire code remainder of a list of bits whose length is a multiple of eight: the list, followed by the 40 bits of the result,
-/// bit 0 first, is a multiple of the generator.
+/// bit 0 first, is a multiple of the generator. One look-up in the table has the effect of eight steps of the shift register.
 pub(crate) fn remainder(bits: &[u8]) -> u64
     requires bits { AllBits bits.now }
     requires whole { length bits.now ≡ 8 * (length bits.now / 8) }
@@ -312,7 +312,6 @@ pub(crate) fn remainder_of_octets(octets: &[u8]) -> u64
     register
 }
 
-/// Returns the Fire code remainder of one octet, from the table.
 #[inline]
 fn table_remainder(octet: u8) -> u64
     ensures multiple { IsDivisibleBy (low_bits 8 octet ++ low_bits 40 result) fire_generator }

@@ -31,7 +31,8 @@ pub fn xcch_parity_of_octets(octets: &[u8; BLOCK_OCTETS]) -> [u8; 5]
     octets_of_register(!remainder_of_octets(octets))
 }
 
-/// Returns whether the last 40 of 224 bits are the Fire code bits of the first 184.
+/// Returns whether the last 40 of 224 bits are the Fire code bits of the first 184. The check bits are the inverted remainder, so a
+/// codeword has forty ones in the sum of the two; they are compared as one number.
 pub fn xcch_holds(w: &Bits<224>) -> bool
     ensures { IsTrue result ↔ IsXcchCodeword w.now }
 {

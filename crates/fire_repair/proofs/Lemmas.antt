@@ -89,13 +89,11 @@ unfolding lfsr_steps
 moved_within zero register within = within
 moved_within (suc n) register within = moved_within n (lfsr_step register) (moved_once_within register within)
 
--- multiplication by D moves the lowest bit to the highest place
 highest_of_moved : (register : ℕ) → register < 2 ^ 40 → lfsr_step register / 2 ^ 39 ≡ register % 2
 highest_of_moved register within =
     xor_shifted (register / 2) (register % 2 * 618479558656) 39 0 (register % 2) (omega arith) (omega arith)
     ∙ xor_zero_l (register % 2)
 
--- multiplication by D^n is injective
 same_moved : (n a b : ℕ) → a < 2 ^ 40 → b < 2 ^ 40 → lfsr_steps n a ≡ lfsr_steps n b → a ≡ b
 unfolding lfsr_steps
 same_moved zero a b within within' same = same
@@ -122,7 +120,6 @@ syndrome_within b = moved_within (212 - b.start) (b.shape * 2 ^ 28) (omega arith
 is_plain : ℕ → ℕ → ℕ → Bool
 is_plain place shape register = elim (register % 2 ^ 28) [ zero ↦ eqb (register / 2 ^ 28 * 2 ^ place) shape | suc _ ↦ true ]
 
--- for each i below n, `is_plain` holds for `place + i`, the shape, and the register multiplied by D^i
 stays_plain : ℕ → ℕ → ℕ → ℕ → Bool
 stays_plain zero place shape register = true
 stays_plain (suc n) place shape register = is_plain place shape register && stays_plain n (suc place) shape (lfsr_step register)
@@ -159,7 +156,6 @@ ordered b b' order same =
     let shifted : b'.shape * 2 ^ d ≡ b.shape = rw (there, shl-shr, zero-add) at plain in
     rw (← shifted, powers) (mul_assoc b'.shape (2 ^ d) (2 ^ b.start))
 
--- error bursts with the same syndrome invert the same bits
 same_burst : (b b' : Burst) → syndrome_of b ≡ syndrome_of b' → pattern b ≡ pattern b'
 same_burst b b' same =
     elim (cases_lt b.start b'.start) [
@@ -170,7 +166,6 @@ same_burst b b' same =
 -- ## Syndromes: An error burst in the last twelve bits of the word is its own syndrome, and moving it by one bit to the front multiplies
 -- its syndrome by D.
 
--- the 224 lowest bits of a number are a multiple of the generator
 abbrev IsDivisible : ℕ → Type 0
 IsDivisible n = IsDivisibleBy (low_bits 224 n) fire_generator
 
@@ -188,7 +183,6 @@ AreCongruent-trans a b c ab bc =
     (divided_more [] [] (low_bits 224 (bit_xor a b)) [] [] (low_bits 224 (bit_xor b c)) fire_generator (All-nil IsBit) refl
     (simp length-low_bits) refl ab bc)
 
--- dropping a leading zero of a multiple of the generator (of at least 41 bits) gives a multiple of the generator
 without_leading_zero : (x : List ℕ) → 40 ≤ length x → IsDivisibleBy (0 ∷ x) fire_generator → IsDivisibleBy x fire_generator
 without_leading_zero x room ([], p) = absurd (omega (arith, p.count))
 without_leading_zero x room (zero ∷ q, p) = (
@@ -240,7 +234,6 @@ syndrome_earlier number register small even within same =
     (simp length-low_bits) refl
     (rw leading at same) (last_multiple bit (omega arith))))
 
--- if an error pattern moves by j bits to the front, its syndrome is multiplied by D^j
 syndrome_moved : (j number register : ℕ) → number * 2 ^ j < 2 ^ 224 → register < 2 ^ 40 →
     HasRemainder (number * 2 ^ j) register → HasRemainder number (lfsr_steps j register)
 unfolding lfsr_steps
@@ -252,7 +245,6 @@ syndrome_moved (suc j) number register small within same =
     (subst (λ n. HasRemainder n (lfsr_step register)) (omega arith)
     (syndrome_earlier (number * 2 ^ suc j) register small (omega arith) within same))
 
--- dividing the pattern of an error burst by the generator leaves its syndrome
 syndrome_of_burst : (b : Burst) → HasRemainder (pattern b) (syndrome_of b)
 syndrome_of_burst b =
     let j = 212 - b.start in
@@ -264,7 +256,6 @@ syndrome_of_burst b =
 
 -- ## BurstBits: The bits of an error burst.
 
--- a shape that is shifted left by `start` bits has only zeros below bit `start`
 bit_before : (shape start k : ℕ) → k < start → bit_at (shape * 2 ^ start) k ≡ 0
 bit_before shape start k before = rw (add-zero, bit_at-zero) at (bit_at_cat_low shape start 0 k before)
 
@@ -273,7 +264,6 @@ bit_from shape start k i at =
     let same : k - start ≡ i = omega arith in
     rw (add-zero, same) at (bit_at_cat_high shape start 0 k (pow_pos start) (omega arith))
 
--- a number whose bits are 0 outside twelve consecutive positions is a twelve-bit shape, shifted left to the first of these positions
 split : (n start : ℕ) → ((k : ℕ) → ((start ≤ k) × (k < start + 12) → ⊥) → bit_at n k ≡ 0) →
     (n / 2 ^ start * 2 ^ start ≡ n) × (n / 2 ^ start < 2 ^ 12)
 split n start outside =
@@ -292,13 +282,11 @@ pattern_within b =
     let most = pow-le-pow_right {n = 2} (omega arith) {i = 12 + b.start} {j = 224} (omega arith) in
     omega (arith, shl_below b.shape 12 b.start b.short_shape)
 
--- the number that the n bits of a list represent is below 2 ^ n, and its n lowest bits are the list
 as_number : (n : ℕ) (xs : List ℕ) → length xs ≡ n → AllBits xs → (low_bits n (number_of xs) ≡ xs) × (number_of xs < 2 ^ n)
 as_number n xs count bits = rw (← count) (low_bits-number_of xs bits, number_of_within xs bits)
 
 -- ## Words: Adding an error pattern to a word of 224 bits gives a codeword exactly if the pattern has the word's syndrome.
 
--- the word with bit k inverted for every bit k of the number that is 1
 abbrev pub flipped : List ℕ → ℕ → List ℕ
 flipped w n = xor_bits w (low_bits 224 n)
 
@@ -310,7 +298,6 @@ inverted_crc : low_bits 224 (0xffffffffff * 2 ^ 184) ≡ replicate 184 0 ++ repl
 unfolding low_bits
 inverted_crc = refl
 
--- a register shifted left by 184 bits is a word of 184 zeros followed by the 40 bits of the register
 at_crc : (register : ℕ) → low_bits 224 (register * 2 ^ 184) ≡ replicate 184 0 ++ low_bits 40 register
 at_crc register =
     let none : register * 2 ^ 184 % 2 ^ 184 ≡ 0 = omega arith in
@@ -437,13 +424,11 @@ module _ (w : List ℕ) (ew : length w ≡ 224) (bw : AllBits w) where
     });
   }
 
-  -- adding a register to the check bits changes only the last 40 bits of a word
   parts_of : (register : ℕ) → flipped w (register * 2 ^ 184) ≡ take 184 w ++ xor_bits (drop 184 w) (low_bits 40 register)
   parts_of register =
       let added = add_after 184 (take 184 w) (drop 184 w) (low_bits 40 register) (length-take-le 184 w (omega arith)) in
       rw (at_crc, ← added (All-take IsBit 184 w bw), take-append-drop)
 
-  -- the syndrome of a word is unique
   same_syndrome : (a b : ℕ) → a < 2 ^ 40 → b < 2 ^ 40 → HasRemainder (inverted w) a →
       HasRemainder (inverted w) b → a ≡ b
   same_syndrome a b within within' same same' =
@@ -455,7 +440,6 @@ module _ (w : List ℕ) (ew : length w ≡ 224) (bw : AllBits w) where
       add_bits_again p (low_bits 40 c) (AllBits-low_bits 40 c) (length-low_bits 40 c ∙ omega (arith, length-drop 184 w)) in
       same_register 40 a b within within' (sym (again a) ∙ ap (xor_bits p) sums ∙ again b)
 
-  -- every word has a syndrome
   some_syndrome : (register : ℕ) × (register < 2 ^ 40) × HasRemainder (inverted w) register
   some_syndrome =
       let d = take 184 w in
@@ -542,13 +526,11 @@ module _ (w : List ℕ) (ew : length w ≡ 224) (bw : AllBits w) where
     same : HasRemainder (inverted w) syndrome
     same = congruent_of (syndrome * 2 ^ 184) (rw at_crc has.word)
 
-    -- if a burst has the word's syndrome, adding it to the word gives a codeword
     word_of_burst : (b : Burst) → syndrome_of b ≡ syndrome → IsXcchCodeword (flipped w (pattern b))
     word_of_burst b is =
         word_of (pattern b) (AreCongruent-trans (inverted w) (syndrome * 2 ^ 184) (pattern b) same
         (rw (is, xor_comm) at (syndrome_of_burst b)))
 
-    -- a burst with the syndrome of a word that is not a codeword has a shape other than 0
     pub some_shape : (b : Burst) → syndrome_of b ≡ syndrome → 0 < b.shape
     some_shape b is =
         lt_of_not-le {n = b.shape} {m = 0} (λ none.

@@ -18,7 +18,8 @@ pub(crate) struct ErrorBurst {
     pub(crate) shape: u64,
 }
 
-/// Finds an error burst with this syndrome. Returns `None` if there is none.
+/// Finds an error burst with this syndrome by error trapping: divides the syndrome by D until its 28 lowest bits are 0; the other twelve
+/// are the error burst. Returns `None` if there is none. Two error bursts never share a syndrome, so the one found is the only one.
 pub(crate) fn find_error_burst(syndrome: u64) -> Option<ErrorBurst>
     requires { syndrome < 2 ^ 40 }
     ensures start { IfSome result (λ found. found.start ≤ 212) }
@@ -40,7 +41,6 @@ pub(crate) fn find_error_burst(syndrome: u64) -> Option<ErrorBurst>
     None
 }
 
-/// Returns the word `w` with the bits of the error burst inverted.
 pub(crate) fn flip_error_burst(w: &Bits<224>, found: ErrorBurst) -> Bits<224>
     requires count { length w.now ≡ 224 }
     requires bits { AllBits w.now }

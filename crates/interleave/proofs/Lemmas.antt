@@ -33,7 +33,6 @@ use mir.{Syntax.Width, Val.bits}
 
 -- ## Rows: `coded_bit_number_in_burst` is the inverse of `burst_of_bit` and `position_in_burst`, computed for all 456 coded bits.
 
--- coded bit k is at position j of burst b
 pub record IsCodedBitAt (k b j : ℕ) : Type 0 where
   pub in_range : k < 456
   pub burst : burst_of_bit k ≡ b
@@ -71,7 +70,6 @@ coded_bit_number_in_burst-inverse k hk =
     let found = at_passes_below _ 456 every_coded_bit_is_recovered k hk in
     search rules
 
--- the burst and the position in it determine the coded bit
 pub same_coded_bit : (k l : ℕ) → k < 456 → l < 456 → burst_of_bit k ≡ burst_of_bit l →
     position_in_burst k ≡ position_in_burst l →
     k ≡ l
@@ -86,14 +84,12 @@ coded_bit_number_in_burst-unique k b j hk burst place = let found = coded_bit_nu
 
 -- ## Bijection: Interleaving is a bijection between coded bits and burst positions, so the coded bits and the bursts determine each other.
 
--- each position j of each burst b holds a coded bit
 pub coded_bit_at : (b j : ℕ) → b < 4 → j < 114 → (k : ℕ) × (k < 456) × (burst_of_bit k ≡ b) × (position_in_burst k ≡ j)
 coded_bit_at b j hb hj =
     let stands = IsCodedBitAt-coded_bit_number_in_burst b j hb hj in
     (coded_bit_number_in_burst b j, stands.in_range, stands.burst, stands.place)
 
 module _ {X : Type 0} where
-  -- each value in the bursts is the value of a coded bit
   from_coded : (coded : List X) (bursts : List (List X)) → IsInterleaved coded bursts → (b j : ℕ) (d : X) → b < 4 → j < 114 →
       get_or (get_or bursts b []) j d ≡ get_or coded (coded_bit_number_in_burst b j) d
   from_coded coded bursts whole b j d hb hj =
@@ -161,7 +157,6 @@ pub position_in_burst-below : (k : ℕ) → position_in_burst k < 114
 unfolding position_in_burst
 position_in_burst-below k = omega arith
 
--- if both halves of a burst have the right value at the position of coded bit k, so has the whole burst
 pub halves-at : {X : Type 0} (first second : List X) (k : ℕ) (d value : X) → length first ≡ 57 →
     ((i : ℕ) → i < 57 → position_in_burst k ≡ 57 * 0 + i → get_or first i d ≡ value) →
     ((i : ℕ) → i < 57 → position_in_burst k ≡ 57 * 1 + i → get_or second i d ≡ value) →
@@ -193,7 +188,6 @@ module _ (b half : ℕ) (hb : b < 4) (hh : half ≤ 1) where
   pub half-position : (i : ℕ) → i < 57 → IsCodedBitAt (bit_of_half i) b (57 * half + i)
   half-position i hi = IsCodedBitAt-coded_bit_number_in_burst b _ hb (omega arith)
 
-  -- the coded bits at the 57 indexes `bit_of_half` are this half of the burst
   pub IsInterleaved-half_burst : (coded : List ℕ) (bursts : List (List ℕ)) (out : List ℕ) → IsInterleaved coded bursts →
       length out ≡ 57 → ((i : ℕ) → i < 57 → get_or out i 0 ≡ get_or coded (bit_of_half i) 0) →
       out ≡ slice_range (get_or bursts b []) (57 * half) (57 * half + 57)
@@ -276,7 +270,6 @@ module _ {X : Type 0} (bursts : List (List X)) (k : ℕ) (d : X) (hk : k < 456) 
   gathered_own b old new step same =
       step.updated_bits k d hk same ∙ ap (λ n. get_or (get_or bursts n []) (position_in_burst k) d) (sym same)
 
-  -- deinterleaving further bursts does not change a value that has been written
   gathered_keeps : (order : List ℕ) (old new : List X) → AreDeinterleaved bursts order old new → get_or old k d ≡ held →
       get_or new k d ≡ held
   gathered_keeps [] old new same there = ap (λ xs. get_or xs k d) (sym same) ∙ there
@@ -316,7 +309,6 @@ IsInterleaved-any_order bursts order old new long four each every steps = record
 
 -- ---- lemmas about interleaving
 
--- the coded bits of burst b, by position
 burst_bits : List ℕ → ℕ → List ℕ
 burst_bits c b = map (λ j. get_or c (coded_bit_number_in_burst b j) 0) (range_with_len 0 114)
 
@@ -371,7 +363,6 @@ module _ {X : Type 0} (none : X) (parts : List (List X)) (four : length parts �
 
 -- ---- lemmas about properties that values keep when they are interleaved or deinterleaved
 
--- mapping a function over all values before or after interleaving gives the same bursts
 pub IsInterleaved-map : {X Y : Type 0} (f : X → Y) (none : X) (c : List X) (parts : List (List X)) → IsInterleaved c parts →
     IsInterleaved (map f c) (map (map f) parts)
 IsInterleaved-map f none c parts spread = record {
@@ -393,7 +384,6 @@ IsInterleaved-map f none c parts spread = record {
       ∙ sym (get_or-map f c k none d here);
 }
 
--- a property of all values in the bursts holds for all deinterleaved values
 pub All-interleaved : {X : Type 0} (P : X → Type 0) (c : List X) (parts : List (List X)) → IsInterleaved c parts →
     All (All P) parts → All P c
 All-interleaved P c parts spread all k d h =
@@ -420,7 +410,6 @@ in_column k h = grind arith
 -- ## JoinedLanes: Interleaving the lanes of two vectors and reading the result as lanes of twice the width joins lanes in pairs. Three such
 -- steps transpose eight rows of eight octets.
 
--- P holds for each number below n, written as one tuple
 abbrev pub EachBelow : (ℕ → Type 0) → ℕ → Type 0
 EachBelow P zero = Unit {0}
 EachBelow P (suc n) = P 0 × EachBelow (λ k. P (suc k)) n
@@ -478,7 +467,6 @@ module _ (p : ℕ) (some : 0 < p) where
   below-picked xs h [] = tt
   below-picked xs h (k ∷ ks) = (below_at xs h k, below-picked xs h ks)
 
--- in two concatenated vectors of n lanes, lane s of the first vector is at index s and lane s of the second at index n + s
 get_or-append_pair : (p n : ℕ) (x y : List ℕ) → length x ≡ n → (s : ℕ) → s < n →
     get_or (x ++ y) s 0 + p * get_or (x ++ y) (n + s) 0 ≡ get_or x s 0 + p * get_or y s 0
 get_or-append_pair p n x y long s h =
@@ -504,7 +492,6 @@ paired_lane w q n m x y square long fits_x fits_y order j s whole h within hs fi
     (at (suc (2 * j)) within ∙ ap (λ k. get_or (x ++ y) k 0) second)
     ∙ get_or-append_pair p m x y long s hs
 
--- if f is applied lane by lane to x and to a vector with n in all lanes, lane s of the result is f of lane s of x and n
 lane_by : (f : ℕ → ℕ → ℕ) (x : List ℕ) (m n s : ℕ) → length x ≡ m → s < m →
     get_or (zip2 f x (replicate m n)) s 0 ≡ f (get_or x s 0) n
 lane_by f x m n s long h =
@@ -546,7 +533,6 @@ module _ (x y : List ℕ) (long_x : length x ≡ 8) (long_y : length y ≡ 8) wh
       let long_g : length (zip2 g y (replicate 8 n)) ≡ 8 = length-zip2 g y (replicate 8 n) long_y ∙ long_y in
       length-zip2 _ _ _ (long_f ∙ sym long_g) ∙ long_f
 
--- two adjacent octets, read as one 16-bit lane, form a number whose lower half is the first octet
 pub octet_pairs-lane : (octets : List ℕ) (from s : ℕ) → from + 16 ≤ length octets →
     ((k : ℕ) → Fits w8 (get_or octets k 0)) →
     s < 8 → get_or (digits_l 65536 8 (number_l 256 (chunk 0 16 (mid_of from (from + 16 - from) octets)))) s 0
@@ -662,14 +648,11 @@ interleave_lanes first second i hi =
     get_or-map (λ k. get_or (first ++ second) k 0) alternating_lanes i 0 0 (omega (arith, length-map-range_with_len))
     ∙ ap (λ k. get_or (first ++ second) k 0) at
 
--- a vector written to a list of the same length replaces all elements of the list
 pub put_chunk-whole : (old lanes : List ℕ) (i : ℕ) → length old ≡ 32 → length lanes ≡ 32 → i < 32 →
     get_or (put_chunk 0 old lanes) i 0 ≡ get_or lanes i 0
 put_chunk-whole old lanes i o l hi =
     ap (λ xs. get_or xs i 0) (put_chunk_is 0 old _ (omega arith)) ∙ get_or_append_left _ _ 0 i (omega arith)
 
--- if one vector holds the coded bits at every other position of a burst and a second vector those in between, the interleaved vectors hold
--- the coded bits at consecutive positions
 pub interleave_lanes-coded_bits : (coded first second : List ℕ) (b from i : ℕ) → length first ≡ 16 → i < 32 →
     ((p : ℕ) → p < 16 → get_or first p 0 ≡ get_or coded (coded_bit_number_in_burst b (from + 2 * p)) 0) →
     ((p : ℕ) → p < 16 → get_or second p 0 ≡ get_or coded (coded_bit_number_in_burst b (from + 1 + 2 * p)) 0) →
@@ -689,7 +672,6 @@ interleave_lanes-coded_bits coded first second b from i long hi even odd =
           ∙ ap (λ j. get_or coded (coded_bit_number_in_burst b j) 0) (omega arith)
     ]
 
--- half a burst is written in two parts: positions 0 to 31, and from position 32 on
 pub half_burst-coded_bits : (coded front rest back : List ℕ) (b half m i : ℕ) → length front ≡ 32 → length back ≡ 32 →
     i < 57 →
     ((j : ℕ) → j < 32 → get_or front j 0 ≡ get_or coded (coded_bit_number_in_burst b (57 * half + j)) 0) →

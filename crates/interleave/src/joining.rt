@@ -6,7 +6,8 @@ ghost use Rattle.interleave.specs.ColumnPositions.{burst_position_of_column_bit}
 
 use std::simd::prelude::*;
 
-/// Returns eight columns, starting at column `8 * column_group`. Each is one number whose least significant octet belongs to row 0.
+/// Returns eight columns, starting at column `8 * column_group`. Each is one number whose least significant octet belongs to row 0. Three
+/// steps, each of which joins lanes in pairs, transpose eight rows of eight octets.
 pub(crate) fn eight_columns(bursts: &[[u8; 114]; 4], column_group: usize) -> [u64; 8]
     requires { column_group < 7 }
     ensures { (s r : ℕ) → s < 8 → r < 8 →

@@ -21,7 +21,8 @@ pub fn spread(coded: &[u8; CODED_BITS]) -> [[u8; 114]; 4]
     bursts
 }
 
-/// Writes the coded bits of one half of burst `b`: positions 0 to 56 if `half` is 0, and 57 to 113 if it is 1.
+/// Writes the coded bits of one half of burst `b`: positions 0 to 56 if `half` is 0, and 57 to 113 if it is 1. It works bit by bit, with
+/// the table: vectors would save 5 % of `send_block`, at the cost of ninety more lines of proof.
 pub fn spread_burst(coded: &[u8; CODED_BITS], b: usize, half: usize, out: &mut [u8])
     requires burst { b < 4 }
     requires half { half ≤ 1 }

@@ -74,8 +74,6 @@ pub takes_segment-other : (ns : ℕ) (due p : Bool) (segment : Segment) (e : End
     due ≡ reject_is_due p e → takes_segment ns p segment e ≡ answers_out_of_sequence_segment due p (with_reject_condition e)
 takes_segment-other ns due p segment e h is = grind arith
 
--- the message that a segment with M = 0 completes consists of the incomplete message and the octets of the segment, if these are at most
--- 251 octets
 whole-completed_message : (ps : List Segment) (octets : List ℕ) → length (partial_message ps ++ octets) ≤ max_message_octets →
     completed_message (ps ++ (octets, false) ∷ []) ≡ partial_message ps ++ octets
 whole-completed_message ps octets h = completed_message_after-last [] ps octets
@@ -98,7 +96,6 @@ pub notices-completed_message : (ps : List Segment) (octets : List ℕ) (more : 
 notices-completed_message ps octets more joined h =
     rw h (segment_notices-answered (nat_lt max_message_octets (length (partial_message ps ++ octets))) ps octets more refl)
 
--- after the next segment becomes outstanding, the endpoint awaits its acknowledgement
 awaits_ack-next : (e : EndpointState) → has_segment_to_send e ≡ true → awaits_ack (with_segment_sent e) ≡ true
 awaits_ack-next e h = grind arith
 
@@ -137,7 +134,6 @@ Gives-then {o} rule g obeys =
       notices = rw (h.notices, g.notices, append_assoc);
     }
 
--- the notices that the endpoint reports after the window evaluates an N(R)
 abbrev pub notices_for : A.Acked → List Notice
 notices_for (V.Message number) = N.Acked number ∷ []
 notices_for other = []
@@ -162,14 +158,11 @@ pub Gives-from : {l : Address} {w : Window} {a b : Effects} {f : EndpointState} 
     AppendsOutcomeInOpen l w a b e o
 Gives-from e same g = record { still_open = g.still_open; sabm_info = g.sabm_info ∙ same; frames = g.frames; notices = g.notices }
 
--- if `RepresentsOpenEndpoint` holds for window w and endpoint e, it also holds for window v and an endpoint f that v represents, provided
--- that f has the role, SAPI, channel and state of e
 pub same_rules_in_open : {l : Address} {w v : Window} {e f : EndpointState} → RepresentsOpenEndpoint l w e →
     f.role ≡ e.role → f.sapi ≡ e.sapi →
     f.channel ≡ e.channel → f.state ≡ e.state → WindowRepresents v f → RepresentsOpenEndpoint l v f
 same_rules_in_open h role sapi channel same window = grind arith
 
--- if window v represents endpoint e with its next segment outstanding, sending that segment has the outcome of `sends_segment`
 pub Gives-next : {l : Address} {w v : Window} {a b : Effects} (e : EndpointState) → RepresentsOpenEndpoint l w e →
     has_segment_to_send e ≡ true →
     WindowRepresents v (with_segment_sent e) →
@@ -182,20 +175,16 @@ Gives-next e h has represents obeys =
 -- ## Moves: If the link state, SABM information or retry count of an `Endpoint` changes, it represents the abstract endpoint with the same
 -- change.
 
--- an endpoint state after the given role, SAPI, link state, SABM information and retry count replace its own
 abbrev pub with_fields : Role → Sapi → State → Message → ℕ → EndpointState → EndpointState
 with_fields role sapi s k r e = record e { role = role; sapi = sapi; state = s; sabm_info = k; retries = r }
 
 abbrev pub moved : State → Message → ℕ → EndpointState → EndpointState
 moved s k r e = with_fields e.role e.sapi s k r e
 
--- a window still holds the unacknowledged messages of an endpoint whose role, SAPI, link state, SABM information or retry count changes
 pub Holds-other : {role : Role} {sapi : Sapi} {s : State} {k : Message} {r place : ℕ} {e : EndpointState} {held : List Message} →
     HoldsUnackedMessages held place e → HoldsUnackedMessages held place (with_fields role sapi s k r e)
 Holds-other h = grind arith
 
--- an `Endpoint` with link state s, SABM information k and retry count r represents endpoint e after s, k and r replace the corresponding
--- values of e
 pub Represents-moved : {m : Endpoint} {s : State} {k : Message} {r : ℕ} {e : EndpointState} → IsValidEndpoint e →
     IsAddressOf m.address e → HasSameStateVariables m.window e →
     HoldsUnackedMessages m.window.held.items m.window.segment_index e → m.state ≡ s → m.sabm_info ≡ k →
@@ -213,16 +202,13 @@ Represents-moved {m} {s} {k} {r} {e} end link variables holds state kept fits po
   segment_repeats = repeats;
 }
 
--- SABM information that is possible in a state other than Idle is possible in each of them
 pub possible_later : (s t : State) (sapi : Sapi) (info : Message) → s ≢ Idle → t ≢ Idle → IsPossibleSabmInfo s sapi info →
     IsPossibleSabmInfo t sapi info
 possible_later s t sapi info begun later possible = grind arith
 
--- no segment of an endpoint without messages is outstanding
 pub unopened : (e : EndpointState) → e.messages ≡ [] → HasWindowOfOne e → awaits_ack e ≡ false
 unopened e taken window = grind arith
 
--- the variables of a window, and the messages that it holds, do not depend on its count of repetitions
 pub stopped : (w v : Window) {e : EndpointState} → P.values_of v ≡ record (P.values_of w) { retries = 0 } →
     HasSameStateVariables w e → HasSameStateVariables v e
 stopped w v same h = grind arith
@@ -234,7 +220,6 @@ stopped_holds w v same h = grind arith
 pub stopped_retries : (w v : Window) → P.values_of v ≡ record (P.values_of w) { retries = 0 } → v.retries ≡ 0
 stopped_retries w v same = ap (λ (x : P.WindowValues). x.retries) same
 
--- in Open, the SABM information that an endpoint keeps is possible, and no SABM or DISC has been repeated
 pub kept_in_open : {m : Endpoint} {e : EndpointState} → m.state ≡ Open → Represents m e →
     IsPossibleSabmInfo Open m.address.sapi e.sabm_info
 kept_in_open is_now h = grind arith
@@ -242,7 +227,6 @@ kept_in_open is_now h = grind arith
 pub unrepeated_in_open : {m : Endpoint} {e : EndpointState} → m.state ≡ Open → Represents m e → m.retries ≡ 0
 unrepeated_in_open {m} {e} is_now h = h.retries ∙ ap (λ s. command_repeats s e.retries) (sym h.state ∙ is_now)
 
--- if A holds and A implies B, both A and B hold
 pub both : {A B : Type 0} → A → (A → B) → A × B
 both a f = (a, f a)
 
@@ -296,18 +280,15 @@ pub refines-open : {a b : Effects} {e : EndpointState} {o : Outcome} (m : Endpoi
 refines-open m is_now kept possible none fs ns channel g =
     (represents_in_open is_now kept possible none g.sabm_info g.still_open, grind arith)
 
--- `AppendsOutcome` holds if the `Endpoint` represents the new state and the frames and notices of the outcome are appended to the effects
 pub Adds-by : {m : Endpoint} {a b : Effects} {o : Outcome} →
     (Represents m o.new_state → b.frames ≡ a.frames ++ map (octets_of m.address.channel) o.frames)
     → b.notices ≡ a.notices ++ o.notices → Represents m o.new_state → AppendsOutcome m a b o
 Adds-by frames notices represents = grind arith
 
--- at T200 expiry, an endpoint that has repeated a frame N200 times closes its link as failed
 pub t200_expiry-closes : (n : ℕ) (e : EndpointState) → n200 e.channel e.state ≡ n → n ≤ e.retries →
     t200_expiry e ≡ closes_and_reports R.Failed e
 t200_expiry-closes n e h most = grind (arith, nat_tests)
 
--- at T200 expiry, an endpoint that has repeated a frame fewer than N200 times repeats the frame and counts the repetition
 pub t200_expiry-again : (n : ℕ) (e : EndpointState) (s : State) → e.state ≡ s → n ≡ n200 e.channel s → e.retries < n →
     t200_expiry e ≡ sends_frame (awaited_frame true s e) (record e { retries = e.retries + 1 })
 t200_expiry-again n e s is h below = grind arith
@@ -340,7 +321,6 @@ Represents-same_values m n e same h =
       segment_repeats = sym (ap (λ (x : EndpointValues). x.window.retries) same) ∙ h.segment_repeats;
     }
 
--- the window is in its initial state if the endpoint that it represents has taken no message from layer 3 and accepted no segment
 unused : (w : Window) (e : EndpointState) → e.messages ≡ [] → e.accepted_segments ≡ [] → HasWindowOfOne e →
     HasSameStateVariables w e → HoldsUnackedMessages w.held.items w.segment_index e → IsInitialWindow (P.values_of w)
 unused w e taken accepted window variables holds = grind arith
@@ -356,7 +336,6 @@ no_repeats_in s retries repeats e h g before = grind arith
 is_mobile : (r : Rust.Role) → spec_role_of r ≡ E.Mobile → r ≡ V0.Mobile
 is_mobile r h = grind arith
 
--- the values of an `Endpoint` that represents an endpoint satisfy `AreConsistent`
 pub is_consistent : (m : Endpoint) (e : EndpointState) → Represents m e → AreConsistent (values_of m)
 is_consistent m e h = record {
   sabm_info_fits = grind arith;
@@ -368,7 +347,6 @@ is_consistent m e h = record {
       (h.valid.no_message_before_open before) (h.valid.no_segment_before_open before) h.valid.window h.variables h.unacked_messages));
 }
 
--- a window that holds the unacknowledged messages of an endpoint represents this endpoint with the retry count of the window
 held_by_then : (w : Window) (e : EndpointState) → HasWindowOfOne e → W.HasSameStateVariables w e →
     W.HoldsUnackedMessages w.held.items w.segment_index e → w.retries ≡ (if awaits_ack e then w.retries else 0) →
     W.Represents w (moved e.state e.sabm_info w.retries e)
@@ -378,7 +356,6 @@ held_by_then w e window variables holds counted =
 none_in : (s : State) (e : EndpointState) → segment_repeats_in s e ≡ (if awaits_ack e then segment_repeats_in s e else 0)
 none_in s e = grind arith
 
--- if an `Endpoint` represents an endpoint, its window represents one, too
 pub window_of : (m : Endpoint) (e : EndpointState) → Represents m e → (f : EndpointState) × W.Represents m.window f
 window_of m e h = (
   moved e.state e.sabm_info m.window.retries e,
@@ -389,7 +366,6 @@ window_of m e h = (
 -- ## Represented: If the values of an `Endpoint` satisfy `AreConsistent` and its window represents an endpoint, the `Endpoint` represents
 -- one: before Open the initial endpoint, and from Open on the one that the window represents.
 
--- this `Endpoint` represents at least one endpoint
 abbrev pub RepresentsOne : Endpoint → Type 0
 RepresentsOne m = (e : EndpointState) × Represents m e
 

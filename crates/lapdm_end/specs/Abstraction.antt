@@ -11,19 +11,15 @@ use Rattle.lapdm_window.specs.Abstraction as W
 use Rattle.lapdm_end.specs.declared.ends.Endpoint.{Endpoint}
 use Rattle.lapdm_end.specs.Addresses.{IsAddressOf, spec_role_of}
 
--- the channel of an endpoint
 abbrev pub channel_of : Endpoint → Channel
 channel_of m = m.address.channel
 
--- the SAPI of an endpoint
 abbrev pub sapi_of : Endpoint → Sapi
 sapi_of m = m.address.sapi
 
--- the link state of an endpoint
 abbrev pub state_of : Endpoint → State
 state_of m = m.state
 
--- the role of an endpoint
 abbrev pub role_of : Endpoint → Role
 role_of m = spec_role_of m.address.role
 

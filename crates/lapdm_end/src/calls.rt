@@ -15,6 +15,7 @@ impl Endpoint {
     ghost use Rattle.lapdm_end.specs.Refinement.{StepRefines, RefusesAsSpecified};
 
     /// Carries out a layer 3 call and replaces the effects with its frames and notices. A refused call leaves the effects unchanged.
+    /// Effects take some 850 octets, so the call writes into the caller's buffer.
     // Inlined because most callers pass a constant call, which leaves only one arm of the match.
     #[inline(always)]
     pub fn call(&mut self, call: &Call<'_>, effects: &mut Effects) -> Result<(), Refused>

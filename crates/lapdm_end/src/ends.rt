@@ -12,6 +12,7 @@ use lapdm_window::{Effects, Message, Reason, Refused, Sapi, State, Timer, Window
 /// An endpoint of a data link.
 #[derive(Debug, Drop)]
 pub struct Endpoint {
+    // The large fields come first, so that a new endpoint is one fill of memory.
     pub(crate) window: Window,
     // The information of the SABM that this endpoint sent, or of the SABM that established its link.
     pub(crate) sabm_info: Message,

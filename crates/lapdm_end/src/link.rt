@@ -39,7 +39,6 @@ impl Address {
         }
     }
 
-    // Encodes a command.
     pub(crate) fn command_block(self, body: Body<'_>) -> [u8; BLOCK_OCTETS]
         requires numbers { NsAndNrFit (content_of_body body) }
         requires information { InformationFits self.channel (content_of_body body) }

@@ -43,7 +43,6 @@ impl Address {
       takes_segment,
     };
 
-    // Sends the outstanding segment with P bit `p`, if there is one.
     pub(crate) fn send_outstanding_segment(self, p: bool, window: &Window, effects: &mut Effects)
         requires channel { channel_of window.now ≡ self.channel }
         requires space { length effects.old.frames ≤ 1 }

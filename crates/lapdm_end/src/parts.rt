@@ -133,7 +133,8 @@ impl Endpoint {
         }
     }
 
-    /// Restores an endpoint from its state. Returns false and changes nothing if no endpoint can have this state.
+    /// Restores an endpoint from its state. Returns false and changes nothing if no endpoint can have this state. A C program keeps the
+    /// state as plain data, because a pointer into the library's memory would have to be trusted.
     pub fn restore(&mut self, parts: &EndpointView<'_>) -> bool
         ensures same { IsTrue result → values_of self.new ≡ values_of_parts parts.now }
         ensures represents { IsTrue result → (e : EndpointState) → ValuesRepresent (values_of_parts parts.now) e

@@ -98,7 +98,8 @@ impl Endpoint {
     ghost use Rattle.lapdm_window.specs.Tables.{reply_in_closing, reply_in_closed, reply_in_state, reply};
     ghost use Rattle.lapdm_end.specs.Abstraction.{Represents, channel_of, state_of};
 
-    // Returns whether this information equals that of the SABM that this endpoint sent or that established its link.
+    // Returns whether this information equals that of the SABM that this endpoint sent or that established its link. To compare only the
+    // shorter length would let two mobiles open one link.
     fn equals_sabm_information(&self, info: &[u8]) -> bool
         ensures { (e : EndpointState) → Represents self.now e → result ≡ bytes_eq info.now e.sabm_info }
     {
@@ -197,6 +198,8 @@ impl Endpoint {
         }
     }
 
+    // The endpoint repeats its UA and keeps its state variables, so that a lost UA does no harm: a peer that repeats its SABM has sent no I
+    // frame, so both begin at 0.
     fn reply_to_sabm_in_open<'a>(&self, info: &'a [u8]) -> Reply<'a>
         requires information { length info.now ≤ n201 (channel_of self.now) }
         ensures reply { (e : EndpointState) → Represents self.now e
@@ -250,6 +253,7 @@ impl Endpoint {
         }
     }
 
+    // A UA with information is ignored, so that a late UA to a repeated SABM does not end the release.
     fn reply_in_closing<'a>(&self, body: &Body<'a>) -> Reply<'a>
         requires closing { state_of self.now ≡ S.Closing }
         ensures reply { spec_reply_of result ≡ reply_in_closing (content_of_body body.now) }

@@ -19,7 +19,8 @@ impl Endpoint {
     ghost use Rattle.lapdm_end.specs.Abstraction.{Represents, channel_of, role_of, sapi_of, state_of};
     ghost use Rattle.lapdm_end.specs.Refinement.{StepRefines, StepAppendsOutcomeOfRule};
 
-    /// Processes a received frame, and replaces the effects with the frames that the endpoint sends and the notices that it reports.
+    /// Processes a received frame, and replaces the effects with the frames that the endpoint sends and the notices that it reports. It
+    /// writes into the caller's buffer because effects take some 850 octets.
     pub fn take_frame_into(&mut self, frame: &FrameView<'_>, effects: &mut Effects)
         requires { FrameFits (channel_of self.old) (frame_of_view frame.now) }
         ensures refines { StepRefines (frame_outcome (frame_of_view frame.now)) self.old effects.new self.new }

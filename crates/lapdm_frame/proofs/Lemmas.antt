@@ -35,7 +35,6 @@ with_information a goes info = let f = fields_of_content a in content_with_field
 pub bit_bound : (b : Bool) → bit_of_bool b ≤ 1
 bit_bound x = grind arith
 
--- the control octet of an I frame is not the control octet of a frame of any other kind
 information_frame : (octet : ℕ) (a b : Content) → IsControlOctetOf octet a → IsControlOctetOf octet b → IsInformationFrame a →
     IsInformationFrame b
 information_frame _ a x h h' is_i = grind arith
@@ -56,7 +55,6 @@ pub fields_fit : (channel : Channel) (content : Content) → NsAndNrFit content 
     → FieldsFit channel (fields_of_content content)
 fields_fit _ x ns_nr_fit information = grind arith
 
--- no frame has more than 20 octets of information
 pub few_octets : (channel : Channel) (content : Content) → InformationFits channel content →
     length (fields_of_content content).info ≤ 20
 few_octets x y information = grind arith
@@ -140,7 +138,6 @@ module _ (channel : Channel) (octets : List ℕ) where
       past_length : IsAllowedLengthOctet (n201 channel) content (length_in_block channel octets) → NoneBefore channel octets 5
       past_length room = grind arith
 
-      -- if the length octet has a fault, that fault is the reason why the octets are refused
       pub fault_refuses : (reason : Refusal) → IsLengthFault (n201 channel) content (length_in_block channel octets) reason →
           IsOnlyRefusalReason channel octets reason
       fault_refuses El el_bit_value = refused El past_control el_bit_value
@@ -237,7 +234,6 @@ module _ (k : ℕ) where
   abbrev candidate : Kind → Content
   candidate kind = content_with_fields kind (k / 2 % 8) (k / 32) final false []
 
-  -- k is the control octet of no content if no frame kind, with the fields read from k, has the control octet k
   unknown : ((kind : Kind) → k ≢ control_octet (candidate kind)) → (content : Content) → ¬ IsControlOctetOf k content
   unknown none (I ns nr p more info) is_k = none K.I (omega (arith, final_is, bit_bound p))
   unknown none other is_k = none (fields_of_content other).kind (omega (arith, final_is, bit_bound (fields_of_content other).pf))
@@ -268,7 +264,6 @@ control_known : (k : ℕ) → ((content : Content) × IsControlOctetOf k content
     ⊎ ((content : Content) → ¬ IsControlOctetOf k content)
 control_known k = elim (cases_lt k 256) [ inl small ↦ known_or_not k small | inr large ↦ inr (no_such_octet k large) ]
 
--- the control octet depends neither on the information nor on the M bit of an I frame
 still_control : (k : ℕ) (a : Content) (goes : Bool) (info : List ℕ) → IsControlOctetOf k a →
     IsControlOctetOf k (with_information a goes info)
 still_control k x _ _ is_k = grind arith
@@ -284,7 +279,6 @@ goes_on_with x _ _ is_i = grind arith
 information_or_none : (content : Content) → HasNoInformation content ⊎ ¬ HasNoInformation content
 information_or_none _ = grind arith
 
--- if A and B are decidable, then either both hold, or A excludes B
 both_or_not : {A B : Type 0} → A ⊎ ¬ A → B ⊎ ¬ B → (A × B) ⊎ (A → ¬ B)
 both_or_not x y = grind arith
 

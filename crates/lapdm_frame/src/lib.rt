@@ -133,7 +133,7 @@ const KINDS: [Kind; 9] = [
 impl Kind {
     ghost use Rattle.lapdm_frame.specs.Content.{all_frame_kinds, kind_number};
 
-    /// Returns the number of the frame kind, 0 to 8.
+    /// Returns the number of the frame kind, 0 to 8, for programs in other languages.
     pub fn number(self) -> u8
         ensures { result ≡ kind_number self }
     {
@@ -149,6 +149,7 @@ impl Kind {
 }
 
 /// The kind of a frame, and every field that a frame of any kind may have. The fields that this kind does not have are 0, false or empty.
+/// It serves callers that treat all kinds alike.
 #[derive(Clone, Copy, PartialEq, Eq, Debug)]
 pub struct FrameFields<'a> {
     pub kind: Kind,
@@ -243,7 +244,6 @@ impl<'a> Body<'a> {
     }
 }
 
-// Returns the fields of an I frame.
 fn i_frame_fields(ns: u8, nr: u8, poll: bool, more: bool, info: &[u8]) -> FrameFields<'_>
     ensures { field_values_of_frame_fields result ≡ fields Kind.I ns nr poll more info.now }
 {
@@ -256,7 +256,6 @@ fn i_frame_fields(ns: u8, nr: u8, poll: bool, more: bool, info: &[u8]) -> FrameF
     }
 }
 
-// Returns the fields of a frame that has a P or F bit, but no N(S), no N(R) and no information.
 fn fields_with_only_pf(kind: Kind, pf: bool) -> FrameFields<'static>
     ensures { field_values_of_frame_fields result ≡ fields kind 0 0 pf false [] }
 {

@@ -9,7 +9,6 @@ ghost use Rattle.lapdm_frame.specs.Readings.{IsOnlyCanonicalCoding};
 use crate::{Body, Channel, FrameView};
 use bit_blocks::BLOCK_OCTETS;
 
-/// The octet that fills a block after the information.
 const FILL_OCTET: u8 = 0x2b;
 
 fn information_of<'a>(body: &Body<'a>) -> &'a [u8]

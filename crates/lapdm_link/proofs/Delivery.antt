@@ -91,7 +91,6 @@ invariant-step (called p c) h = c.arrives _ _ _ h
 invariant-step (took e t) h = t.arrives _ _ _ (rw e at h)
 invariant-step rival h = sends_plain _ _ h
 
--- a prefix of a list of complete messages contains no oversize message, only complete ones
 prefix_is_complete : (xs ys : List (Option Message)) (ms : List Message) → xs ++ ys ≡ map (λ m. Some m) ms →
     length (filter_map (λ x. x) xs) ≡ length xs
 prefix_is_complete [] ys ms h = refl
@@ -108,7 +107,6 @@ no_oversize xs ys zs ms h = cc h
 module _ (n : ℕ) (ms : List Message) (good : All IsValidMessage ms) (r : ℕ) (qs : List Segment)
     (accepted : qs ≡ take r (flat_map (segments n) ms))
   where
-    -- the messages that the accepted segments complete are a prefix of all messages
     delivered_prefix : (more : List (Option Message)) × (messages_ending_in_segments [] qs ++ more ≡ map (λ m. Some m) ms)
     delivered_prefix =
         let left = drop r (flat_map (segments n) ms) in
@@ -245,14 +243,12 @@ ui_in_order-lost x y o cs h = record { units_sent = trans (append (all _) (IsSom
 abbrev pub AreOctets : List ℕ → Type 0
 AreOctets m = All (λ octet. octet < 256) m
 
--- the message or information that a call contains consists of octets
 abbrev pub CallOctets : Call → Type 0
 CallOctets (Opens info) = AreOctets info
 CallOctets (Sends m) = AreOctets m
 CallOctets (SendsUi m) = AreOctets m
 CallOctets other = Unit {0}
 
--- the messages and information in the calls and SABM frames of these log lines consist of octets
 abbrev pub LineOctets : List LogLine → Type 0
 LineOctets [] = Unit {0}
 LineOctets (Asked r s call ∷ ls) = CallOctets call × LineOctets ls
@@ -431,18 +427,15 @@ module _ (r : Role) (s : Sapi) (ls new : List LogLine) where
   openings-more : (x : Side) → HasOpenings r s x ls → HasOpenings r s x (ls ++ new)
   openings-more x h = (of-as _ _ caused-more _ h.0, reached-more _ _ h.1)
 
--- a SABM that can establish a link has a cause in the log
 sabm-cause : (r : Role) (s : Sapi) (ls : List LogLine) (info : Message) → MayOpen s r info →
     WasAsked (other r) s ls info ⊎ ((s ≡ Zero) × Contains ls (RivalSabm info)) → HasEstablishmentTrigger r s info ls × IsBare s info
 sabm-cause r s ls info h g = grind arith
 
--- a UA that can establish a link has a cause in the log
 ua-cause : (r : Role) (s : Sapi) (ls : List LogLine) (info : Message) → WasAsked r s ls info →
     WasOpened (other r) s ls info ⊎ ((info ≡ []) × ((k : Message) × (WasAsked (other r) s ls k ⊎ WasOpened (other r) s ls k))) →
     HasEstablishmentTrigger r s info ls × IsBare s info
 ua-cause r s ls info k h = grind arith
 
--- if the line reports an establishment, its cause is among the lines before it
 abbrev pub IsOpenedAfter : List LogLine → LogLine → Type 0
 IsOpenedAfter before (Notified r s (N.Opened info)) = HasEstablishmentTrigger r s info before
 IsOpenedAfter before other = Unit {0}
@@ -554,7 +547,6 @@ more {r} {q} {s} {x} {y} {ls} new (link c u v o p) =
     link c u v (openings-more r s ls new x o) (openings-more q s ls new y p)
 
 module _ {r q : Role} {s : Sapi} (x y : Side) {ls : List LogLine} where
-  -- the invariant of a link still holds after the oldest frame in transit is lost
   IsLink-first_gone : (o : Option Content) (cs : List Content) → IsLink r q s x (record y { outgoing = cons_option o cs }) ls →
       IsLink r q s x (record y { outgoing = cs }) ls
   IsLink-first_gone d cs (link c u v o p) =
@@ -565,7 +557,6 @@ module _ {r q : Role} {s : Sapi} (x y : Side) {ls : List LogLine} where
   IsLink-rest_gone [] h = h
   IsLink-rest_gone (f ∷ fs) h = IsLink-first_gone _ _ h
 
--- the invariant of a link still holds after an RR with the same N(R) replaces a REJ in transit
 link-rr : {r q : Role} {s : Sapi} (x y : Side) {ls : List LogLine} (nr : ℕ) (pf : Bool) (cs : List Content) →
     IsLink r q s x (record y { outgoing = Rej nr pf ∷ cs }) ls → IsLink r q s x (record y { outgoing = Rr nr pf ∷ cs }) ls
 link-rr x y nr pf cs (link c u v o p) =
@@ -633,8 +624,6 @@ IsAfterDelivered before (Notified r s (N.Acked n)) = length (acked_message_numbe
     (delivered_messages (other r) s before)
 IsAfterDelivered before other = Unit {0}
 
--- if no more messages are acknowledged than delivered after a step in which one endpoint acts, this endpoint reports each acknowledgement
--- after the delivery of the message
 notified-after : (r : Role) (s : Sapi) (is : List Message) (cs : List Call) (ns : List Notice) (ls : List LogLine) →
     (let zs = ls ++ lines_of_step r s is cs ns in length (acked_message_numbers r s zs) ≤ length (delivered_messages (other r) s zs)) →
     AllOccur IsAfterDelivered ls (lines_of_step r s is cs ns)
@@ -686,8 +675,6 @@ AllLinks-lost : (sender : Role) (w : World) (ls : List LogLine) → AllLinks w l
 AllLinks-lost Mobile w ls h = AllLinks-by_role Network (without_oldest_item Mobile w) ls (λ s. Links-first_lost _ s w ls (h _ s))
 AllLinks-lost Network w ls h = AllLinks-by_role Mobile (without_oldest_item Network w) ls (λ s. Links-first_lost _ s w ls (h _ s))
 
--- the invariant of a link still holds if the arriving frame, either the oldest frame sent or an RR in place of a REJ, stands at the front
--- of the queue
 IsLink-frame_arrived : (r : Role) (s : Sapi) (w : World) (ls : List LogLine) (f : Frame) (fs : List Frame) → way (other r) w ≡ fs →
     is_on s f ≡ true → IsOldestSentOrRrForRej (Some f) fs → Links r s w ls → IsLink r (other r) s (side r s w ls)
     (record (side (other r) s w ls) { outgoing = cons_option (content_of_body f.content) (contents_on s (rest fs)) }) ls
@@ -731,7 +718,6 @@ session-run [] w ls benign h = (w, rw append-nil h)
 session-run (event ∷ events) w ls benign h =
     rw (← append_assoc) (session-run events (world_after event w) _ benign.1 (session-step w ls event benign.0 h))
 
--- a benign event also satisfies `IsBenignEventExceptRrForRej`
 benign_allows_rr : (o : Option EventRefusal) (event : Event) (w : World) → IsBenignEvent o event w →
     IsBenignEventExceptRrForRej o event w
 benign_allows_rr o event w h = grind arith
@@ -801,12 +787,10 @@ module _ (s : Sapi) where
   abbrev chosen : Bool → LogLine → Option LogLine
   chosen b l = if b then Some l else None
 
-  -- the calls to an endpoint are the same in the whole log and in the log lines of its link
   calls_in_log-kept : (r : Role) (ls : List LogLine) → calls_in_log r s (log_lines_of_sapi s ls) ≡ calls_in_log r s ls
   calls_in_log-kept r [] = refl
   calls_in_log-kept r (l ∷ ls) = grind (arith, calls_in_log-kept r ls)
 
-  -- the notices of an endpoint are the same in the whole log and in the log lines of its link
   notices_in_log-kept : (r : Role) (ls : List LogLine) → notices_in_log r s (log_lines_of_sapi s ls) ≡ notices_in_log r s ls
   notices_in_log-kept r [] = refl
   notices_in_log-kept r (l ∷ ls) = grind (arith, notices_in_log-kept r ls)

@@ -14,7 +14,8 @@ ghost use Rattle.lapdm_end.specs.Refinement.{StepRefines, RefusesAsSpecified};
 
 use lapdm_end::{Call, Channel, Effects, Endpoint, FrameView, Refused, Role, Sapi, State};
 
-/// The network's endpoint of a data link. A refused call changes nothing.
+/// The network's endpoint of a data link. A refused call changes nothing. It has no call that establishes the link of SAPI 0: a mobile
+/// would answer its SABM with a DM.
 #[derive(Debug, Drop)]
 pub struct Network {
     pub(crate) endpoint: Endpoint,

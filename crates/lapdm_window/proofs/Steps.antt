@@ -70,7 +70,6 @@ is_open-is s h = grind arith
 -- ## Sequencing: If an outcome `o`, and a rule applied after it, deliver the messages that their accepted segments complete, so does `o
 -- then rule`.
 
--- the notices of the outcome deliver exactly the messages completed by the segments that the endpoint accepted after state e
 abbrev pub Delivers : EndpointState → Outcome → Type 0
 Delivers e o = messages o.new_state.accepted_segments ≡ messages e.accepted_segments ++ filter_map message_in_got_notice o.notices
 
@@ -179,8 +178,6 @@ bound-rejects_segment p e = grind (arith, append-nil (messages e.accepted_segmen
 bound-poll : (b : Bool) (e : EndpointState) → AtMost 1 0 e (answers_poll b e)
 bound-poll b e = grind (arith, append-nil (messages e.accepted_segments))
 
--- a rule that evaluates an N(R) and then applies two further rules produces at most two frames and two notices, if the bounds of its parts
--- add up to at most two
 counted : (m n k l : ℕ) (nr : ℕ) (first second : EndpointState → Outcome) (e : EndpointState) →
     ((x : EndpointState) → AtMost m n x (first x)) → ((x : EndpointState) → AtMost k l x (second x)) → m + k ≤ 2 →
     1 + n + l ≤ 2 →
@@ -223,7 +220,6 @@ bound-call call e = grind (arith, append-nil (messages e.accepted_segments))
 
 -- ---- conditions under which a frame fits in a block
 
--- each segment has 1 to n octets
 abbrev AllSized : ℕ → List Segment → Type 0
 AllSized n ps = All (λ p. HasSize n p.0) ps
 
@@ -357,11 +353,9 @@ pub record Keeps (x : EndpointState) (o : Outcome) : Type 0 where
 keeps-runs : (x : EndpointState) (o : Outcome) → x.state ≡ S.Open → IsValidEndpoint x → Runs x o → Keeps x o
 keeps-runs x o is h r = grind arith
 
--- a SABM that establishes a link of SAPI 3 has no information
 sapi3_sabm_is_empty : (s : Sapi) (r : Role) (info : Message) → MayOpen s r info → s ≡ Three → info ≡ []
 sapi3_sabm_is_empty s r info h g = grind arith
 
--- the information of a UA fits in a frame: it is either the SABM information that the endpoint keeps or empty
 ua_information_fits : (info : Message) (x : EndpointState) → IsValidEndpoint x →
     ((x.state ≡ S.Open) × (x.sabm_info ≡ info)) ⊎ ((info ≡ []) × HasBegun x) →
     length info ≤ n201 x.channel

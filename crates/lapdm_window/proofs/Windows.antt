@@ -33,11 +33,9 @@ use Rattle.lapdm_window.specs.declared.Notice.TheVariants as N
 
 -- ## Numbers: If at most one segment is outstanding, V(S) and V(A), which count modulo 8, show whether one is outstanding.
 
--- no segment is outstanding if V(S) = V(A)
 not_awaited : (e : EndpointState) → HasWindowOfOne e → vs e ≡ va e → awaits_ack e ≡ false
 not_awaited e h same = grind (arith, h.acked_at_most_sent, h.window)
 
--- exactly one segment is outstanding if V(S) ≠ V(A)
 pub one_sent : (e : EndpointState) → HasWindowOfOne e → vs e ≢ va e → e.sent_segments ≡ e.acked_segments + 1
 one_sent e h other = grind (arith, h.acked_at_most_sent, h.window)
 
@@ -62,26 +60,22 @@ acked_message_count-most e =
       count-all (n201 e.channel) e.messages,
     )
 
--- acknowledging a segment with M = 1 leaves the number of fully acknowledged messages unchanged
 pub acked_message_count-more : (e : EndpointState) → e.sent_segments ≡ e.acked_segments + 1 →
     e.acked_segments < length (segments_of_all_messages e) →
     (first_unacked_segment e).1 ≡ true → acked_message_count (with_segment_acked e) ≡ acked_message_count e
 acked_message_count-more e one within more =
     rw one (count_by_more_no (λ p. not p.1) (segments_of_all_messages e) e.acked_segments ([], false) within (ap not more))
 
--- acknowledging a segment with M = 0 adds one to the number of fully acknowledged messages
 pub acked_message_count-last : (e : EndpointState) → e.sent_segments ≡ e.acked_segments + 1 →
     e.acked_segments < length (segments_of_all_messages e) →
     (first_unacked_segment e).1 ≡ false → acked_message_count (with_segment_acked e) ≡ acked_message_count e + 1
 acked_message_count-last e one within more =
     rw one (count_by_more_yes (λ p. not p.1) (segments_of_all_messages e) e.acked_segments ([], false) within (ap not more))
 
--- a further message from layer 3 appends its segments to the list of all segments
 pub segments_of_all_messages-push : (e : EndpointState) (m : Message) →
     segments_of_all_messages (with_queued_message m e) ≡ segments_of_all_messages e ++ segments (n201 e.channel) m
 segments_of_all_messages-push e m = rw (flat_map-append, append-nil)
 
--- a further message from layer 3 leaves the number of fully acknowledged messages unchanged
 pub acked_message_count-push : (e : EndpointState) (m : Message) → HasWindowOfOne e →
     acked_message_count (with_queued_message m e) ≡ acked_message_count e
 acked_message_count-push e m h =
@@ -105,7 +99,6 @@ abbrev m_bit_in : Option Segment → Bool
 m_bit_in None = false
 m_bit_in (Some p) = p.1
 
--- a segment with M = 1 is not the last segment of its message
 goes_on-cut_segments : (n k i : ℕ) (m : List ℕ) (octets : List ℕ) → slice_get (cut_segments n k m) i ≡ Some (octets, true) →
     i < k
 goes_on-cut_segments n zero zero m octets h = absurd (false≢true (ap m_bit_in h))
@@ -113,7 +106,6 @@ goes_on-cut_segments n zero (suc i) m octets h = cc
 goes_on-cut_segments n (suc k) zero m octets h = omega arith
 goes_on-cut_segments n (suc k) (suc i) m octets h = omega (arith, goes_on-cut_segments n k i (drop n m) octets h)
 
--- a segment with M = 0 is the last segment of its message
 ends-cut_segments : (n k i : ℕ) (m : List ℕ) (octets : List ℕ) → slice_get (cut_segments n k m) i ≡ Some (octets, false) →
     i ≡ k
 ends-cut_segments n zero zero m octets h = refl
@@ -129,7 +121,6 @@ pub ends : (n i : ℕ) (m : Message) (octets : List ℕ) → slice_get (segments
     i + 1 ≡ length (segments n m)
 ends n i m octets h = omega (arith, ends-cut_segments n _ i m octets h, length-segments n m)
 
--- a segment that carries `octets` has 1 to `n` octets
 pub record HasSize (n : ℕ) (octets : List ℕ) : Type 0 where
   pub nonempty : 1 ≤ length octets
   pub at_most : length octets ≤ n
@@ -145,7 +136,6 @@ HasSize-segment n i m octets more room h within is =
     (omega (arith, length-drop (i * n) m)) in
     record { nonempty = omega (arith, ap length same); at_most = omega (arith, ap length same) }
 
--- the segment with a given index in the first message has the same index among the segments of all messages
 first_message_segment_count : (n place : ℕ) (held : List Message) (d : Segment) → 1 ≤ length held →
     place < length (segments n (get_or held 0 [])) → get_or (flat_map (segments n) held) place d ≡
     get_or (segments n (get_or held 0 [])) place d
@@ -157,13 +147,11 @@ pub within_all : (n place : ℕ) (held : List Message) → 1 ≤ length held →
 within_all n place [] some_held h = absurd (omega (arith, some_held))
 within_all n place (m ∷ ms) some_held h = omega (arith, length-append (segments n m) (flat_map (segments n) ms), h)
 
--- after the segments of the first message come the segments of the other messages
 other_segments : (n place : ℕ) (held : List Message) → 1 ≤ length held → place ≡ length (segments n (get_or held 0 [])) →
     drop place (flat_map (segments n) held) ≡ flat_map (segments n) (drop 1 held)
 other_segments n place [] some_held h = absurd (omega (arith, some_held))
 other_segments n place (m ∷ ms) some_held h = grind (arith, drop-append_seam (segments n m) (flat_map (segments n) ms))
 
--- if xs from index i on equals ys from index j on, the same holds from i + 1 and j + 1 on
 drop-next : (xs ys : List Segment) (i j : ℕ) → drop i xs ≡ drop j ys → drop (i + 1) xs ≡ drop (j + 1) ys
 drop-next xs ys i j h = sym (drop-drop 1 i xs) ∙ ap (drop 1) h ∙ drop-drop 1 j ys
 
@@ -198,8 +186,6 @@ module _ {w : Window} {e : EndpointState} (h : Represents w e) (some_held : 1 �
       within-same (flat_map (segments (n201 e.channel)) w.held.items) (segments_of_all_messages e) w.segment_index e.acked_segments
       h.unacked_messages.unacked_segments (within_all _ _ w.held.items some_held within_first)
 
-  -- the segment at the window's index in the first held message is the outstanding segment of the endpoint or, if there is none, the next
-  -- one
   pub first_unacked_segment-is : {x : Segment} →
       slice_get (segments (n201 w.channel) (get_or w.held.items 0 [])) w.segment_index ≡ Some x →
       first_unacked_segment e ≡ x
@@ -430,7 +416,6 @@ HasAckedMessages-exists n (suc d) va place room most few none =
       number = ap (λ i. i % 8) size ∙ missing va (d + place) few;
     }
 
--- the first `place` segments complete no message if the last segment of the first message is not among them
 ended_before : (n place : ℕ) (held : List Message) → 0 < n → place < number_of_segments n (get_or held 0 []) →
     message_count (take place (flat_map (segments n) held)) ≡ 0
 ended_before n zero [] room h = refl
@@ -484,7 +469,6 @@ history_of n done va place sent held room most few messages below within none =
 -- ## Parts: A window represents some endpoint if and only if its values satisfy `AreConsistent`. The section Histories constructs the
 -- history of that endpoint.
 
--- the octets and the state of a joiner represent the reassembly of the segments taken
 abbrev Joins : JoinerValues → List Segment → Type 0
 Joins j taken = HoldsReassemblyOf j.part j.octets taken
 
@@ -495,7 +479,6 @@ HasSameStateVariables-values {w} {v} {e} same h = grind arith
 pub Represents-values : {w v : Window} {e : EndpointState} → values_of w ≡ values_of v → Represents w e → Represents v e
 Represents-values {w} {v} {e} same h = grind arith
 
--- V(S) equals V(A), or V(S) is one higher modulo 8 and the window holds a message
 one_segment : (w : Window) (e : EndpointState) → Represents w e →
     (w.vs ≡ w.va) ⊎ ((w.vs ≡ (w.va + 1) % 8) × (1 ≤ length w.held.items))
 one_segment w e h =
@@ -539,7 +522,6 @@ place_is_counted w e h none =
     ) in
     h.variables.va ∙ ap (λ i. i % 8) (sym same)
 
--- if V(S) equals V(A), no segment is outstanding, and the window counts no repetitions
 no_repeats : (w : Window) (e : EndpointState) → Represents w e → w.vs ≡ w.va → w.retries ≡ 0
 no_repeats w e h same =
     h.retries ∙ ap (λ b. if b then e.retries else 0) (not_awaited e h.window_of_one (sym h.variables.vs ∙ same ∙ h.variables.va))
@@ -576,7 +558,6 @@ segments_fit n place sent held room below few (inr some) =
 sent_number : (acked va sent : ℕ) → acked % 8 ≡ va → (va + sent) % 8 ≡ (acked + sent) % 8
 sent_number acked va sent h = grind arith
 
--- a window that counts no repetitions while no segment is outstanding counts those of the outstanding segment
 counts_repeats : (retries acked sent vs va : ℕ) → (vs ≡ va → retries ≡ 0) → vs ≡ (va + sent) % 8 → va ≤ 7 →
     retries ≡ (if not (nat_eq (acked + sent) acked) then retries else 0)
 counts_repeats retries acked zero vs va none number few = grind (arith, nat_tests)
@@ -585,7 +566,6 @@ counts_repeats retries acked (suc sent) vs va none number few = grind (arith, na
 capped-fits : (n : ℕ) → n < 2 ^ 64 → n ≡ capped_at_64_bits n
 capped-fits n h = omega arith
 
--- an endpoint in Open with the given messages, numbers of acknowledged and sent segments, and accepted segments
 abbrev with_history : Window → List Message → ℕ → ℕ → List Segment → EndpointState
 with_history w taken acked sent accepted = record {
   role = Mobile;
@@ -601,7 +581,6 @@ with_history w taken acked sent accepted = record {
   retries = w.retries;
 }
 
--- this window represents at least one endpoint
 abbrev pub RepresentsOne : Window → Type 0
 RepresentsOne w = (e : EndpointState) × Represents w e
 
@@ -648,7 +627,6 @@ represents_one w h fits =
 
 -- ## OneState: An endpoint determines the values of each window that holds its variables and its unacknowledged messages.
 
--- two indices up to the end of a list are equal if the list goes on alike from both
 same_place : (xs : List Segment) (i j : ℕ) → i ≤ length xs → j ≤ length xs → drop i xs ≡ drop j xs → i ≡ j
 same_place xs i j below within same = omega (arith, ap length same, length-drop i xs, length-drop j xs)
 

@@ -9,7 +9,6 @@ use Rattle.lapdm_window.specs.declared.window.Window.{Window}
 use Rattle.lapdm_window.specs.Ends.{EndpointState, HasWindowOfOne, segments_of_all_messages, awaits_ack, acked_message_count, vs, va, vr}
 use Rattle.lapdm_window.specs.Ends.{capped_at_64_bits}
 
--- the channel of a window
 abbrev pub channel_of : Window → Channel
 channel_of w = w.channel
 

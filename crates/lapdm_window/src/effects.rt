@@ -6,7 +6,8 @@ use crate::Notice;
 use segmenting::BLOCK_OCTETS;
 use std::marker::Model;
 
-/// The frames that an endpoint sends and the notices that it reports when it handles one call or one received frame.
+/// The frames that an endpoint sends and the notices that it reports when it handles one call or one received frame. They take some 850
+/// octets, because each notice may hold a message.
 #[derive(Debug, Drop)]
 pub struct Effects {
     pub frames: Frames,

@@ -16,11 +16,11 @@ pub use parts::LapdmWindowView;
 /// The window of an endpoint: the messages not yet fully acknowledged, the outstanding segment, and the reassembly of received segments.
 #[derive(Debug, Drop)]
 pub struct Window {
+    // The large fields come first, so that a new window is one fill of memory.
     held: HeldMessageBuffers,
     joiner: Joiner,
     // The index of the outstanding segment in the first held message or, if none is outstanding, the index of the next segment to send.
     segment_index: usize,
-    // The number of fully acknowledged messages.
     acked_messages: u64,
     channel: Channel,
     vs: u8,

@@ -39,7 +39,6 @@ use Rattle.{
 
 -- ## Choices: The choice of the branch whose most likely word ranks first.
 
--- a word that deviates from a candidate and follows the survivors is a candidate
 pub deviation-candidate : (pass : ViterbiPass) (u : List ℕ) (x : Deviation) → IsCompletePass pass →
     IsCandidate (soft_bits_of_pass pass) u → IsDeviation pass u x → IsCandidate (soft_bits_of_pass pass) (word_of_deviation pass u x)
 deviation-candidate pass u x is candidate deviation =
@@ -61,7 +60,6 @@ pub deviating_word-candidate : (pass : ViterbiPass) (us : List (List ℕ)) (x : 
 deviating_word-candidate pass us x is all deviation =
     deviation-candidate _ _ x is (all _ [] deviation.in_range) deviation.deviation
 
--- the word that the deviation x produces from u deviates from u at the position of x
 deviation_departs_at : (pass : ViterbiPass) (u : List ℕ) (x : Deviation) → IsCompletePass pass →
     IsCandidate (soft_bits_of_pass pass) u → IsDeviation pass u x → DeviatesAt u (word_of_deviation pass u x) x.departure.place
 deviation_departs_at pass u x is candidate deviation =
@@ -96,7 +94,6 @@ module _ (pass : ViterbiPass) (us : List (List ℕ)) (branches : List WordBranch
   abbrev AtMost : Deviation → WordBranch → Type 0
   AtMost x b = IsNotOutrankedBy pass us x b.best
 
-  -- if the next branch has no word, the first-ranked branch stays the same
   pub first_ranked-empty : (first : Option BranchChoice) → IsFirstRankedBranch pass us branches first → branch.best ≡ None →
       IsFirstRankedBranch pass us (branches ++ branch ∷ []) first
   first_ranked-empty None all none = All-push (λ b. b.best ≡ None) branches branch all none
@@ -105,7 +102,6 @@ module _ (pass : ViterbiPass) (us : List (List ℕ)) (branches : List WordBranch
     All-push (AtMost choice.deviation) branches branch old.1 (rw none tt),
   )
 
-  -- if the most likely word of the next branch ranks before the best word so far, this branch becomes the first-ranked branch
   pub first_ranked-new : (old new : BranchChoice) → IsFirstRankedBranch pass us branches (Some old) →
       branch.best ≡ Some new.deviation →
       new.branch ≡ length branches →
@@ -124,7 +120,6 @@ module _ (pass : ViterbiPass) (us : List (List ℕ)) (branches : List WordBranch
           (deviating_word pass us new.deviation) deviations_after_place before)
     ]
 
-  -- if the most likely word of the next branch does not rank before the best word so far, the first-ranked branch stays the same
   pub first_ranked-old : (old new : BranchChoice) → IsFirstRankedBranch pass us branches (Some old) →
       branch.best ≡ Some new.deviation →
       (deviating_word pass us new.deviation ≡ deviating_word pass us old.deviation)
@@ -135,7 +130,6 @@ module _ (pass : ViterbiPass) (us : List (List ℕ)) (branches : List WordBranch
     All-push (AtMost old.deviation) branches branch first.1 (rw best deviations_after_place),
   )
 
-  -- if the path metric of the next branch is below that of the best word so far, the first-ranked branch stays the same
   pub first_ranked-lower : (first : Option BranchChoice) (metric least : ℤ) → IsFirstRankedBranch pass us branches first →
       IfSome first (λ choice. DeviatesFromReturnedWord pass us choice.deviation) →
       IfSome first (λ choice. least ≤ℤ choice.deviation.likelihood) → (first ≡ None → least ≤ℤ metric) →
@@ -158,7 +152,6 @@ w32-lowest (negsuc n) fits = let s = fits.sfits in omega (arith, ints)
 
 -- ---- lemmas about the most likely word of a branch
 
--- an element of a list has every property that all elements of the list have
 pub All-slice_get : {X : Type 0} (P : X → Type 0) (xs : List X) (x : X) (k : ℕ) → All P xs → slice_get xs k ≡ Some x → P x
 All-slice_get P xs x k all at = subst P (get_or_from_slice_get xs k x x at) (all k x (slice_get_within xs k x at))
 
@@ -229,7 +222,6 @@ with_deviating_words-first pass us (x ∷ xs) some =
     ))
     ∙ get_or_append_left us (deviating_word pass us x ∷ []) [] 0 some
 
--- the stored words after one more word is stored, which deviates from one of them
 abbrev pub one_more_word : StoredWords → Deviation → StoredWords
 one_more_word lists x =
     record { first_word = lists.first_word; deviations = set lists.deviations (lists.count - 1) x; count = lists.count + 1 }
@@ -431,8 +423,6 @@ chain-next pass lists xs k i u many tree all within path =
 
 -- ## NextLists: The next word of a ranking is the most likely word of all branches.
 
--- if the most likely word of a span does not rank before the word of the deviation x, every other word that deviates in the span ranks
--- after the word of x
 pub below_best : (pass : ViterbiPass) (us : List (List ℕ)) (span : WordSpan) (x : Deviation) (w : List ℕ) (best : Option Deviation) →
     IsMostLikelyDeviation pass (get_or us span.word_index []) span best → IsNotOutrankedBy pass us x best →
     IsCandidate (soft_bits_of_pass pass) w →
@@ -477,7 +467,6 @@ before_the_last pass c from w is candidate follows later is_w at =
     at).in_range in
     omega arith
 
--- the ranking begins with the most likely word, and all other words deviate from it before its last four positions
 pub ranking-begins : (pass : ViterbiPass) (u : List ℕ) (span : WordSpan) → IsCompletePass pass →
     IsMostLikely (soft_bits_of_pass pass) u →
     FollowsSurvivors 0 u (decision_rows pass) 0 → span.from ≡ 0 → span.to + 4 ≡ pass.bits →
@@ -582,7 +571,6 @@ module _ (pass : ViterbiPass) (us : List (List ℕ)) (u : List ℕ) (span : Word
     behind_rest : Disjoint b r
     behind_rest w at at' = let g = in_rest w at' in let same = DeviatesAt-unique u w _ _ (in_behind w at) g.1 in omega arith
 
-    -- every candidate of the class other than v belongs to one of the three parts
     in_one : (w : List ℕ) → IsCandidate s w → IsInClass c w → w ≢ v
         → (p : DeviationClass) × Contains (a ∷ b ∷ r ∷ []) p × IsInClass p w
     in_one w is_w at ne = elim (parts s c v place candidate v_is left (is_between span.from span.to place from to) w is_w at ne) [

@@ -44,7 +44,6 @@ use Rattle.{
 
 -- ---- lemmas about the branch whose most likely word is the next word
 
--- u is a candidate, `span` is a span of u, and x gives the most likely word that deviates from u in this span
 pub record IsDeviationInSpan (pass : ViterbiPass) (u : List ℕ) (span : WordSpan) (x : Deviation) : Type 0 where
   pub candidate : IsCandidate (soft_bits_of_pass pass) u
   pub is_span : IsSpanOfWord pass u span
@@ -97,7 +96,6 @@ classes-push pass us u (b ∷ bs) all =
     ap₂ (λ c cs. c ∷ cs) (ap (λ chosen_word. deviations_in_span chosen_word b.span) (get_or-push us u _ (all 0 b
     (omega arith)).in_range)) (classes-push pass us u bs (All-tail (IsBranchOfReturnedWord pass us) b bs all))
 
--- every class in the list of the branches' classes is the class of one of the branches
 Contains-class : (us : List (List ℕ)) (bs : List WordBranch) (P : WordBranch → Type 0) (e : DeviationClass) → All P bs →
     Contains (map (class_of_branch us) bs) e → (b : WordBranch) × P b × (class_of_branch us b ≡ e)
 Contains-class us [] P e all found = absurd (omega arith)
@@ -181,7 +179,6 @@ module _ (pass : ViterbiPass) (us : List (List ℕ)) (branches : List WordBranch
     abbrev f : WordBranch → DeviationClass
     f = class_of_branch (us ++ chosen_word ∷ [])
 
-    -- the word u, returned before the new word, keeps its number
     same_u : (k : ℕ) → k ≡ b.span.word_index → get_or us' k [] ≡ u
     same_u k same = ap (λ k. get_or us' k []) same ∙ sym (get_or-push us chosen_word b.span.word_index u_within)
 
@@ -313,7 +310,6 @@ module _ (pass : ViterbiPass) (lists : StoredWords) (one : lists.count ≡ 1) (b
             (sym read) begun.1));
       }
 
--- the ranking that consists of the soft bits of a pass and the stored words
 abbrev pub ranking : ViterbiPass → StoredWords → Ranking
 ranking pass lists = record { soft = soft_bits_of_pass pass; returned = stored_words pass lists }
 
@@ -360,7 +356,6 @@ sound_first pass row u deviations branches metrics metric has reads best value h
   later = λ more. absurd (omega arith);
 }
 
--- the invariant of `ListDecoder` still holds after the backward pass has run and the branches are prepared
 pub sound_prepared : (r : Inside) (pass : ViterbiPass) (branches : List WordBranch) (metrics : List ℤ) → IsSoundListDecoder r →
     pass.soft ≡ r.pass.soft → pass.bits ≡ r.pass.bits → stored_words pass r.lists ≡ stored_words r.pass r.lists →
     HasPartitioningBranches pass r.lists branches metrics →
@@ -445,7 +440,6 @@ module _ (pass : ViterbiPass) (lists : StoredWords) (branches : List WordBranch)
         (stored_words pass lists ++ u ∷ [])) bs)) (sym next_branches) (is.ranking_continues ranked has.partition).1);
   }
 
--- the invariant of `ListDecoder` still holds after the decoder returns the next word
 pub sound_next : (r : Inside) (sound : IsSoundListDecoder r) (has : HasPartitioningBranches r.pass r.lists r.branches r.best_metrics) →
     0 < r.lists.count →
     r.lists.count < 64 → length r.lists.deviations ≡ 63 → length r.branches ≡ 127 → (u : List ℕ) (next : NextWord) →
@@ -475,7 +469,6 @@ sound_next r sound has some few many room u next is metrics values = record {
       HasPartitioningBranches-next r.pass r.lists r.branches r.best_metrics has some few many room u next is sound.ranked metrics values;
 }
 
--- after the next word is returned, `metrics` still holds the path metric of each branch's most likely word
 pub AreMetricsOfBranches-partition : (branches : List WordBranch) (metrics : List ℤ) (i n : ℕ) (before behind after : WordBranch)
     (a b c : ℤ) →
     i < n → n + 1 < length branches → length metrics ≡ length branches → AreMetricsOfBranches branches metrics →
@@ -495,7 +488,6 @@ AreMetricsOfBranches-partition branches metrics i n before behind after a b c wi
 
 -- ---- lemmas about the case that no branch has a word left
 
--- if no branch has a word left, all candidates have been returned
 pub every_word_returned : (pass : ViterbiPass) (lists : StoredWords) (branches : List WordBranch) (metrics : List ℤ) →
     HasPartitioningBranches pass lists branches metrics → NoBranchHasUnreturnedWord (take (2 * lists.count - 1) branches) →
     (w : List ℕ) →
@@ -514,7 +506,6 @@ every_word_returned pass lists branches metrics has none w is_w =
 IsCandidate-last : (s : List ℤ) (us : List (List ℕ)) (u : List ℕ) → IsRanked s (us ++ u ∷ []) → IsCandidate s u
 IsCandidate-last s us u ranked = All-contains (IsCandidate s) (us ++ u ∷ []) u ranked.ranked_words_are_candidates (Contains-push us u)
 
--- a ranking of fewer than 64 words is not finished if another word can follow
 not_done : (old : Ranking) (u : List ℕ) → length old.returned < 64 → IsRanked old.soft (old.returned ++ u ∷ []) →
     IsRankingDone old → ⊥
 not_done old u few ranked (inl full) = omega arith

@@ -37,7 +37,6 @@ pub test-slice_cmp : (u v : List ℕ) (r : Bool) → r ≡ is_some_and is_lt (sl
     r ≡ test u v
 test-slice_cmp = same_from_slice_cmp_tested _ _ _ refl (λ _ _. refl) (λ _ _. refl) (λ x y xs ys o h. grind (arith))
 
--- the comparison of two words gives the order of their bits at the first position where the words differ
 test-deviates : (u v : List ℕ) (place : ℕ) → length v ≡ length u → DeviatesAt u v place →
     test u v ≡ ltb (get_or u place 0) (get_or v place 0)
 test-deviates (x ∷ u) (y ∷ v) zero same at = ap (λ t. cond t (test u v) (ltb x y)) (ne_eqb x y at.differs)
@@ -55,7 +54,6 @@ pub order-cases : (u v : List ℕ) (before : Bool) → (before ≡ true → IsLe
 order-cases u v true first second = first refl
 order-cases u v false first second = second refl
 
--- the comparison of two slices decides the lexicographic order of the two words
 pub order-test : (u v : List ℕ) (before : Bool) → AllBits u → AllBits v → length v ≡ length u → before ≡ test u v →
     DecidesLexicographicOrder u v before
 order-test u v before bits_u bits_v same is = elim (same_list u v) [
@@ -75,7 +73,6 @@ order-test u v before bits_u bits_v same is = elim (same_list u v) [
 
 -- Every word other than the best word from a state first deviates from it at some position, and loses at least the loss stored there.
 
--- the path metric of a word is the branch metric of its first bit plus the path metric of the rest
 pub metric_from_state-more : (state x : ℕ) (u : List ℕ) (soft : List ℤ) → 2 ≤ length soft →
     metric_from_state state (x ∷ u) soft ≡ branch_metric state x (take 2 soft) +ℤ metric_from_state (next_trellis_state state x) u
     (drop 2 soft)
@@ -125,7 +122,6 @@ follows_all zero rows state within = refl
 follows_all (suc n) [] state within = absurd (omega arith)
 follows_all (suc n) (row ∷ rows) state within = follows_all n _ _ (omega arith)
 
--- a word that follows the survivors from a position on follows them from later positions on
 pub follows_later : (from n : ℕ) (u rows : List ℕ) (state : ℕ) → FollowsSurvivors from u rows state → from ≤ n →
     n ≤ length rows → FollowsSurvivors n u rows state
 follows_later zero n u rows state follows le within =
@@ -134,19 +130,16 @@ follows_later (suc from) (suc n) (x ∷ u) (row ∷ rows) state follows le withi
     follows_later from n u _ _ follows (omega arith) (omega arith)
 follows_later from n u rows state follows le within = absurd (omega arith)
 
--- if a word follows the survivors from position n on, its bits from n on are those that traceback reads from the state reached at n
 pub follows-drop : (n : ℕ) (u rows : List ℕ) (state : ℕ) → FollowsSurvivors n u rows state →
     drop n u ≡ traceback (drop n rows) (state_after_bits state (take n u))
 follows-drop zero u rows state follows = follows
 follows-drop (suc n) (x ∷ u) (row ∷ rows) state follows = follows-drop n u rows _ follows
 follows-drop n u rows state follows = absurd follows
 
--- from a position on, the bits of the survivor of a state are those that traceback reads from the state reached at that position
 pub traceback-drop : (rows : List ℕ) (state place : ℕ) → place ≤ length rows →
     drop place (traceback rows state) ≡ traceback (drop place rows) (state_after_bits state (take place (traceback rows state)))
 traceback-drop rows state place within = follows-drop place (traceback rows state) rows state (follows_all place rows state within)
 
--- each bit of a survivor is the decision in the state reached before it
 pub chosen_bit : (rows : List ℕ) (state k : ℕ) → k < length rows →
     get_or (traceback rows state) k 0 ≡ get_or rows k 0 / 2 ^ state_after_bits state (take k (traceback rows state)) % 2
 chosen_bit [] state k within = absurd (omega arith)
@@ -157,7 +150,6 @@ pub traceback-small : (rows : List ℕ) (state k : ℕ) → get_or (traceback ro
 traceback-small (row ∷ rows) state (suc k) = traceback-small rows _ k
 traceback-small rows state k = omega arith
 
--- if a word follows the survivors from a position on, its bits after this position are those that traceback reads from the next state
 pub follows_past : (u rows : List ℕ) (place state : ℕ) → FollowsSurvivors place u rows 0 → place < length rows →
     state ≡ state_after_bits 0 (take place u)
     → drop (place + 1) u ≡ traceback (drop (place + 1) rows) (next_trellis_state state (get_or u place 0))
@@ -212,7 +204,6 @@ IsLeastLossPosition-new u losses k place loss found old less = record {
   tie_after = λ j late lt equal. absurd (omega arith);
 }
 
--- if the loss of a later position is at most the limit, it is less than the least loss so far, or equal to it and `kept_bit` is 0
 pub loss_limit-below : (loss least : ℤ) (kept_bit : ℕ) → kept_bit ≤ 1 → loss ≤ℤ (least -ℤ pos kept_bit) →
     (loss <ℤ least) ⊎ ((loss ≡ least) × (kept_bit ≡ 0))
 loss_limit-below loss least zero one h = by_lt_z loss least inl (λ not_less. inr (omega (arith, ints), refl))

@@ -27,8 +27,6 @@ use Rattle.{
 
 -- ---- lemmas about a word that deviates from another
 
--- if a word follows the survivors from a position on, the word without its first bit does so from one position earlier on, starting in the
--- next state
 follows_next : (from x : ℕ) (u : List ℕ) (row : ℕ) (rows : List ℕ) (state : ℕ)
     → FollowsSurvivors from (x ∷ u) (row ∷ rows) state →
     FollowsSurvivors (from - 1) u rows (next_trellis_state state x)
@@ -128,7 +126,6 @@ loses_at_least from (x ∷ u) (row ∷ rows) (lost ∷ losses) soft state (suc p
 loses_at_least from u rows losses soft state place w kept lt ends wends same follows le at =
     absurd (let n = length-follows from u rows state follows in let i = at.in_range in omega arith)
 
--- the word that deviates from u at position `place` follows the survivors after this position
 pub follows-deviation : (u rows : List ℕ) (state place : ℕ) → length u ≡ length rows → place < length rows →
     FollowsSurvivors (place + 1) (word_deviating_at u rows state place) rows state
 follows-deviation (x ∷ u) (row ∷ rows) state zero same within = refl
@@ -137,7 +134,6 @@ follows-deviation (x ∷ u) (row ∷ rows) state (suc place) same within =
     rw more (follows-deviation u _ _ _ (omega arith) (omega arith))
 follows-deviation u rows state place same within = absurd (omega arith)
 
--- the deviating word consists of the bits of u before the position, the other bit, and then the survivor from the next state
 pub deviation_written : (u rows : List ℕ) (state place : ℕ) → place < length u → length rows ≡ length u →
     take place u ++ (1 - get_or u place 0) ∷ traceback (drop (place + 1) rows)
     (next_trellis_state (state_after_bits state (take place u)) (1 - get_or u place 0)) ≡ word_deviating_at u rows state place
@@ -166,7 +162,6 @@ module _ (soft : List ℤ) (rows : List ℕ) (losses : List (List ℤ)) (c : Dev
   same_length : length c.word ≡ length rows
   same_length = length-follows from _ _ 0 followed.follows
 
-  -- a candidate of the class deviates before the last four positions and loses at least the loss stored there
   pub LosesAtLeast-in_class : (w : List ℕ) → IsCandidate soft w → (at : IsInClass c w) →
       LosesAtLeast c.word rows losses soft 0 at.place w
   LosesAtLeast-in_class w candidate at =
@@ -192,7 +187,6 @@ module _ (soft : List ℤ) (rows : List ℕ) (losses : List (List ℤ)) (c : Dev
         let g = here.has_metric in
         omega (arith, ints)
 
-    -- a word that deviates from the word of the class at another position but with the same loss comes after v in lexicographic order
     before_at : (w : List ℕ)
         (k : ℕ) → AllBits w → length w ≡ length c.word → k + 4 < length rows → DeviatesAt c.word w k
         → c.may_deviate_at k ≡ true →
@@ -207,7 +201,6 @@ module _ (soft : List ℤ) (rows : List ℕ) (losses : List (List ℤ)) (c : Dev
               (least.tie_after k late (omega arith) free tie)
         ]
 
-    -- every other candidate of the class ranks after the best deviating word v
     pub deviation_best : (w : List ℕ) → IsCandidate soft w → IsInClass c w → w ≢ v → RanksAfter soft w v
     deviation_best w candidate at ne =
         let short = LosesAtLeast-in_class w candidate at in

@@ -54,7 +54,6 @@ module _ (pass : ViterbiPass) (u : List ℕ) (x : Deviation) (complete : IsCompl
   equal_lengths : length (decision_rows pass) ≡ length u
   equal_lengths = omega arith
 
-  -- after the position of the deviation, the word follows the survivors
   pub chosen_behind : drop (place + 1) u ≡ traceback (drop (place + 1) (decision_rows pass))
       (next_trellis_state x.departure.state (get_or u place 0))
   chosen_behind = follows_past u _ place _ is.follows (omega arith) is.state
@@ -174,7 +173,6 @@ module _ (pass : ViterbiPass) (u : List ℕ) (x : Deviation) (is : IsCompletePas
   u_long : length u ≡ length (decision_rows pass)
   u_long = omega arith
 
-  -- the rest of the span of u after the position of the deviation is a span of u
   pub IsSpanOfWord-after : (old span : WordSpan) → IsSpanOfWord pass u old → x.departure.place < old.to →
       span.from ≡ x.departure.place + 1 → span.to ≡ old.to →
       span.likelihood ≡ old.likelihood → span.state ≡ next_trellis_state x.departure.state (get_or u x.departure.place 0) →
@@ -189,7 +187,6 @@ module _ (pass : ViterbiPass) (u : List ℕ) (x : Deviation) (is : IsCompletePas
         state = rw (from, state_after-more u x.departure.place 0 (omega arith), ← is_deviation.state) state;
       }
 
-  -- the positions of the deviating word after the deviation are a span of that word
   pub IsSpanOfWord-deviation : (v : List ℕ) (span : WordSpan) → v ≡ word_of_deviation pass u x →
       IsCandidate (soft_bits_of_pass pass) v →
       span.from ≡ x.departure.place + 1 →
@@ -213,8 +210,6 @@ module _ (pass : ViterbiPass) (u : List ℕ) (x : Deviation) (is : IsCompletePas
 
 -- The position with the least loss: in two adjacent ranges of positions, and after one more position is examined.
 
--- a `PossibleDeviation` describes a deviation from u at position k if it holds this position, the state before it and the loss stored for
--- it
 pub is_departure : (u : List ℕ) (losses : List (List ℤ)) (k state : ℕ) (lost : ℤ) (departure : PossibleDeviation) → AllBits u →
     state ≡ state_after_bits 0 (take k u) → lost ≡ deviation_loss 0 u losses k → departure.place ≡ k →
     departure.state ≡ state → departure.loss ≡ lost →
@@ -296,7 +291,6 @@ module _ (u : List ℕ) (losses : List (List ℤ)) (from k n place other : ℕ) 
         tie_after = (λ j late lt is_free equal. later.tie_after j late lt (is_between k n j (omega arith) lt) equal);
       }
 
--- in the range that consists of position k only, this position has the least loss
 pub alone : (u : List ℕ) (losses : List (List ℤ)) (k : ℕ) → IsLeastLossFreePosition u losses (is_in_range k (k + 1)) (k + 1) k
 alone u losses k = record {
   in_range = omega arith;
@@ -372,7 +366,6 @@ module _ (u w : List ℕ) (losses : List (List ℤ)) (k n : ℕ) (rest : drop k 
   same_bit : (j : ℕ) → k ≤ j → get_or u j 0 ≡ get_or w j 0
   same_bit j le = bits_agree k j u w rest le
 
-  -- if u and w agree from position k on and reach the same state there, the best deviation from w at or after k is also the best one from u
   pub moved : (x : PossibleDeviation) → IsPossibleDeviation w losses x →
       IsLeastLossFreePosition w losses (is_in_range k n) n x.place →
       IsLeastLossDeviationOrNone u losses (is_in_range k n) n (Some x)
@@ -414,8 +407,6 @@ IsPossibleDeviation-survivor rows losses k state bit lost x within reached is_lo
       loss_limit = rw (at, l, chosen_bit rows 0 k within, ← reached, ← is_bit) m;
     }
 
--- if a word that follows the survivors is at some position in the same state as the most likely word, both words have the same best
--- deviation from there on
 pub merged_tail : (pass : ViterbiPass) (u : List ℕ) (span : WordSpan) (m : ℕ) (x : PossibleDeviation) → IsCompletePass pass →
     IsCandidate (soft_bits_of_pass pass) u → IsSpanOfWord pass u span → pass.bits ≤ span.to + 4 → span.from ≤ m →
     m < span.to →

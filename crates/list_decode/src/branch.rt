@@ -77,7 +77,6 @@ impl WordBranch {
 }
 
 impl Deviation {
-    /// Applies this deviation to `u` in place.
     pub(crate) fn apply(&self, pass: &ViterbiPass, u: &mut [u8])
         requires pass { IsCompletePass pass.now }
         requires list { IsCandidate (soft_bits_of_pass pass.now) u.old }
@@ -183,7 +182,6 @@ impl LeastLossSoFar {
         }
     }
 
-    /// Returns the better position for a deviation: the best so far, or the later position `place`.
     fn or_later_position_if_better(
         self,
         place: usize,

@@ -126,7 +126,7 @@ fn ranks_before(
 
 /// Decides from the deviations alone whether the first word comes before the second in lexicographic order. It follows both chains of
 /// deviations back to a common word; the two words first differ at the earlier of their deviations from that word. Returns `None` if this
-/// does not decide the order.
+/// does not decide the order. So neither word is written out.
 fn compare_deviation_chains(
     pass: &ViterbiPass,
     lists: &StoredWords,

@@ -94,7 +94,6 @@ impl PossibleDeviation {
 struct PartialTraceback {
     /// The trellis state before the next position.
     state: usize,
-    /// The best position for a deviation so far.
     best: PossibleDeviation,
 }
 

@@ -12,7 +12,8 @@ use crate::branch::Deviation;
 use crate::pass::ViterbiPass;
 use trellis_decode::ENCODER_INPUT_BITS;
 
-/// The returned words, numbered from 0 in order of rank.
+/// The returned words, numbered from 0 in order of rank. Each word after the first is stored as a deviation from an earlier one (8 octets),
+/// and written out only when it is returned or when another word deviates from it.
 #[derive(Clone, Copy)]
 pub(crate) struct StoredWords {
     /// The bits of word 0, which is the most likely word, padded with zeros.
@@ -30,7 +31,6 @@ struct DeviationChain {
 }
 
 impl StoredWords {
-    /// Writes word number `word_index` to `u`.
     pub(crate) fn write_word(&self, pass: &ViterbiPass, word_index: u8, u: &mut [u8])
         requires pass { IsCompletePass pass.now }
         requires tree { IsDeviationTree pass.now self.now }

@@ -63,7 +63,8 @@ pub(crate) fn find_next_word(
 
 /// Splits a span of `u` at the position where its most likely deviating word deviates, and replaces `u` by this word. In the result,
 /// `branch_before` and `branch_after` cover the parts of the span before and after that position, and `branch_of_new_word` covers the
-/// positions of the new word after it. The new word has the number `new_index`.
+/// positions of the new word after it. The new word has the number `new_index`. Only these three parts are searched; every other branch
+/// keeps its best deviation.
 fn partition(
     pass: &ViterbiPass,
     u: &mut [u8],

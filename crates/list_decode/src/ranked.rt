@@ -31,11 +31,10 @@ use trellis_decode::{CODED_BITS, ENCODER_INPUT_BITS, decode};
 pub struct ListDecoder {
     pass: ViterbiPass,
     lists: StoredWords,
-    /// The branches: one for the first word, and two more for each word after it.
+    /// The branches: one for the first word, and two more for each word after it, so that 64 words need at most 127 and none is dropped.
     branches: [WordBranch; 127],
-    /// The path metrics of the best deviations of the branches.
+    /// The path metrics of the best deviations of the branches, in an array of their own so that one scan compares them.
     best_metrics: [i32; 127],
-    /// The path metric of the first word.
     first_metric: i32,
 }
 
@@ -86,7 +85,8 @@ impl ListDecoder {
         }
     }
 
-    /// Starts a ranking after its first word: `u` is the most likely word, and `metric` its path metric.
+    /// Starts a ranking after its first word: `u` is the most likely word, and `metric` its path metric. For a caller that has already
+    /// decoded this word.
     pub fn after_first(soft: &[i8], u: &[u8], metric: i32) -> ListDecoder
         requires at_least { 10 ≤ length soft.now }
         requires at_most { length soft.now ≤ CODED_BITS }
@@ -201,7 +201,8 @@ impl ListDecoder {
     }
 }
 
-/// If only the first word has been returned, runs the backward pass and finds the best deviation from this word.
+/// If only the first word has been returned, runs the backward pass and finds the best deviation from this word. The pass is left until now
+/// because a caller may ask for no second word.
 fn prepare_branches(
     pass: &mut ViterbiPass,
     lists: &StoredWords,

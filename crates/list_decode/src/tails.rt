@@ -13,7 +13,8 @@ use crate::branch::WordSpan;
 use crate::departure::PossibleDeviation;
 use trellis_decode::ENCODER_INPUT_BITS;
 
-/// For each position of the most likely word: the trellis state before it, and the best position at or after it for a deviation.
+/// For each position of the most likely word: the trellis state before it, and the best position at or after it for a deviation. A word
+/// that reaches one of these states after its deviation agrees with the most likely word from there on.
 #[derive(Clone, Copy)]
 pub(crate) struct BestLaterDeviations {
     pub(crate) states: [u8; ENCODER_INPUT_BITS],
@@ -21,7 +22,6 @@ pub(crate) struct BestLaterDeviations {
 }
 
 impl BestLaterDeviations {
-    /// Fills in the states of the most likely word and its best deviations.
     pub(crate) fn fill_best_later_deviations(&mut self, rows: &[u16], losses: &[[i16; 16]])
         requires same { length losses.now ≡ length rows.now }
         requires at_least { 5 ≤ length rows.now }
@@ -92,7 +92,8 @@ pub(crate) fn survivor_deviation(
     )
 }
 
-/// Returns the first position of the span where `list` is in the same state as the most likely word (`states`), or the end of the span.
+/// Returns the first position of the span where `list` is in the same state as the most likely word (`states`), or the end of the span. A
+/// table of the positions where the most likely word meets each state was no faster.
 pub(crate) fn find_merging_place(
     list: &[u8],
     states: &[u8; ENCODER_INPUT_BITS],

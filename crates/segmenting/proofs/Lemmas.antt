@@ -40,28 +40,24 @@ messages_ending_in_segments-cut_segments n zero partial m ps = refl
 messages_ending_in_segments-cut_segments n (suc k) partial m ps =
     rw (messages_ending_in_segments-cut_segments n k (partial ++ take n m) (drop n m) ps, append_assoc, take-append-drop n m) refl
 
--- appending a segment with M = 1 appends its octets to the incomplete message
 partial_message_after-more : (partial : List ℕ) (ps : List Segment) (octets : List ℕ) →
     partial_message_after partial (ps ++ (octets, true) ∷ []) ≡ partial_message_after partial ps ++ octets
 partial_message_after-more partial [] octets = refl
 partial_message_after-more partial ((o, true) ∷ ps) octets = partial_message_after-more _ ps _
 partial_message_after-more partial ((o, false) ∷ ps) octets = partial_message_after-more [] ps _
 
--- after a segment with M = 0, no message is incomplete
 partial_message_after-last : (partial : List ℕ) (ps : List Segment) (octets : List ℕ) →
     partial_message_after partial (ps ++ (octets, false) ∷ []) ≡ []
 partial_message_after-last partial [] octets = refl
 partial_message_after-last partial ((o, true) ∷ ps) octets = partial_message_after-last _ ps _
 partial_message_after-last partial ((o, false) ∷ ps) octets = partial_message_after-last [] ps _
 
--- appending a segment with M = 1 does not change the list of ended messages
 pub messages_ending_in_segments-more : (partial : List ℕ) (ps : List Segment) (octets : List ℕ) →
     messages_ending_in_segments partial (ps ++ (octets, true) ∷ []) ≡ messages_ending_in_segments partial ps
 messages_ending_in_segments-more partial [] octets = refl
 messages_ending_in_segments-more partial ((o, true) ∷ ps) octets = messages_ending_in_segments-more _ ps _
 messages_ending_in_segments-more partial ((o, false) ∷ ps) octets = rw (messages_ending_in_segments-more [] ps octets)
 
--- appending a segment with M = 0 adds one ended message: the incomplete message followed by the octets of the segment
 pub messages_ending_in_segments-last : (partial : List ℕ) (ps : List Segment) (octets : List ℕ) →
     messages_ending_in_segments partial (ps ++ (octets, false) ∷ []) ≡ messages_ending_in_segments partial ps ++ message_if_fits
     (partial_message_after partial ps ++ octets) ∷ []
@@ -69,7 +65,6 @@ messages_ending_in_segments-last partial [] octets = refl
 messages_ending_in_segments-last partial ((o, true) ∷ ps) octets = messages_ending_in_segments-last _ ps _
 messages_ending_in_segments-last partial ((o, false) ∷ ps) octets = rw (messages_ending_in_segments-last [] ps octets)
 
--- a segment with M = 1 completes no message
 completed_message_after-more : (partial : List ℕ) (ps : List Segment) (octets : List ℕ) →
     completed_message_after partial (ps ++ (octets, true) ∷ []) ≡ []
 completed_message_after-more partial [] octets = refl
@@ -77,7 +72,6 @@ completed_message_after-more partial ((o, true) ∷ ps) octets = completed_messa
 completed_message_after-more partial ((o, false) ∷ []) octets = refl
 completed_message_after-more partial ((o, false) ∷ p ∷ ps) octets = completed_message_after-more [] (p ∷ ps) _
 
--- a segment with M = 0 completes the incomplete message followed by its own octets, if the message has at most 251 octets
 pub completed_message_after-last : (partial : List ℕ) (ps : List Segment) (octets : List ℕ) →
     completed_message_after partial (ps ++ (octets, false) ∷ []) ≡
     unwrap_or (message_if_fits (partial_message_after partial ps ++ octets)) []
@@ -100,7 +94,6 @@ messages-push ps (octets, true) =
 messages-push ps (octets, false) =
     rw (messages_ending_in_segments-last [] ps octets, filter_map-append, message_delivered_by_segment-last ps octets)
 
--- the message that a segment delivers is the one that `completed_message` gives after this segment
 pub delivered_is_completed : (ps : List Segment) (p : Segment) →
     message_delivered_by_segment ps p ≡ message_if_whole (reassembly_result ps p)
     (completed_message (ps ++ p ∷ []))
@@ -195,7 +188,6 @@ length-segments n m = length-cut_segments n _ m
 drop-drop_next : (n i : ℕ) (m : List ℕ) → drop (i * n) (drop n m) ≡ drop (suc i * n) m
 drop-drop_next n i m = drop-drop _ n m ∙ ap (λ j. drop j m) (omega arith)
 
--- if i < k, the segment with index i has M = 1 and carries at most n octets, from position i * n of the message on
 slice_get-cut_full : (n k i : ℕ) (m : List ℕ) → i < k →
     slice_get (cut_segments n k m) i ≡ Some (take n (drop (i * n) m), true)
 slice_get-cut_full n zero i m h = absurd (omega (arith, h))
@@ -203,12 +195,10 @@ slice_get-cut_full n (suc k) zero m h = grind arith
 slice_get-cut_full n (suc k) (suc i) m h = slice_get-cut_full n k i _ (omega arith) ∙ ap
     (λ rest. Some (take n rest, true)) (drop-drop_next n i m)
 
--- the segment with index k has M = 0 and carries the rest of the message
 slice_get-cut_last : (n k : ℕ) (m : List ℕ) → slice_get (cut_segments n k m) k ≡ Some (drop (k * n) m, false)
 slice_get-cut_last n zero m = grind arith
 slice_get-cut_last n (suc k) m = slice_get-cut_last n k _ ∙ ap (λ rest. Some (rest, false)) (drop-drop_next n k m)
 
--- n is in the range of N201: 1 to 20 octets
 pub record IsN201 (n : ℕ) : Type 0 where
   pub positive : 1 ≤ n
   pub at_most : n ≤ 20
@@ -216,11 +206,9 @@ pub record IsN201 (n : ℕ) : Type 0 where
 pub IsN201-n201 : (channel : Channel) → IsN201 (n201 channel)
 IsN201-n201 channel = grind arith
 
--- the segment with index i begins before the end of the message
 pub begins_within : (n i : ℕ) (m : Message) → 1 ≤ n → 1 ≤ length m → i < length (segments n m) → i * n < length m
 begins_within n i m _ some_octets h = grind (arith, length-segments n m)
 
--- the segment with index i has at most n octets, from position i * n of the message on; its M bit says whether more octets follow
 pub slice_get-segment : (n i : ℕ) (m : Message) → 0 < n → IsValidMessage m → i < length (segments n m) →
     slice_get (segments n m) i ≡ Some (take (min (length m - i * n) n) (drop (i * n) m), nat_lt n (length m - i * n))
 slice_get-segment n i m room h within =
@@ -239,7 +227,6 @@ slice_get-segment n i m room h within =
           (λ p. Some p) (grind (arith, nat_tests))
     ]
 
--- the segment with index i begins before the end of the message; r is N201 of the channel
 pub begins_at : (channel : Channel) (r i : ℕ) (m : Message) → r ≡ n201 channel → 1 ≤ length m →
     i < length (segments (n201 channel) m) → i * r < length m
 begins_at channel r i m same some_octets h =
@@ -311,12 +298,10 @@ pub count-take : (a r : ℕ) (ps : List Segment) → a ≤ r → message_count (
 count-take a r ps h =
     grind (arith, count-append (take a (take r ps)) (drop a (take r ps)), take-append-drop a (take r ps), take-take a r ps h)
 
--- exactly one of the segments of a message has M = 0
 end_count-cut_segments : (n k : ℕ) (m : List ℕ) (ps : List Segment) → end_count (cut_segments n k m ++ ps) ≡ 1 + end_count ps
 end_count-cut_segments n zero m ps = refl
 end_count-cut_segments n (suc k) m ps = end_count-cut_segments n k _ ps
 
--- all segments of a message before its last one have M = 1
 end_count-zero : (n k r : ℕ) (m : List ℕ) (ps : List Segment) → r ≤ k → end_count (take r (cut_segments n k m ++ ps)) ≡ 0
 end_count-zero n k zero m ps h = refl
 end_count-zero n zero (suc r) m ps h = absurd (omega arith)
@@ -366,11 +351,9 @@ count-whole n r zero ms h = ((λ _. omega arith), (λ _. omega arith))
 count-whole n r (suc k) [] h = absurd (omega (arith, h))
 count-whole n r (suc k) (m ∷ ms) h = completed_by_length n r k m ms (λ j. count-whole n j k ms (omega (arith, h)))
 
--- a prefix of a list consists of the first elements of the list
 prefix_is_take : {T : Type 0} (xs ys zs : List T) → xs ++ ys ≡ zs → xs ≡ take (length xs) zs
 prefix_is_take xs ys zs h = sym (take-append_seam xs ys) ∙ ap (take _) h
 
--- the first r segments of a list of valid messages complete the first messages of the list, and none of these is oversize
 pub messages_ending_in_segments-front : (n r : ℕ) (ms : List Message) → All IsValidMessage ms →
     messages_ending_in_segments [] (take r (flat_map (segments n) ms)) ≡ map (λ m. Some m)
     (take (message_count (take r (flat_map (segments n) ms))) ms)
@@ -388,13 +371,11 @@ too_long : (ps : List Segment) (octets : List ℕ) → None ≡ message_if_fits 
     max_message_octets < length (partial_message ps ++ octets)
 too_long ps octets h = grind (arith, length-append (partial_message ps) octets)
 
--- after a segment with M = 1 that leaves the message at most 251 octets long, the joiner holds the octets of the incomplete message
 pub goes_on : (ps : List Segment) (octets held : List ℕ) → held ≡ partial_message ps ++ octets →
     length held ≤ max_message_octets → HoldsReassemblyOf P.Open held (ps ++ (octets, true) ∷ [])
 goes_on ps octets held e h =
     grind (arith, message_if_fits-some held h, partial_message_after-more [] ps octets, completed_message_after-more [] ps octets)
 
--- after a segment with M = 0 that completes a message of at most 251 octets, the joiner holds this message
 pub completes : (ps : List Segment) (octets held : List ℕ) → held ≡ partial_message ps ++ octets → 1 ≤ length held →
     length held ≤ max_message_octets → HoldsReassemblyOf P.Whole held (ps ++ (octets, false) ∷ [])
 completes ps octets held e some h =
@@ -422,7 +403,6 @@ drops ps octets h =
       completed_message_after-last [] ps octets,
     )
 
--- `held` consists of the incomplete message and the given octets, and has at most 251 octets
 pub record IsWritten (ps : List Segment) (octets held : List ℕ) : Type 0 where
   pub held_is : held ≡ partial_message ps ++ octets
   pub fits : length held ≤ max_message_octets
@@ -453,7 +433,6 @@ pub record HasHistory (part : ReassemblyState) (held : List ℕ) (number : ℕ) 
   pub count : length taken % 8 ≡ number
   pub reassembly : HoldsReassemblyOf part held taken
 
--- k empty segments, each with M = 0
 abbrev empty_last_segments : ℕ → List Segment
 empty_last_segments zero = []
 empty_last_segments (suc k) = ([], false) ∷ empty_last_segments k

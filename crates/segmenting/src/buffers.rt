@@ -3,7 +3,8 @@
 ghost use Rattle.std.specs.Prelude.{◌≡◌, ◌≤◌, [], length};
 ghost use Rattle.segmenting.specs.Buffers.{octets_in_buffer, message_buffer};
 
-/// A message as plain data, with the memory layout of C. It may be longer than the 251 octets that a link accepts.
+/// A message as plain data, with the memory layout of C. It may be longer than the 251 octets that a link accepts:
+/// there is room for 255, so that every `count` of one octet is within the array.
 #[repr(C)]
 #[derive(Clone, Copy, PartialEq, Eq, Debug)]
 pub struct MessageBuffer {
@@ -30,7 +31,7 @@ impl MessageBuffer {
         &self.octets[..usize::from(self.count)]
     }
 
-    /// Replaces the message with `octets`, and fills the rest of the buffer with zeros.
+    /// Replaces the message with `octets`, and fills the rest of the buffer with zeros. So the message determines the whole buffer.
     pub fn write(&mut self, octets: &[u8])
         requires { length octets.now ≤ 255 }
         ensures { self.new ≡ message_buffer octets.now }

@@ -164,7 +164,6 @@ place_of_burst : (s f first b : ℕ) (p : Option Position) (row : Mapping) → p
     place_at s f p ≡ Some (record { first = first; position = record { channel = row.channel; subchannel = row.subchannel; burst = b } })
 place_of_burst s f first b p row is burst back = cc
 
--- the row carries its burst b in this frame
 carries_burst : (s f b : ℕ) (row : Mapping) → b < row.bursts → frames_since row f % s ≡ 0 → frames_since row f / s ≡ b →
     carries s row f ≡ true
 carries_burst s f b row lt whole burst = grind (arith, nat_tests)

@@ -14,7 +14,6 @@ use Rattle.tdma.specs.declared.channels.Direction.{Direction}
 use Rattle.tdma.specs.declared.channels.Direction.TheVariants.{Downlink, Uplink}
 use Rattle.tdma.specs.declared.schedule.Position.{Position}
 
--- the length of the cycle
 abbrev pub cycle : Combination → ℕ
 cycle TchF = 104
 cycle _ = 102
@@ -56,7 +55,6 @@ same_in_cycle Sdcch8 Downlink t f g same = same_among 1 (mappings Sdcch8 Downlin
 same_in_cycle Sdcch8 Uplink t f g same = same_among 1 (mappings Sdcch8 Uplink t) f g refl same
 same_in_cycle TchF d t f g same = cc
 
--- only a traffic channel's table depends on the time slot
 pub same_in_slots : (c : Combination) (d : Direction) (timeslot f : ℕ) → c ≢ TchF →
     position_of c d timeslot f ≡ position_of c d 0 f
 same_in_slots BcchCcch Downlink t f h = refl
@@ -77,7 +75,6 @@ position_at_remainder Sdcch8 d t f h = same_in_slots Sdcch8 d t f h ∙ same_in_
 
 -- ## Next: a block that begins at all begins within 104 frames.
 
--- each frame has the place in the cycle of one of the next 104
 pub within_cycle : (c : Combination) (frame f : ℕ) →
     (ahead : ℕ) × (ahead < 104) × (f % cycle c ≡ (frame + ahead) % HYPERFRAME % cycle c)
 within_cycle TchF frame f = ((f % 104 + 104 - frame % 104) % 104, omega arith, omega arith)

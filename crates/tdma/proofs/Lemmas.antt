@@ -55,7 +55,6 @@ octets_apart a b c x a' b' c' x' h h' e = (
   ap (λ l. get_or l 24 0) e,
 )
 
--- bits `bits` are those of three octets and one more bit
 pub record AreSyncBits (bits : List ℕ) (first second third last : ℕ) : Type 0 where
   pub same : bits ≡ bits_of (first ∷ second ∷ third ∷ []) ++ (last ∷ [])
   pub first_octet : first < 256
@@ -63,7 +62,6 @@ pub record AreSyncBits (bits : List ℕ) (first second third last : ℕ) : Type 
   pub third_octet : third < 256
   pub last_bit : last ≤ 1
 
--- the fields of a frame with these bits
 pub record HasFields (info : SchInfo) (first second third last : ℕ) : Type 0 where
   pub bsic : info.bsic ≡ first / 4
   pub t1 : info.frame / 1326 ≡ first % 4 * 512 + second * 2 + third / 128
@@ -96,7 +94,6 @@ fields_of_bits info bits a b c x are has e =
       reduced = omega arith;
     }
 
--- a frame with these fields has these bits
 pub bits_of_fields : (info : SchInfo) (bits : List ℕ) (a b c x : ℕ) → AreSyncBits bits a b c x → HasFields info a b c x →
     sch_bits info ≡ bits
 unfolding sch_bits
@@ -137,14 +134,12 @@ some_frame t1 t2 t3 h1 h2 h3 =
 pub one_frame : (f g : ℕ) → f / 1326 ≡ g / 1326 → f % 26 ≡ g % 26 → f % 51 ≡ g % 51 → f ≡ g
 one_frame f g h1 h2 h3 = omega arith
 
--- the bits determine the fields
 pub same_info : (info other : SchInfo) (a b c x : ℕ) → HasFields info a b c x → HasFields other a b c x → info ≡ other
 same_info info other a b c x h g =
     let frame : info.frame ≡ other.frame = one_frame _ _ (h.t1 ∙ sym g.t1) (h.t2 ∙ sym g.t2) (h.t3 ∙ sym g.t3) in
     let bsic : info.bsic ≡ other.bsic = h.bsic ∙ sym g.bsic in
     ap₂ (λ (b f : ℕ). let made : SchInfo = record { bsic = b; frame = f } in made) bsic frame
 
--- what is read from the bits of a frame
 pub reading_some : (info : SchInfo) (bits : List ℕ) (a b c x : ℕ) → AreSyncBits bits a b c x → HasFields info a b c x →
     HasSch info → (other : SchInfo) → HasSch other → sch_bits other ≡ bits → info ≡ other
 reading_some info bits a b c x are fields has other has' same =
@@ -172,7 +167,6 @@ t2_beyond a b c x ha hb hc hx h3 none = elim (cases_lt (c / 4 % 32) 26) [
   | inr beyond ↦ beyond
 ]
 
--- the bits of a frame are those of three octets and one more
 pub sync_bits_of : (info : SchInfo) → HasSch info →
     (a : ℕ) × (b : ℕ) × (c : ℕ) × (x : ℕ) × AreSyncBits (sch_bits info) a b c x
 unfolding sch_bits

@@ -36,7 +36,8 @@ pub fn place_of_frame(
 }
 
 /// Returns the first frame number, at or after `frame`, of a block (or single burst) of this channel and subchannel: after the last frame
-/// of the hyperframe the first follows. Returns `None` if the combination has no such channel in this direction.
+/// of the hyperframe the first follows. Returns `None` if the combination has no such channel in this direction. A block that begins at
+/// all begins within 104 frames, so no more are tried.
 pub fn next_block(
     combination: Combination,
     direction: Direction,
@@ -64,7 +65,6 @@ pub fn next_block(
     None
 }
 
-/// Returns the channel and the burst that a frame carries.
 #[tactic(auto, using(crate::proofs::Cycles::position_at_remainder))]
 fn position_of_frame(
     combination: Combination,

@@ -17,7 +17,7 @@ pub struct Position {
     pub burst: u8,
 }
 
-/// Returns what frame `frame` of two 51-multiframes carries in this direction.
+/// Returns what frame `frame` of two 51-multiframes carries in this direction. Some rows of the tables repeat only after two.
 pub(crate) fn position_in_multiframes(
     combination: Combination,
     direction: Direction,
@@ -34,7 +34,7 @@ pub(crate) fn position_in_multiframes(
 }
 
 /// Returns what a frame carries in the uplink: a dedicated channel has its block fifteen frames after that of the downlink, and RACH has
-/// what is left beside CCCH.
+/// what is left beside CCCH. In a cycle of 102 frames, fifteen frames before is 87 frames after.
 #[tactic(auto, using(crate::proofs::Tables::iv_uplink, crate::proofs::Tables::v_uplink, crate::proofs::Tables::vii_uplink))]
 fn uplink_position(combination: Combination, frame: u8) -> Option<Position>
     requires within { frame < 102 }
@@ -70,7 +70,6 @@ fn random_access(has_rach: bool) -> Option<Position>
     }
 }
 
-/// Returns what a frame carries in the downlink.
 fn downlink_position(combination: Combination, frame: u8) -> Option<Position>
     requires within { frame < 102 }
     requires no_traffic { combination ≢ C.TchF }
@@ -143,7 +142,7 @@ fn burst_of(channel: Channel, subchannel: u8, burst: u8) -> Option<Position>
 }
 
 /// Returns what a frame of the 104 frames of a traffic channel carries of its SACCH, whose four bursts come 26 frames apart, and in each
-/// time slot 13 frames later than in the one before.
+/// time slot 13 frames later than in the one before; in time slot 0 the first is frame 12, 92 frames before the end.
 pub(crate) fn traffic_position(timeslot: u8, frame: u8) -> Option<Position>
     requires timeslot { timeslot < 8 }
     requires within { frame < 104 }

@@ -66,7 +66,6 @@ pub fn sch_of_bits(bits: &Bits<25>) -> Option<SchInfo>
     }
 }
 
-/// The bits of three octets, and one more.
 fn octets_and_bit(octets: &[u8; 3], bit: u8) -> [u8; 25]
     requires { bit ≤ 1 }
     ensures value { result ≡ bits_of octets.now ++ (bit ∷ []) }

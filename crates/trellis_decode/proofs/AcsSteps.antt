@@ -34,7 +34,6 @@ use lib.Lanes.{Each1}
 -- ## BranchMetricLanes: The branch metric of bit 1 is the negative of that of bit 0. The branch metric of bit 0 in state s + 8 is the
 -- negative of that in state s.
 
--- P holds for each number below n, written as one conjunction
 abbrev pub EachBelow : (ℕ → Type 0) → ℕ → Type 0
 EachBelow P zero = Unit {0}
 EachBelow P (suc n) = EachBelow P n × P n
@@ -43,7 +42,6 @@ pub each : (P : ℕ → Type 0) (n : ℕ) → EachBelow P n → (s : ℕ) → s 
 each P zero h s lt = absurd (omega arith)
 each P (suc n) h s lt = below_more P n (each P n h.0) h.1 s (omega arith)
 
--- the values of f for the numbers below n
 abbrev values : {A : Type 0} → (ℕ → A) → ℕ → List A
 values f zero = []
 values f (suc n) = f n ∷ values f n
@@ -59,7 +57,6 @@ bit_metric-zero p = omega (arith, ints)
 pub bit_metric-one : (p : ℤ) → bit_metric p 1 ≡ pos 0 -ℤ p
 bit_metric-one p = omega (arith, ints)
 
--- the bit metrics of the two values of a coded bit are opposite numbers
 bit_metric-opposite : (p : ℤ) (x y : ℕ) → x + y ≡ 1 → bit_metric p x ≡ pos 0 -ℤ bit_metric p y
 bit_metric-opposite p zero (suc zero) e = omega (arith, ints)
 bit_metric-opposite p (suc zero) zero e = omega (arith, ints)
@@ -171,7 +168,6 @@ four_pairs soft octets count = absurd (omega arith)
 
 -- ---- lemmas about the pairs of soft bits in a list
 
--- the pair of soft bits at index i
 abbrev pub pair_at : List ℤ → ℕ → List ℤ
 pair_at soft i = take 2 (drop i soft)
 
@@ -182,7 +178,6 @@ pub pair_and_after : (soft : List ℤ) (i j : ℕ) → i + 2 ≡ j → pair_at s
 pair_and_after soft i j e =
     rw (← e, ← drop-drop 2 i soft) (take-append-drop 2 (drop i soft))
 
--- the pair of soft bits at index i of a slice is the pair at index `from` + i of the whole list
 pub pair_at-take_drop : (soft : List ℤ) (from n i j : ℕ) → i + 2 ≤ n → from + i ≡ j →
     pair_at (take n (drop from soft)) i ≡ pair_at soft j
 pair_at-take_drop soft from n i j inside e =
@@ -193,7 +188,6 @@ pair_at-take_drop soft from n i j inside e =
 -- ## AcsSteps: One Viterbi step (add, compare, select) in two vectors of eight 16-bit lanes. The states are in bit-reversed order, so that
 -- the next states after bit 0 are one whole vector, and those after bit 1 the other.
 
--- in one lane, the greater candidate metric is the path metric, and its bit is the decision
 pub IsDecision-lane : (after pair : List ℤ) (s : ℕ) (z o value taken : ℤ) →
     path_metric_of_lane z ≡ candidate_metric after pair s 0 →
     path_metric_of_lane o ≡ candidate_metric after pair s 1 → value ≡ (if int_lt z o then o else z) →
@@ -213,7 +207,6 @@ halves : (P : ℕ → Type 0) → ((k : ℕ) → k < 8 → P k) → ((k : ℕ) �
 halves P low high k lt =
     elim (cases_lt k 8) [ inl below ↦ low k below | inr from ↦ subst P (omega arith) (high (k - 8) (omega arith)) ]
 
--- a statement that holds for the state of each lane holds for each state
 pub each_state : (P : ℕ → Type 0) → ((k : ℕ) → k < 8 → P (three_bits_reversed k)) →
     ((k : ℕ) → k < 8 → P (8 + three_bits_reversed k)) → (s : ℕ) → s < 16 → P s
 each_state P low high =
@@ -297,13 +290,11 @@ IsDecision-lower_bound after pair s bit value floor count lt low0 low1 h = omega
 -- ## Leads: The difference between the candidate metrics of bit 0 and bit 1: its sign is the decision, and its absolute value the cost of
 -- the other bit.
 
--- the decision is bit 1 if the difference, the candidate metric of bit 0 minus that of bit 1, is negative
 pub IsDecision-bit : (after pair : List ℤ) (s bit bit' : ℕ) (value lead : ℤ) → IsDecision after pair s value bit →
     lead ≡ candidate_metric after pair s 0 -ℤ candidate_metric after pair s 1 → bit' ≡ (if int_lt lead (pos 0) then 1 else 0) →
     IsDecision after pair s value bit'
 IsDecision-bit after pair s bit bit' value lead h is b = grind arith
 
--- the absolute value of the difference is the path metric that the other bit would lose
 pub IsDecision-loss : (after pair : List ℤ) (s bit : ℕ) (value lead loss : ℤ) → IsDecision after pair s value bit →
     lead ≡ candidate_metric after pair s 0 -ℤ candidate_metric after pair s 1 →
     loss ≡ (if int_lt lead (pos 0 -ℤ lead) then pos 0 -ℤ lead else lead) →
@@ -500,7 +491,6 @@ module _ (after branch_metrics pair : List ℤ) (has : HasHardBranchMetrics bran
       (bit_0_candidate-metric zeros zeros-candidates s lt) (one_candidate ones ones-candidates s lt)
       (better _ (inside s lt)))
 
--- from the lane of a state and the decided bit, `lane_after_bit_0` or `lane_after_bit_1` gives the lane of the next state
 pub next_lane-state : (s : ℕ) → s < 16 → (t : Bool) →
     (if t then lane_after_bit_1 (lane_of_state s) else lane_after_bit_0 (lane_of_state s))
     ≡ lane_of_state (next_trellis_state s (if t then 1 else 0))
@@ -529,7 +519,6 @@ start = replicate 16 (negsuc 119)
 pub start-metric : (s : ℕ) → s < 16 → lane (hard_lane_metrics start) s ≡ pos 0
 start-metric = same_below _ _ refl
 
--- the pair of soft bits at index i, written as its two elements
 pub pair_lanes : (soft : List ℤ) (i : ℕ) → i + 2 ≤ length soft → take 2 (drop i soft) ≡ lane soft i ∷ lane soft (i + 1) ∷ []
 pair_lanes (x ∷ y ∷ soft) zero within = refl
 pair_lanes (x ∷ soft) (suc i) within =
@@ -553,7 +542,6 @@ hard_table =
 abbrev pub hard_row : ℕ → List ℤ → List ℤ
 hard_row n d = map (cast_signed w8) (map (cast_unsigned w8) (get_or hard_table n d))
 
--- the row of the table for the signs of two soft bits, converted to octets and back, has the branch metrics of these soft bits
 pub HasHardBranchMetrics-row : (d : List ℤ) (n : ℕ) (p q : ℤ) → IsHardBit p → IsHardBit q
     → n ≡ sign_bit_of p + 2 * sign_bit_of q →
     HasHardBranchMetrics (hard_row n d) (p ∷ q ∷ [])

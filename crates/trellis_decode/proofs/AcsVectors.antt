@@ -49,7 +49,6 @@ Lanewise-by_lane w n F g h none more is a b ca cb fa fb fit =
     λ k lt. lanewise-at F g none more n a b ca cb k lt (pos 0) (pos 0) (pos 0) ∙ is _ _ (fa k lt) (fb k lt) (fit k lt) in
     (length-lanewise F g none more n a b ca cb, each, λ k lt. rw (each k lt) (fit k lt))
 
--- if P holds for both x and y, it holds for the one that the test selects
 pub if_either : {A : Type 0} (P : A → Type 0) (t : Bool) {x y : A} → P x → P y → P (if t then x else y)
 if_either P true px py = px
 if_either P false px py = py
@@ -169,14 +168,12 @@ AreDecisionLanes-each lanes t count is = record { count = count; each_lane = λ 
 
 -- ---- lemmas about vectors whose lanes are in a new order
 
--- lanes that fit in their width do not change when they are converted to unsigned numbers and back
 pub cast_lanes-each : (w : Width) (a : List ℤ) → FitEach w (length a) a → map (cast_signed w) (map (cast_unsigned w) a) ≡ a
 cast_lanes-each w [] fits = refl
 cast_lanes-each w (x ∷ a) fits =
     ap₂ (λ y ys. y ∷ ys) (to_z-of_z w x (fits 0 (omega arith))) (cast_lanes-each w _ (λ s lt. fits (suc s) (omega arith)))
 
 module _ (w : Width) (zero_is : cast_signed w 0 ≡ pos 0) where
-  -- lane k of two concatenated vectors
   abbrev pub at : List ℤ → List ℤ → ℕ → ℤ
   at a b k = cast_signed w (get_or (map (cast_unsigned w) a ++ map (cast_unsigned w) b) k 0)
 
@@ -191,7 +188,6 @@ module _ (w : Width) (zero_is : cast_signed w 0 ≡ pos 0) where
       ∙ ap (λ l. lane l k) (map-append _ (map (cast_unsigned w) a) _
       ∙ ap₂ ◌++◌ (cast_lanes-each w a fa) (cast_lanes-each w b fb))
 
-  -- the lanes of two vectors of eight, taken in the order f, form the vector g
   pub in_order : (f : (ℕ → ℤ) → List ℤ) (g : List ℤ → List ℤ → List ℤ) → ((i j k l m n p q : ℤ) (b : List ℤ) →
       f (lane (i ∷ j ∷ k ∷ l ∷ m ∷ n ∷ p ∷ q ∷ b)) ≡ g (i ∷ j ∷ k ∷ l ∷ m ∷ n ∷ p ∷ q ∷ []) b) →
       (a b : List ℤ) → length a ≡ 8 → length b ≡ 8 → FitEach w 8 a → FitEach w 8 b → f (at a b) ≡ g a b
@@ -211,7 +207,6 @@ cast_lanes a = map (cast_signed w16) (bits a)
 pub cast_lanes-subtract_lanes : (a : List ℤ) → AbsFit16Bits a → cast_lanes a ≡ a
 cast_lanes-subtract_lanes a h = cast_lanes-each w16 a (λ s lt. AbsFit16Bits-fits a h s (omega arith))
 
--- the absolute value of each lane: the greater of the lane and its negative
 abbrev pub absolute_lanes : ℕ → List ℤ → List ℤ → List ℤ
 absolute_lanes n a b =
     map (cast_signed w16)

@@ -60,7 +60,6 @@ module _ (a branch_metrics : List ℤ) (ha : HaveHeadroom8 a) (he : HaveMagnitud
   abbrev twice : List ℕ
   twice = bits a ++ bits a
 
-  -- lane k of the result is h, a sum or a difference, of the lane of a at `place` k and the branch metric of lane k
   candidates : (f : ℕ → ℕ → ℕ) (h : ℤ → ℤ → ℤ) (xs : List ℕ) (place : ℕ → ℕ) → length xs ≡ 16 →
       ((k : ℕ) → k < 16 → get_or xs k 0 ≡ get_or twice (place k) 0) → ((k : ℕ) → k < 16 → place k < 16) →
       ((x y : ℤ) → FitsSigned w8 x → FitsSigned w8 y → FitsSigned w8 (h x y) →

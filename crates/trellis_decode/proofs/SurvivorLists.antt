@@ -37,14 +37,12 @@ state_after-inside : (s : ℕ) (u : List ℕ) → s < 16 → state_after_bits s 
 state_after-inside s [] lt = lt
 state_after-inside s (x ∷ u) lt = state_after-inside (next_trellis_state s x) u (omega arith)
 
--- if the bit lists from all states have n bits, a survivor followed by such a list has n bits and one more for each pair of soft bits
 same_lengths : {after values soft : List ℤ} {map : List ℕ} (walk : AreSurvivors after values map soft) (lists : ℕ →
     List ℕ) (n : ℕ) → ((s : ℕ) → s < 16 → length (lists s) ≡ n) → (s : ℕ) → s < 16 →
     2 * length (walk.bits s ++ lists (state_after_bits s (walk.bits s))) ≡ length soft + 2 * n
 same_lengths walk lists n same s lt =
     omega (arith, same _ (state_after-inside s (walk.bits s) lt), length-append (walk.bits s) (lists (state_after_bits s (walk.bits s))))
 
--- over zero positions, the survivor map leads each state to itself
 pub AreSurvivors-none : (values : List ℤ) →
     AreSurvivors values values (0 ∷ 1 ∷ 2 ∷ 3 ∷ 4 ∷ 5 ∷ 6 ∷ 7 ∷ 8 ∷ 9 ∷ 10 ∷ 11 ∷ 12 ∷ 13 ∷ 14 ∷ 15 ∷ []) []
 AreSurvivors-none values = record {
@@ -85,7 +83,6 @@ module _ (after middle values pair soft : List ℤ) (map map' : List ℕ) (bit :
 
 -- ---- lemmas about bounds of the path metrics
 
--- a branch metric lies between -256 and 256
 branch_metric_bound : (pair : List ℤ) (s bit : ℕ) → length pair ≡ 2 → AreSignedOctets pair →
     (negsuc 255 ≤ℤ branch_metric s bit pair) × (branch_metric s bit pair ≤ℤ pos 256)
 unfolding branch_metric
@@ -145,14 +142,12 @@ module _ (even odd : List ℤ) (most : ℕ) (few : most ≤ 63000) (within : Are
   pub HaveHeadroom16-odd : length odd ≡ 8 → HaveHeadroom16 odd
   HaveHeadroom16-odd count = has_headroom odd 1 count (odd_metric even odd)
 
--- the absolute value of a path metric is at most 128 times the number of soft bits
 IsSurvivor-bounds : (s : ℕ) (u : List ℕ) (soft : List ℤ) (value : ℤ) → AreSignedOctets soft → IsSurvivor s u soft value →
     ((pos 0 -ℤ pos (128 * length soft)) ≤ℤ value) × (value ≤ℤ pos (128 * length soft))
 unfolding metric_from_state
 IsSurvivor-bounds s u soft value octets best =
     omega (arith, ints, likelihood_bound soft _ octets (AllBits-encoding_from_state s u))
 
--- the path metrics lie between -1,024 and 1,024 if at most eight soft bits remain, from index n on
 pub AreMetricsWithin-best : (n : ℕ) (values soft : List ℤ) (lists : ℕ → List ℕ) → AreSignedOctets soft
     → length soft ≤ n + 8 →
     ((s : ℕ) → s < 16 → IsSurvivor s (lists s) (drop n soft) (lane values s)) → AreMetricsWithin 1024 values
@@ -182,7 +177,6 @@ IsSurvivor-zero_tail after values pair soft n two few best candidates s lt =
 -- ## MapLists: The bits that traceback reads from survivor maps of four positions each, extended by one map at the front. A state consists
 -- of the four bits that led to it.
 
--- `lane_of_state` is its own inverse
 lane_of_state-twice : (s : ℕ) → s < 16 → lane_of_state (lane_of_state s) ≡ s
 lane_of_state-twice = same_below _ _ refl
 
@@ -193,12 +187,10 @@ length-survivor_traceback (map ∷ survivors) at =
     let to = get_or map at 0 % 16 in
     omega (arith, length-survivor_traceback survivors to, length-to_binary)
 
--- the front of a list with tail bits is a list of bits
 HasTailBits-front : (u rest : List ℕ) → HasTailBits (u ++ rest) → AllBits u
 HasTailBits-front [] rest ends = All-nil _
 HasTailBits-front (x ∷ u) rest ends = All-cons IsBit x u ends.0 (HasTailBits-front u _ ends.2)
 
--- four bits lead to the state that consists of these bits
 four_bits-state : (s a b c d : ℕ) → s < 16 → a ≤ 1 → b ≤ 1 → c ≤ 1 → d ≤ 1 →
     to_binary 4 (state_after_bits s (a ∷ b ∷ c ∷ d ∷ [])) ≡ a ∷ b ∷ c ∷ d ∷ []
 four_bits-state s a b c d lt ha hb hc hd =
@@ -211,7 +203,6 @@ state_after-four_bits s (a ∷ b ∷ c ∷ d ∷ []) lt four bits =
     four_bits-state s a b c d lt (bits 0 0 (omega arith)) (bits 1 0 (omega arith)) (bits 2 0 (omega arith)) (bits 3 0 (omega arith))
 state_after-four_bits s u lt four bits = absurd (omega arith)
 
--- fewer than four bits that lead from state 0 to a state are the last bits of that state
 pub last_state-bits : (u : List ℕ) → length u < 4 → AllBits u → drop (4 - length u) (to_binary 4 (state_after_bits 0 u)) ≡ u
 last_state-bits [] few bits = refl
 last_state-bits (a ∷ []) few bits =
@@ -229,7 +220,6 @@ module _ {after values soft rest : List ℤ} {map : List ℕ} (survivors : List 
   abbrev bits : ℕ → List ℕ
   bits = walk.bits
 
-  -- the survivor map's entry for state s is the lane of the state that the bits of its survivor lead to
   maps_to_end_state : (s : ℕ) → s < 16 → get_or map (lane_of_state s) 0 % 16 ≡ lane_of_state (state_after_bits s (bits s))
   maps_to_end_state s lt =
       omega (arith, walk.maps_to_end_state s lt, state_after-inside s (bits s) lt)
@@ -253,7 +243,6 @@ module _ {after values soft rest : List ℤ} {map : List ℕ} (survivors : List 
       (sym (ap (to_binary 4) (traced_survivor-state s lt) ∙ state_after-four_bits s _ lt (omega arith) (traced_survivor-bits s lt)))) refl
       refl (traced_survivor s lt)
 
--- the map of the tail leads to state 0, so traceback reads four zeros
 read_last : (s : ℕ) → s < 16 →
     survivor_traceback (replicate 16 0 ∷ []) (lane_of_state s) ≡ replicate 4 0
 read_last = same_below _ _ refl
@@ -294,7 +283,6 @@ more_survivors after values soft map survivors before group at inside within wal
 -- ## Decisions: `fill_decisions` extends its decisions and costs by one position at a time. Two path metrics differ by at most 2,048, since
 -- four equal bits lead from any two states to the same state; so the differences fit in 16 bits.
 
--- two lists of the same length that consist only of tail bits (at most four) are equal
 HasTailBits-same : (u w : List ℕ) → HasTailBits u → HasTailBits w → length w ≡ length u → length u ≤ 4 → w ≡ u
 HasTailBits-same [] [] eu ew count short = refl
 HasTailBits-same (x ∷ u) (y ∷ w) eu ew count short =
@@ -314,7 +302,6 @@ IsSurvivor-short s u soft ends short = record {
       (lex_not_after-refl u));
 }
 
--- in the last four positions, decision rows of zeros are correct, since tail bits are 0
 AreDecisions-tail : (rows : List ℕ) (losses : List (List ℤ)) (soft : List ℤ) → length rows ≤ 4 →
     length losses ≡ length rows → length soft ≡ 2 * length rows → All (λ row. row ≡ 0) rows → AreDecisions rows losses soft
 AreDecisions-tail [] losses soft short same pairs blank = pairs
@@ -381,7 +368,6 @@ metric_from_state-more state x u soft long =
     ap (metric_from_state state (x ∷ u)) (sym (take-append-drop 2 _))
     ∙ metric_from_state-cons _ x u _ _ (omega (arith, length-take 2 soft))
 
--- the path metric of u from state s exceeds the path metric of u from state t by at most n
 abbrev IsNear : ℕ → ℕ → ℕ → List ℕ → List ℤ → Type 0
 IsNear n s t u soft = metric_from_state s u soft ≤ℤ (metric_from_state t u soft +ℤ pos n)
 
@@ -431,7 +417,6 @@ fits_16_bits =
 lane_of_state-inside : (k : ℕ) → k < 16 → lane_of_state k < 16
 lane_of_state-inside k lt = omega arith
 
--- the path metrics of the survivors of any two states differ by at most 2,048
 survivors_near : (values soft : List ℤ) (paths : ℕ → List ℕ) (count : ℕ) → AreSignedOctets soft →
     length soft ≡ 2 * count → ((s : ℕ) → length (paths s) ≡ count) →
     ((s : ℕ) → s < 16 → IsSurvivor s (paths s) soft (lane values s)) → (s t : ℕ) → s < 16 → t < 16 →

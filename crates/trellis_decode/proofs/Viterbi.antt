@@ -36,7 +36,6 @@ likelihood-more s c k hs hc = absurd (omega arith)
 -- ## Paths: Viterbi's argument about survivors, applied backward: the survivor of a state is the better of two candidates, each a first bit
 -- followed by the survivor of the next state. Bit 0 wins a tie, so the survivor is the first in lexicographic order.
 
--- the path metric of a list is the branch metric of its first bit plus the path metric of the rest
 pub metric_from_state-cons : (state x : ℕ) (u : List ℕ) (pair soft : List ℤ) → length pair ≡ 2 →
     metric_from_state state (x ∷ u) (pair ++ soft) ≡ branch_metric state x pair +ℤ metric_from_state (next_trellis_state state x) u
     soft
@@ -52,7 +51,6 @@ pub lex_not_after-refl : (u : List ℕ) → IsNotLexicographicallyAfter u u
 lex_not_after-refl [] = tt
 lex_not_after-refl (x ∷ u) = inr (refl, lex_not_after-refl u)
 
--- the order of two lists does not change if the same bit is put in front of both
 pub IsNoBetterPath-same : (state x : ℕ) (v u : List ℕ) (pair soft : List ℤ) → length pair ≡ 2 →
     IsNoBetterPath (next_trellis_state state x) soft v u → IsNoBetterPath state (pair ++ soft) (x ∷ v) (x ∷ u)
 IsNoBetterPath-same state x v u pair soft e (LessMetric h) =
@@ -61,7 +59,6 @@ IsNoBetterPath-same state x v u pair soft e (EqualMetricButLater h after) =
     EqualMetricButLater (omega (arith, ints, metric_from_state-cons state x v pair soft e, metric_from_state-cons state x u pair soft e))
     (inr (refl, after))
 
--- no list that begins with `bit` has a greater path metric than the candidate metric of that bit
 candidate-bound : (after pair soft : List ℤ) (state bit : ℕ) (u v : List ℕ) → length pair ≡ 2 →
     IsSurvivor (next_trellis_state state bit) u soft (get_or after (next_trellis_state state bit) (pos 0)) → HasTailBits v
     → length v ≡ length u →
@@ -106,7 +103,6 @@ module _ (after pair soft : List ℤ) (state : ℕ) (zeros ones : List ℕ) (e :
   one_wins h (suc zero ∷ v) ends count = IsNoBetterPath-same _ 1 v _ _ _ e (best1.no_other_path_is_better v ends.2 (omega arith))
   one_wins h v ends count = absurd (omega arith)
 
--- before the tail, the survivor of a state is the decided bit followed by the survivor of the next state
 pub IsSurvivor-bit : (after pair soft : List ℤ) (state bit : ℕ) (lists : ℕ → List ℕ) (value : ℤ) → length pair ≡ 2 →
     4 ≤ length (lists (next_trellis_state state 1))
     → length (lists (next_trellis_state state 1)) ≡ length (lists (next_trellis_state state 0)) →
@@ -144,7 +140,6 @@ IsSurvivor-more after pair soft state row rows value e free =
     let count1 = length-traceback rows (next_trellis_state state 1) in
     IsSurvivor-bit after pair soft state (row / 2 ^ state % 2) (traceback rows) value e (omega arith) (count1 ∙ sym count0)
 
--- in the tail, the survivor of a state is bit 0 followed by the survivor of the next state
 pub IsSurvivor-tail_bit : (after pair soft : List ℤ) (state : ℕ) (u : List ℕ) → length pair ≡ 2 → length u < 4 →
     IsSurvivor (next_trellis_state state 0) u soft (get_or after (next_trellis_state state 0) (pos 0)) →
     IsSurvivor state (0 ∷ u) (pair ++ soft) (candidate_metric after pair state 0)
@@ -158,7 +153,6 @@ IsSurvivor-tail_bit after pair soft state u e closing best = record {
       rw (ends.1 (omega arith)) (IsNoBetterPath-same _ 0 v u _ _ e (best.no_other_path_is_better v ends.2 (omega arith)))
   closing_wins v ends count = absurd (omega arith)
 
--- with no soft bits left, the empty path is the survivor of each state, and its metric is 0
 pub IsSurvivor-none : (state : ℕ) → IsSurvivor state [] [] (pos 0)
 unfolding metric_from_state
 IsSurvivor-none state = record { has_metric = refl; tail_bits = tt; no_other_path_is_better = none } where
@@ -198,12 +192,10 @@ pub IsSurvivor-same : (s : ℕ) {u u' : List ℕ} {soft soft' : List ℤ} {value
     value ≡ value' → IsSurvivor s u soft value → IsSurvivor s u' soft' value'
 IsSurvivor-same s eu es ev best = grind arith
 
--- a survivor over the `length soft - n` soft bits from n on is a survivor over all soft bits from n on
 pub IsSurvivor-to_end : (s n : ℕ) (u : List ℕ) (soft : List ℤ) (value : ℤ) →
     IsSurvivor s u (take (length soft - n) (drop n soft)) value → IsSurvivor s u (drop n soft) value
 IsSurvivor-to_end s n u soft value best = rw (← take_all (length soft - n) (drop n soft) (omega (arith, length-drop n soft))) best
 
--- traceback through decision rows of zeros reads zeros
 pub traceback-zeros : (rows : List ℕ) (state : ℕ) → All (λ row. row ≡ 0) rows →
     traceback rows state ≡ replicate (length rows) 0
 traceback-zeros [] state zeros = refl
@@ -320,7 +312,6 @@ IsEncoderInput-to_binary n number long = record {
   last_four : All (λ bit. bit ≡ 0) (to_binary 4 (16 * number))
   last_four k d = each (λ k. get_or (to_binary 4 (16 * number)) k d ≡ 0) 4 (omega arith) k
 
--- `to_binary n` ignores the bits of a number from bit n on
 to_binary-high : (n r x : ℕ) → to_binary n (r + 2 ^ n * x) ≡ to_binary n r
 to_binary-high zero r x = refl
 to_binary-high (suc n) r x =
@@ -328,7 +319,6 @@ to_binary-high (suc n) r x =
     let half = add-mul-div_left r (2 * x) (pow_pos n) in
     ap (to_binary (suc n)) doubled ∙ ap₂ (λ bit rest. bit ∷ rest) (rw half (omega arith)) (to_binary-high n r _)
 
--- the bits of each bit list form a binary number
 as_binary : (v : List ℕ) → AllBits v → (number : ℕ) × (number < 2 ^ length v) × (to_binary (length v) number ≡ v)
 as_binary [] bits = (0, omega arith, refl)
 as_binary (x ∷ v) bits =
@@ -356,7 +346,6 @@ div-le a b power above le = elim (cases_lt (b / power) (a / power)) [
   | inr fine ↦ fine
 ]
 
--- binary numbers with equally many bits have the same order as numbers and as bit lists
 pub lex_before-to_binary : (n a b : ℕ) → a < b → a / 2 ^ n ≡ b / 2 ^ n →
     IsLexicographicallyBefore (to_binary n a) (to_binary n b)
 lex_before-to_binary zero a b less same = absurd (omega arith)
@@ -405,7 +394,6 @@ to_binary-information v h =
 
 -- ## Searching: The exhaustive search keeps the most likely encoder input so far, and the first of equally likely ones.
 
--- if the comparison of two values is true, the corresponding inequality holds
 pub less_by_test : (a b x y : ℤ) → a ≡ x → b ≡ y → int_lt a b ≡ true → x <ℤ y
 less_by_test a b x y ex ey test = grind arith
 
@@ -424,7 +412,6 @@ RanksBehind soft n m k = RanksAfter soft (nth_input n m) (nth_input n k)
 
 module _ (soft : List ℤ) (n chosen number : ℕ) (before : chosen < number) (within : 16 * number < 2 ^ n)
     (others : (m : ℕ) → m < number → m ≢ chosen → RanksBehind soft n m chosen) where
-  -- an encoder input with a greater path metric than the best so far becomes the best
   pub RanksBehind-new : nth_likelihood soft n chosen <ℤ nth_likelihood soft n number → (m : ℕ) → m < number + 1 → m ≢ number →
       RanksBehind
       soft n m number
@@ -435,7 +422,6 @@ module _ (soft : List ℤ) (n chosen number : ℕ) (before : chosen < number) (w
       behind (inl less) = inl (omega (arith, ints))
       behind (inr same) = inl (omega (arith, ints))
 
-  -- if the path metric of an encoder input is not greater, the best encoder input so far stays the best
   pub RanksBehind-old : nth_likelihood soft n number ≤ℤ nth_likelihood soft n chosen → (m : ℕ) → m < number + 1 → m ≢ chosen
       → RanksBehind soft n m chosen
   RanksBehind-old most m lt ne = elim (cases_lt m number) [
@@ -449,7 +435,6 @@ module _ (soft : List ℤ) (n chosen number : ℕ) (before : chosen < number) (w
         let chosen_within : 16 * chosen < 2 ^ n = omega arith in
         lex_before-to_binary n _ _ (omega arith) (div-eq_of_lt chosen_within ∙ sym (div-eq_of_lt within))
 
--- the best of all encoder inputs that the search tries is the most likely encoder input
 pub IsMostLikely-chosen : (soft : List ℤ) (n chosen lists : ℕ) → 5 ≤ n → length soft ≡ 2 * n → 16 * lists ≡ 2 ^ n →
     ((m : ℕ) → m < lists → m ≢ chosen → RanksBehind soft n m chosen) →
     IsMostLikely soft (nth_input n chosen)

@@ -21,13 +21,11 @@ pub struct EightDecisions {
     pub lanes: i8x8,
 }
 
-/// A vector of sixteen 16-bit numbers.
 #[derive(Clone, Copy)]
 pub struct SixteenLanes {
     pub lanes: i16x16,
 }
 
-/// Adds the branch metrics to the path metrics, lane by lane.
 pub fn add_branch_metrics(path_metrics: EightLanes, branch_metrics: EightLanes) -> EightLanes
     requires headroom16 { HaveHeadroom16 path_metrics.lanes }
     requires branch_metrics { AreBranchMetrics branch_metrics.lanes }
@@ -39,7 +37,6 @@ pub fn add_branch_metrics(path_metrics: EightLanes, branch_metrics: EightLanes) 
     }
 }
 
-/// Subtracts the branch metrics from the path metrics, lane by lane.
 pub fn subtract_branch_metrics(path_metrics: EightLanes, branch_metrics: EightLanes) -> EightLanes
     requires headroom16 { HaveHeadroom16 path_metrics.lanes }
     requires branch_metrics { AreBranchMetrics branch_metrics.lanes }
@@ -51,7 +48,6 @@ pub fn subtract_branch_metrics(path_metrics: EightLanes, branch_metrics: EightLa
     }
 }
 
-/// Returns the greater of the two numbers in each lane.
 pub fn lane_maxima(first: EightLanes, second: EightLanes) -> EightLanes
     requires first { AreInt16 first.lanes }
     requires second { AreInt16 second.lanes }
@@ -105,7 +101,6 @@ pub fn decisions_from_candidates(bit_0: EightLanes, bit_1: EightLanes) -> EightD
     }
 }
 
-/// The difference `minuend - subtrahend`, lane by lane.
 pub fn subtract_lanes(minuend: EightLanes, subtrahend: EightLanes) -> EightLanes
     requires first { AreInt16 minuend.lanes }
     requires second { AreInt16 subtrahend.lanes }
@@ -132,7 +127,6 @@ pub fn to_state_order(low_states: EightLanes, high_states: EightLanes) -> Sixtee
     }
 }
 
-/// The absolute value of each lane.
 pub fn absolute_values(values: SixteenLanes) -> SixteenLanes
     requires { AbsFit16Bits values.lanes }
     ensures each { (s : ℕ) → s < 16 → lane result.lanes s ≡

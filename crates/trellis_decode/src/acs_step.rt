@@ -18,7 +18,9 @@ use crate::acs_lanes::{
 };
 use std::simd::prelude::*;
 
-/// The path metrics of the sixteen states, each minus 31,000.
+/// The path metrics of the sixteen states, each minus 31,000: they lie between -1,024 and 58,368, so lowered they all fit 16 bits without
+/// rescaling. In bit-reversed order the next states after bit 0 and after bit 1 are whole vectors; in natural order the compiler makes
+/// blends.
 #[derive(Clone, Copy)]
 pub struct PathMetrics {
     /// The path metrics of the even states, in the bit-reversed order of their upper three bits.
@@ -43,7 +45,6 @@ impl PathMetrics {
         }
     }
 
-    /// The path metric of state 0.
     pub fn metric_of_state_0(self) -> i32
         requires { AreInt16 self.even_states.lanes }
         ensures { result ≡ lane (path_metric self) 0 }

@@ -12,8 +12,7 @@ use crate::branch_metrics::four_branch_metrics;
 use crate::survivors::Survivors;
 
 /// Writes a survivor map for each group of four bits, from the last group to the first, and returns the path metrics before the first bit.
-///
-/// The last four bits are the tail, all 0.
+/// One map for four bits lets traceback take 57 table lookups for a block instead of 228. The last four bits are the tail, all 0.
 pub fn fill_survivors(soft: &[i8], survivors: &mut [[u8; 16]]) -> PathMetrics
     requires count { length soft.now ≡ 8 * length survivors.old }
     requires at_least { 1 ≤ length survivors.old }

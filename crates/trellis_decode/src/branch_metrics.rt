@@ -43,7 +43,6 @@ pub fn four_branch_metrics(soft: &[i8]) -> [EightLanes; 4]
     ]
 }
 
-/// Widens eight soft bits to 16-bit numbers.
 fn widen_to_i16(soft: &[i8]) -> i16x8
     requires count { length soft.now ≡ 8 }
     requires octets { AreSignedOctets soft.now }

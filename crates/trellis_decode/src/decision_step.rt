@@ -23,12 +23,14 @@ pub struct DecisionStep {
     pub values: PathMetrics,
     /// Bit `s` is the decision in state `s`: the first bit of its survivor.
     pub decision_bits: u16,
-    /// The cost of each decision: how much path metric the other decision would lose in that state.
+    /// The cost of each decision: how much path metric the other decision would lose in that state. It fits 16 bits: any two states merge
+    /// after four equal bits, so two path metrics differ by at most 2,048.
     pub losses: SixteenLanes,
 }
 
 impl DecisionStep {
-    /// Computes the step over one bit: `after` holds the path metrics after the bit, and `branch_metrics` its branch metrics.
+    /// Computes the step over one bit: `after` holds the path metrics after the bit, and `branch_metrics` its branch metrics. One
+    /// difference of candidate metrics gives both the decision, by its sign, and the cost, by its absolute value.
     pub fn new(after: PathMetrics, branch_metrics: EightLanes) -> DecisionStep
         requires even { HaveHeadroom16 after.even_states.lanes }
         requires odd { HaveHeadroom16 after.odd_states.lanes }

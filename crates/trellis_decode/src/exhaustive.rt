@@ -9,7 +9,7 @@ ghost use Rattle.trellis_decode.specs.Words.{to_binary};
 use conv_code::encode;
 
 /// Finds the most likely encoder input by trying all of them in lexicographic order. Returns the same results as `decode`, but is slow and
-/// therefore limited to 20 bits.
+/// therefore limited to 20 bits. It is the definition as a program, for use as a reference.
 pub fn search(soft: &[i8], u: &mut [u8]) -> i32
     requires count { length soft.now ≡ 2 * length u.old }
     requires at_least { 5 ≤ length u.old }

@@ -25,7 +25,8 @@ use crate::survivors::trace_back_survivors;
 use conv_code::ENCODER_INPUT_BITS;
 use std::simd::prelude::*;
 
-/// One number for each state, in the lane that the state has in a survivor map.
+/// One number for each state, in the lane that the state has in a survivor map. The metrics of hard bits are multiples of 254, so all
+/// sixteen fit one vector of 8-bit lanes.
 #[derive(Clone, Copy)]
 pub struct StateMetrics {
     pub lanes: i8x16,
@@ -52,7 +53,8 @@ const SECOND_NEGATIVE_BRANCH_METRICS: [i8; 16] = [
 
 const BOTH_NEGATIVE_BRANCH_METRICS: [i8; 16] = [-1, 1, -1, 1, 0, 0, 0, 0, 1, -1, 1, -1, 0, 0, 0, 0];
 
-/// The branch metrics of the first of two information bits, for each combination of the signs of their four soft bits.
+/// The branch metrics of the first of two information bits, for each combination of the signs of their four soft bits. The signs of four
+/// soft bits select the branch metrics of two positions at once.
 static FIRST_BIT_BRANCH_METRICS: [[i8; 16]; 16] = [
     BOTH_POSITIVE_BRANCH_METRICS,
     FIRST_NEGATIVE_BRANCH_METRICS,
@@ -270,7 +272,6 @@ fn bit_1_candidates(metrics_after: StateMetrics, branch_metrics: StateMetrics) -
     }
 }
 
-/// The greater of the two candidate metrics of each state.
 #[inline]
 fn larger_lanes(zero: StateMetrics, one: StateMetrics) -> StateMetrics
     requires zero { AreInt8 zero.lanes }
@@ -285,7 +286,8 @@ fn larger_lanes(zero: StateMetrics, one: StateMetrics) -> StateMetrics
 }
 
 /// The differences of the lanes. The sign of what a candidate metric of bit 0 lacks to the greater one tells which bit is decided, and the
-/// compiler selects lanes by signs in fewer instructions than by a comparison.
+/// compiler selects lanes by signs in fewer instructions than by a comparison. This difference fits 8 bits, because any two states merge
+/// after four equal bits.
 #[inline]
 fn subtract_hard_lanes(first: StateMetrics, second: StateMetrics) -> StateMetrics
     requires first { AreInt8 first.lanes }

@@ -45,7 +45,9 @@ pub fn decode(soft: &[i8], u: &mut [u8]) -> i32
     decode_soft(soft, u)
 }
 
-/// Decodes as `decode` does, but without the faster decoder for hard bits.
+/// Decodes as `decode` does, but without the faster decoder for hard bits. The pass over the soft bits runs backward, so that traceback
+/// runs forward and, with bit 0 on a tie, gives the first list in lexicographic order. A list whose length is no multiple of four, such as
+/// 18 or 39 bits, begins with one to three bits outside the groups of four.
 fn decode_soft(soft: &[i8], u: &mut [u8]) -> i32
     requires count { length soft.now ≡ 2 * length u.old }
     requires at_least { 5 ≤ length u.old }

@@ -64,7 +64,6 @@ module _ (CrcHolds : List ℕ → Type 0) (s : List ℤ) (most : ℕ) where
       fails_earlier h.earlier_words g.earlier_words u h.ranked (beginning_is_ranked s g.earlier_words (u' ∷ []) g.ranked) (omega arith)
       g.crcs_fail h.crc_holds
 
-  -- the first word whose CRC holds is unique, and so is its rank
   one_first : (r r' : ℕ) (u u' : List ℕ) → IsFirstCrcMatch CrcHolds s most r u → IsFirstCrcMatch CrcHolds s most r' u' →
       (r ≡ r') × (u ≡ u')
   one_first r r' u u' h g = elim (cases_lt (length h.earlier_words) (length g.earlier_words)) [
@@ -98,7 +97,6 @@ module _ (CrcHolds : List ℕ → Type 0) (s : List ℤ) (most : ℕ) where
     | inr all ↦ All-contains (λ v. ¬ CrcHolds v) none.tried_words u none.crcs_fail (all u (candidate r u h)) h.crc_holds
   ]
 
-  -- the word taken, its rank and the accepted value are unique
   taken_once : {X : Type 0} (data_of : List ℕ → X) (r r' : ℕ) (u u' : List ℕ) (a a' : Option X) →
       IsListDecoderChoice CrcHolds data_of s most r u a →
       IsListDecoderChoice CrcHolds data_of s most r' u' a' → (r ≡ r') × (u ≡ u') × (a ≡ a')
@@ -109,13 +107,11 @@ module _ (CrcHolds : List ℕ → Type 0) (s : List ℤ) (most : ℕ) where
       let same = one_first r r' u u' h.0 g.0 in
       (same.0, same.1, ap Some (h.1 ∙ ap data_of same.1 ∙ sym g.1))
 
-  -- nothing is accepted if and only if the CRC of no tried word holds
   pub taken_lost : {X : Type 0} (data_of : List ℕ → X) (r : ℕ) (u : List ℕ) (a : Option X) →
       IsListDecoderChoice CrcHolds data_of s most r u a → (IsNone a ↔ NoCrcHolds CrcHolds s most)
   taken_lost data_of r u None h = (λ _. h.0, λ _. refl)
   taken_lost data_of r u (Some x) h = (λ e. absurd (never (sym e)), λ none. absurd (not_both r u h.0 none))
 
-  -- if the CRC of the most likely word holds, this word is the first with that property, at rank 1
   most_likely_holds : (u : List ℕ) → 1 ≤ most → IsMostLikely s u → CrcHolds u → IsFirstCrcMatch CrcHolds s most 1 u
   most_likely_holds u some best holds = record {
     earlier_words = [];
@@ -128,7 +124,6 @@ module _ (CrcHolds : List ℕ → Type 0) (s : List ℤ) (most : ℕ) where
 
   -- ---- lemmas about the word that the list decoder takes
 
-  -- the first word whose CRC holds is the most likely of all words whose CRC holds
   pub taken_best : {X : Type 0} (data_of : List ℕ → X) (r : ℕ) (u : List ℕ) (a : Option X) →
       IsListDecoderChoice CrcHolds data_of s most r u a → IsSome a → (v : List ℕ) → IsCandidate s v → CrcHolds v → v ≢ u →
       RanksAfter s v u
@@ -153,21 +148,18 @@ module _ (CrcHolds : List ℕ → Type 0) (s : List ℤ) (most : ℕ) where
   taken_of_one data_of r u None e h = h.2
   taken_of_one data_of r u (Some x) e h = omega (arith, h.0.rank_follows_earlier_words, h.0.rank_limit)
 
-  -- if a value is accepted for the most likely word, this word is taken at rank 1
   taken_at_once : {X : Type 0} (data_of : List ℕ → X) (u : List ℕ) (a : Option X) → 1 ≤ most → IsMostLikely s u →
       MatchOption a (¬ CrcHolds u) (λ x. CrcHolds u × (x ≡ data_of u)) → IsSome a →
       IsListDecoderChoice CrcHolds data_of s most 1 u a
   taken_at_once data_of u None some best h is = absurd (never is)
   taken_at_once data_of u (Some x) some best h is = (most_likely_holds u some best h.0, h.1)
 
-  -- the first word whose CRC holds is the word that the list decoder takes
   pub taken_found : {X : Type 0} (data_of : List ℕ → X) (r : ℕ) (soft : List ℤ) (u v : List ℕ) (a : Option X) → soft ≡ s →
       v ≡ u → IsFirstCrcMatch CrcHolds soft most r u → MatchOption a (¬ CrcHolds u) (λ x. CrcHolds u × (x ≡ data_of u)) →
       IsListDecoderChoice CrcHolds data_of s most r v a
   taken_found data_of r soft u v None is same first h = absurd (h first.crc_holds)
   taken_found data_of r soft u v (Some x) is same first h = (rw (same, ← is) first, h.1 ∙ ap data_of (sym same))
 
-  -- if the CRC of no tried word holds, the most likely word is taken at rank 1 and nothing is accepted
   pub taken_none : {X : Type 0} (data_of : List ℕ → X) (soft : List ℤ) (u : List ℕ) (a : Option X) → soft ≡ s →
       NoCrcHolds CrcHolds soft most → IsMostLikely s u → ¬ IsSome a → IsListDecoderChoice CrcHolds data_of s most 1 u a
   taken_none data_of soft u None is none best lacks = (rw (← is) none, best, refl)
@@ -208,14 +200,12 @@ module _ (bursts : List (List ℤ)) (most : ℕ) where
       same.0 same.1 (h.metric ∙ ap₂ (λ s v. likelihood s (encoding v)) soft same.1 ∙ sym g.metric) tsc
       (h.wrong_training ∙ ap (wrong_training_bits bursts) tsc ∙ sym g.wrong_training) same.2
 
-  -- every other word whose CRC holds ranks after the accepted word
   pub block_best : (r : ListDecodedBlock) → IsListDecodedBlock bursts most r → IsSome r.report.accepted →
       (soft : List ℤ) (v : List ℕ) → IsInterleaved soft (map coded_soft_bits bursts) → IsCandidate soft v → BlockCrcHolds v →
       v ≢ r.report.u → RanksAfter soft v r.report.u
   block_best r h some soft v deinterleaved =
       taken_best BlockCrcHolds _ most octets_if_crc_holds r.rank _ r.report.accepted (taken_at r h _ deinterleaved) some v
 
-  -- nothing is accepted if and only if the CRC of no tried word holds
   pub block_none : (r : ListDecodedBlock) → IsListDecodedBlock bursts most r → (soft : List ℤ) →
       IsInterleaved soft (map coded_soft_bits bursts) → (IsNone r.report.accepted ↔ NoCrcHolds BlockCrcHolds soft most)
   block_none r h soft deinterleaved =
@@ -225,7 +215,6 @@ module _ (bursts : List (List ℤ)) (most : ℕ) where
   block_information r h =
       taken_information BlockCrcHolds h.soft most octets_if_crc_holds r.rank _ r.report.accepted h.choice
 
-  -- if the CRC of the most likely word holds, that word is taken
   pub block_at_once : (r : Received) → 1 ≤ most → IsReceivedBlock bursts r → IsSome r.accepted →
       IsListDecodedBlock bursts most (record { report = r; rank = 1 })
   block_at_once r some h accepted = record {

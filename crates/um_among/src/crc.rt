@@ -29,7 +29,6 @@ impl ChannelCrc {
     }
 }
 
-/// The first `N` bits of a word.
 fn first_bits<const N: usize>(decoded: &[u8]) -> [u8; N]
     requires size { N ≤ length decoded.now }
     requires bits { AllBits decoded.now }

@@ -63,7 +63,6 @@ pub text-append : (ls ms : List (List ℕ)) (rest : List ℕ) →
 text-append [] ms rest = refl
 text-append (l ∷ ls) ms rest = simp (append_assoc, text-append ls ms rest)
 
--- there is only one way to divide octets into whole lines and a rest without a line feed
 pub one_division : (ls ls' : List (List ℕ)) (u v : List ℕ) → All IsLine ls → All IsLine ls' → IsLine u → IsLine v →
     text_of_lines ls ++ u ≡ text_of_lines ls' ++ v → (ls ≡ ls') × (u ≡ v)
 one_division [] [] u v h h' hu hv e = (refl, e)
@@ -75,7 +74,6 @@ one_division (l ∷ ls) (l' ∷ ls') u v h h' hu hv e =
     let (lines, last) = one_division ls ls' u v (All-tail IsLine l ls h) (All-tail IsLine l' ls' h') hu hv rest in
     (cc (first, lines), last)
 
--- if one more line is added after some lines, the text of all of them is the text of these lines, then the line and a line feed
 pub text-push : (ls : List (List ℕ)) (l u : List ℕ) → text_of_lines (ls ++ l ∷ []) ++ u ≡ text_of_lines ls ++ (l ++ 10 ∷ u)
 text-push ls l u = rw (text-append, append_assoc)
 
@@ -86,19 +84,16 @@ length-text-push ls l = omega (arith, length-append {A = ℕ}, ap length (text-p
 -- ## DivisionLemmas: Each list of octets is divided into lines in exactly one way: `lines_of_octets` gives a division, by induction over
 -- the octets, and it is the only one.
 
--- adding an octet other than a line feed to the front of octets adds it to the front of their first line
 lines_of_octets-plain : (octet : ℕ) (octets : List ℕ) → IsNotLineFeed octet →
     lines_of_octets (octet ∷ octets) ≡ push_onto_first_line octet (lines_of_octets octets)
 lines_of_octets-plain octet octets plain = rw (ne_eqb octet 10 plain)
 
--- if octets begin with a line and its line feed, their lines are this line and then the lines of the rest
 lines_of_octets-line : (line rest : List ℕ) → IsLine line → lines_of_octets (line ++ 10 ∷ rest) ≡ line ∷ lines_of_octets rest
 lines_of_octets-line [] rest plain = refl
 lines_of_octets-line (octet ∷ line) rest plain =
     lines_of_octets-plain octet (line ++ 10 ∷ rest) (All-head IsNotLineFeed octet line plain)
     ∙ ap (push_onto_first_line octet) (lines_of_octets-line line rest (All-tail IsNotLineFeed octet line plain))
 
--- if octets begin with some lines, each with its line feed, their lines are these lines and then the lines of the rest
 lines_of_octets-text : (lines : List (List ℕ)) (rest : List ℕ) → All IsLine lines →
     lines_of_octets (text_of_lines lines ++ rest) ≡ lines ++ lines_of_octets rest
 lines_of_octets-text [] rest plain = refl
@@ -107,7 +102,6 @@ lines_of_octets-text (line ∷ lines) rest plain =
     (All-head IsLine line lines plain)
     ∙ ap (λ l. line ∷ l) (lines_of_octets-text lines rest (All-tail IsLine line lines plain))
 
--- octets without a line feed are one line, unless there are no octets
 lines_of_octets-last : (line : List ℕ) → IsLine line → 0 < length line → lines_of_octets line ≡ line ∷ []
 lines_of_octets-last [] plain some = absurd (omega arith)
 lines_of_octets-last (octet ∷ []) plain some = lines_of_octets-plain octet [] (All-head IsNotLineFeed octet [] plain)
@@ -116,14 +110,12 @@ lines_of_octets-last (octet ∷ next ∷ line) plain some =
     ∙ ap (push_onto_first_line octet) (lines_of_octets-last (next ∷ line) (All-tail IsNotLineFeed octet (next ∷ line) plain)
     (omega arith))
 
--- if no line contains a line feed, neither do the lines before the last nor the last line
 pub All-front : (lines front : List (List ℕ)) (last : List ℕ) → All IsLine lines → lines ≡ front ++ last ∷ [] →
     All IsLine front × IsLine last
 All-front lines front last plain are =
     let all = rw are at plain in
     (All-before IsLine front (last ∷ []) all, All-head IsLine last [] (All-behind IsLine front (last ∷ []) all))
 
--- if octets are divided into lines, these are the lines that `lines_of_octets` gives
 pub lines_of_octets-only : (octets : List ℕ) (lines : List (List ℕ)) → IsDividedIntoLines octets lines →
     lines ≡ lines_of_octets octets
 lines_of_octets-only octets lines divided =
@@ -137,7 +129,6 @@ lines_of_octets-only octets lines divided =
           ∙ ap (λ l. cut.front ++ l) (lines_of_octets-last cut.last plain.1 cut.nonempty) ∙ sym cut.lines_split)
     ]
 
--- adding a line and its line feed to the front of octets adds this line to the front of their lines
 IsDividedIntoLines-line : (line octets : List ℕ) (lines : List (List ℕ)) → IsLine line → IsDividedIntoLines octets lines
     → IsDividedIntoLines (line ++ 10 ∷ octets) (line ∷ lines)
 IsDividedIntoLines-line line octets lines plain divided =
@@ -160,7 +151,6 @@ abbrev pub Division : List ℕ → Type 0
 Division octets = (lines : List (List ℕ)) × (last : List ℕ) × All IsLine lines × IsLine last
     × (octets ≡ text_of_lines lines ++ last)
 
--- if octets can be divided into lines, they still can after an octet other than a line feed is added to their front
 Division-plain : (octet : ℕ) (octets : List ℕ) → IsNotLineFeed octet → Division octets → Division (octet ∷ octets)
 Division-plain octet octets plain ([], last, h, p, e) = ([], octet ∷ last, h, All-cons IsNotLineFeed octet last plain p, cc e)
 Division-plain octet octets plain (l ∷ ls, last, h, p, e) = (
@@ -191,7 +181,6 @@ IsDividedIntoLines-from octets (lines, o ∷ last, h, p, e) = (
   },
 )
 
--- `lines_of_octets` gives a division of the octets into lines
 pub IsDividedIntoLines-lines_of_octets : (octets : List ℕ) → IsDividedIntoLines octets (lines_of_octets octets)
 IsDividedIntoLines-lines_of_octets octets =
     let (lines, d) = IsDividedIntoLines-from octets (divide octets) in
@@ -203,7 +192,6 @@ lines_of_octets-example = refl
 
 -- ## KnownOctets: The octets that remain in a source, or that a sink has taken, after several calls.
 
--- a sink that takes the first w octets of a piece and then n octets of the rest has taken the first w + n octets
 pub Appends-front : (a b c : Option (List ℕ)) (w n : ℕ) (piece : List ℕ) → Appends a b (take w piece) →
     Appends b c (take n (take (length piece - w) (drop w piece))) → Appends a c (take (w + n) piece)
 Appends-front a b c w n piece first then =
@@ -232,15 +220,12 @@ module _ {S : Type 0} (IsCall : S → Option ℕ → S → Type 0) (first : S) w
 
 -- ## ReadingLemmas: Lemmas about the octets that a line reader buffers, and how a read from the source changes them.
 
--- the number of the first m octets and the number of the octets after them add up to the number of all octets
 pub length-cut : (octets : List ℕ) (m : ℕ) → length (take m octets) + length (drop m octets) ≡ length octets
 length-cut octets m = omega (arith, length-append (take m octets) (drop m octets), ap length (take-append-drop m octets))
 
--- a buffer holds at most the longest allowed line and its line feed
 pub length-octets_of : (b : Buffer) → length (octets_of b) ≤ buffer_limit
 length-octets_of b = omega (arith, length-take (b.end - b.start) (drop b.start b.octets.items))
 
--- a buffer and counts within their limits form a valid reader
 pub IsValidReader-from : (b : Buffer) (answered number : ℕ) (ended is_over : Bool) → answered ≤ input_limit → number ≤ answered
     → IsValidReader (reader_holding (octets_of b) answered number ended is_over)
 IsValidReader-from b answered number ended is_over limit numbered =
@@ -264,7 +249,6 @@ pub record IsFinding (r s : ReaderState) (left left' : Option (List ℕ)) (came 
 abbrev pub reads_left : ReaderState → ℕ
 reads_left r = (line_limit + 1 - (length r.held + length r.excess)) + cond r.ended 0 1
 
--- a successful read of octets that the reader needs lowers `reads_left`, the bound on the number of further reads
 pub reads_left-read : (r s : ReaderState) (left left' : Option (List ℕ)) (came : List ℕ) → NeedsMoreOctets r →
     HasReadOctets r s left left' came
     → (s.ended ≡ false → 0 < length came) → IsValidReader s → reads_left s < reads_left r
@@ -279,7 +263,6 @@ reads_left-read r s left left' came more has some valid =
 
 -- ## FeedLemmas: Lemmas about line feeds in parts of a list.
 
--- if a search finds no line feed at any index below n, the first n octets contain no line feed
 IsLine-front : (octets : List ℕ) (n : ℕ) → n ≤ length octets → Nowhere (Passes (is_byte 10) octets) 0 n →
     IsLine (take n octets)
 IsLine-front octets n fits none =
@@ -289,7 +272,6 @@ IsLine-front octets n fits none =
     let low : k < n = omega arith in
     none k (omega arith) low (eq-eqb (slice_index octets k) 10 (sym (get_or-take n octets k 0 low) ∙ is)))
 
--- a search returns the index of the first line feed, or `None` if the octets contain none
 pub MatchOption-feed : (octets : List ℕ) (r : Option ℕ) → IsFirstByte (is_byte 10) octets r
     → MatchOption r (IsLine octets) (IsFirstLineFeed octets)
 MatchOption-feed octets None none = subst IsLine (take_all (length octets) octets (le_refl (length octets)))
@@ -301,7 +283,6 @@ MatchOption-feed octets (Some n) found =
       is_line_feed = eqb-true (slice_index octets n) 10 found.1;
     }
 
--- if octets without a line feed are put in front, the index of the first line feed grows by their number
 IsFirstLineFeed-behind : (front octets : List ℕ) (n : ℕ) → IsLine front → IsFirstLineFeed octets n
     → IsFirstLineFeed (front ++ octets) (length front + n)
 IsFirstLineFeed-behind front octets n plain first =
@@ -311,7 +292,6 @@ IsFirstLineFeed-behind front octets n plain first =
       is_line_feed = get_or-append-add front octets n 0 ∙ first.is_line_feed;
     }
 
--- if n counts the octets before the first line feed among 64, none of these n is a line feed, and if n < 64, a line feed follows them
 pub count-before : (octets : List ℕ) (n : ℕ) → 64 ≤ length octets → n ≡ prefix_len (λ x. not (eqb x 10)) (take 64 octets) →
     (n ≤ 64) × IsLine (take n octets) × (n < 64 → slice_index octets n ≡ 10)
 count-before octets n long counted =
@@ -341,7 +321,6 @@ count-before-bits octets bits long are some n is =
 pub slice_range-end : (octets : List ℕ) (from : ℕ) → slice_range octets from (length octets) ≡ drop from octets
 slice_range-end octets from = take_all (length octets - from) (drop from octets) (omega (arith, length-drop from octets))
 
--- if the octets before `from` contain no line feed, a search that begins at `from` gives the result for all the octets
 pub MatchOption-behind : (octets : List ℕ) (from : ℕ) (r : Option ℕ) → from ≤ length octets → IsLine (take from octets) →
     MatchOption r (IsLine (slice_range octets from (length octets))) (IsFirstLineFeed (slice_range octets from (length octets))) →
     MatchOption r (IsLine octets) (λ n. IsFirstLineFeed octets (from + n))
@@ -352,7 +331,6 @@ MatchOption-behind octets from (Some n) fits plain first =
     (IsFirstLineFeed-behind (take from octets) (drop from octets) n plain
     (subst (λ rest. IsFirstLineFeed rest n) (slice_range-end octets from) first))
 
--- two adjacent slices of a list, joined together, are one slice of this list
 slice_range-joined : (octets : List ℕ) (i j k : ℕ) → i ≤ j → j ≤ k
     → slice_range octets i j ++ slice_range octets j k ≡ slice_range octets i k
 slice_range-joined octets i j k first second =
@@ -360,20 +338,17 @@ slice_range-joined octets i j k first second =
     ap (λ l. take (j - i) (drop i octets) ++ take (k - j) l) (sym rest) ∙ sym (take-add (j - i) (k - j) (drop i octets))
     ∙ ap (λ n. take n (drop i octets)) (omega arith)
 
--- the first n elements of a slice are the slice of n elements that begins at the same index
 slice_range-front : (octets : List ℕ) (i k n : ℕ) → n ≤ k - i →
     take n (slice_range octets i k) ≡ slice_range octets i (i + n)
 slice_range-front octets i k n fits =
     take-take n (k - i) (drop i octets) fits ∙ ap (λ m. take m (drop i octets)) (omega arith)
 
--- a slice without its first n elements is the slice that begins n indices later
 pub slice_range-rest : (octets : List ℕ) (i k n : ℕ) → i + n ≤ k →
     drop n (slice_range octets i k) ≡ slice_range octets (i + n) k
 slice_range-rest octets i k n fits =
     ap (λ m. drop n (take m (drop i octets))) (omega arith) ∙ drop-take n (k - (i + n)) (drop i octets)
     ∙ ap (take (k - (i + n))) (drop-drop n i octets)
 
--- if two adjacent slices contain no line feed, the slice that they form contains none
 pub IsLine-join : (octets : List ℕ) (i j k : ℕ) → i ≤ j → j ≤ k → IsLine (slice_range octets i j) →
     IsLine (slice_range octets j k)
     → IsLine (slice_range octets i k)
@@ -381,8 +356,6 @@ IsLine-join octets i j k first second before behind =
     subst IsLine (slice_range-joined octets i j k first second) (All-append IsNotLineFeed (slice_range octets i j) (slice_range octets j k)
     before behind)
 
--- if the octets from i to j contain no line feed, and the first line feed from j on has index j + n, the octets from i to j + n contain
--- none
 pub IsLine-join_feed : (octets : List ℕ) (i j k n : ℕ) → i ≤ j → j ≤ k → k ≤ length octets →
     IsLine (slice_range octets i j)
     → IsFirstLineFeed (slice_range octets j k) n → IsLine (slice_range octets i (j + n))
@@ -391,7 +364,6 @@ IsLine-join_feed octets i j k n first second fits before found =
     IsLine-join octets i j (j + n) first (omega arith) before
     (subst IsLine (slice_range-front octets j k n (omega arith)) found.no_line_feed)
 
--- if the octets from i to j contain no line feed, the first line feed from j on is also the first line feed from i on
 pub IsFirstLineFeed-upto : (octets : List ℕ) (i j k n : ℕ) → i ≤ j → j ≤ k → k ≤ length octets →
     IsLine (slice_range octets i j)
     → IsFirstLineFeed (slice_range octets j k) n → IsFirstLineFeed (slice_range octets i k) (j + n - i)
@@ -401,7 +373,6 @@ IsFirstLineFeed-upto octets i j k n first second fits before found =
     let at : length (slice_range octets i j) + n ≡ j + n - i = omega arith in
     rw (slice_range-joined octets i j k first second, at) at joined
 
--- if the scanned octets contain no line feed, those that remain after the first n octets are dropped contain none either
 pub IsLine-skipped : (octets : List ℕ) (i j n : ℕ) → IsLine (slice_range octets i j) →
     IsLine (slice_range octets (i + n) (max j (i + n)))
 IsLine-skipped octets i j n plain =
@@ -414,28 +385,24 @@ IsLine-skipped octets i j n plain =
           rw (same, ← slice_range-rest octets i j n more) (All-drop IsNotLineFeed n (slice_range octets i j) plain)
     ]
 
--- if the first n octets of a list do not change, a slice of them does not change
 pub slice_range-kept : (old new : List ℕ) (i j n : ℕ) → j ≤ n → take n new ≡ take n old →
     slice_range new i j ≡ slice_range old i j
 slice_range-kept old new i j n within same =
     let front = sym (take-take j n new within) ∙ ap (take j) same ∙ take-take j n old within in
     between_is new i j ∙ ap (drop i) front ∙ sym (between_is old i j)
 
--- the octets buffered after a read are the octets buffered before, unchanged, followed by the new octets
 pub slice_range-came : (old new : List ℕ) (i j n : ℕ) → i ≤ j → take j new ≡ take j old
     → slice_range new i (j + n) ≡ slice_range old i j ++ slice_range new j (j + n)
 slice_range-came old new i j n ordered same =
     sym (slice_range-joined new i j (j + n) ordered (omega arith)) ∙ ap (λ l. l ++ slice_range new j (j + n))
     (slice_range-kept old new i j j (le_refl j) same)
 
--- if the index of the first line feed is at least m, the first m octets contain no line feed
 pub IsLine-before_feed : (octets : List ℕ) (m n : ℕ) → IsFirstLineFeed octets n → m ≤ n → IsLine (take m octets)
 IsLine-before_feed octets m n found low =
     subst IsLine (take-take m n octets low) (All-take IsNotLineFeed m (take n octets) found.no_line_feed)
 
 -- ## NextLemmas: Lemmas for the contract of `Lines::next`: the octets read and the result of the search determine the result of the call.
 
--- if a reader has not stopped, and `next` is the right result for the octets buffered and read, the call satisfies `IsNextLineCall`
 IsNextLineCall-from : {r s t : ReaderState} {left left' : Option (List ℕ)} {next : Next} {came : List ℕ} → r.is_over ≡ false →
     HasReadOctets r s left left' came → NeedsMoreOctets r ⊎ (came ≡ []) → IsValidReader s → t.ended ≡ s.ended →
     IsValidReader t →
@@ -457,11 +424,9 @@ IsNextLineCall-from {s = s} {came = came} going has needed held same valid gives
       );
     }
 
--- the state of a line reader after it has stopped
 abbrev pub stopped : ReaderState → ReaderState
 stopped s = record s { is_over = true }
 
--- a reader that finds no line stops, and its result gives the reason
 pub IsNextLineCall-stopped : {r s : ReaderState} {left left' : Option (List ℕ)} {next : Next} {result : Result LineSearchResult Error} →
     r.is_over ≡ false → IsValidReader s → (found : IsSearchResult r s left left' result) → IsLine s.held →
     (ReturnsNoLine r (stopped s) (r.held ++ r.excess ++ found.octets_read) true →
@@ -478,14 +443,12 @@ IsNextLineCall-stopped {s = s} going valid found plain gives =
       stops = refl;
     }))
 
--- if a reader calls its source only when it needs more octets, a call whose result the buffered octets determine does not change the source
 pub source_unchanged : {X : Type 0} (r : ReaderState) (old new : X) → r.is_over ≡ false → NeedsMoreOctets r ⊎ (new ≡ old) →
     IsResultReady r → new ≡ old
 source_unchanged r old new going (inl more) (inl is_over) = cc (going, is_over)
 source_unchanged r old new going (inl more) (inr none) = absurd (none more)
 source_unchanged r old new going (inr same) ready = same
 
--- after the reader returns a line, the counts of octets and lines are still within their limits
 pub counts-after : (octets : List ℕ) (answered number n whole : ℕ) (ended is_over : Bool) → answered ≤ input_limit →
     number ≤ answered
     → IsFoundInBuffer (reader_holding octets answered number ended is_over) (WholeLine n whole)
@@ -494,14 +457,12 @@ counts-after octets answered number n whole ended is_over limit numbered looks =
     let front = length-take (input_limit - answered) octets in
     elim looks [ inl first ↦ (omega arith, omega arith) | inr last ↦ (omega arith, omega arith) ]
 
--- octets with a line feed at index n are the first n octets, the line feed, and the rest
 line_and_rest : (octets : List ℕ) (n : ℕ) → n < length octets → slice_index octets n ≡ 10
     → octets ≡ take n octets ++ (10 ∷ []) ++ drop (n + 1) octets
 line_and_rest octets n within feed =
     let rest : drop n octets ≡ 10 ∷ drop (n + 1) octets = drop_more octets n 0 within ∙ ap (λ x. x ∷ drop (n + 1) octets) feed in
     rw (append_assoc, ← rest) (sym (take-append-drop n octets))
 
--- the line that the reader returns is the beginning of the octets that it removes from the buffer
 lent_line : (octets held : List ℕ) (from n whole : ℕ) → n ≤ whole → slice_range octets from (from + whole) ≡ take whole held
     → slice_range octets from (from + n) ≡ take n held
 lent_line octets held from n whole fits skipped =
@@ -544,7 +505,6 @@ module _ (r : ReaderState) (b after : Buffer) (answered number whole : ℕ) (end
         let front = length-take (input_limit - answered) (octets_of b) in
         IsValidReader-from after (answered + whole) (number + 1) ended is_over (omega arith) (omega arith)
 
-    -- if the returned line ends with a line feed, the call satisfies `IsNextLineCall`
     IsNextLineCall-line : (n : ℕ) (line : Bor (List ℕ)) → line.now ≡ take n (octets_of b) → IsFirstLineFeed held_before.held n →
         whole ≡ n + 1 → IsNextLineCall r left left' (Line line) held_after
     IsNextLineCall-line n line shown first size =
@@ -564,7 +524,6 @@ module _ (r : ReaderState) (b after : Buffer) (answered number whole : ℕ) (end
         (IsValidReader-after (omega arith) (omega arith))
         (inl (rw shown answers))
 
-    -- if the returned line is the last one, which has no line feed, the call satisfies `IsNextLineCall`
     IsNextLineCall-last : (n : ℕ) (line : Bor (List ℕ)) → line.now ≡ take n (octets_of b) → IsLine held_before.held
         → IsFoundWithoutLineFeed (length held_before.held) (length held_before.excess) ended (WholeLine n whole)
         → IsNextLineCall r left left' (Line line) held_after
@@ -588,7 +547,6 @@ module _ (r : ReaderState) (b after : Buffer) (answered number whole : ℕ) (end
         (IsValidReader-after (omega (arith, shows.1, shows.2)) (omega (arith, shows.1)))
         (inr (rw shown answers, nothing, shows.5))
 
-    -- a call that returns the line found by the search satisfies `IsNextLineCall`; the line is a borrowed slice of the buffer
     pub IsNextLineCall-found : (from n : ℕ) (line : Bor (List ℕ)) →
         slice_range after.octets.items from (from + whole) ≡ take whole (octets_of b)
         → line.now ≡ slice_range after.octets.items from (from + n)
@@ -605,7 +563,6 @@ module _ (r : ReaderState) (b after : Buffer) (answered number whole : ℕ) (end
 -- ## AnswersLemmas: The lines that a line reader returns before it ends are the lines of its source. The proof is by induction over the
 -- calls; each call takes one line off the front of the octets.
 
--- a nonempty line without a line feed is the only line of its octets
 IsDividedIntoLines-last : (line : List ℕ) → IsLine line → 0 < length line → IsDividedIntoLines line (line ∷ [])
 IsDividedIntoLines-last line plain some =
     record {
@@ -613,7 +570,6 @@ IsDividedIntoLines-last line plain some =
       octets_split = inr record { front = []; last = line; lines_split = refl; octets_split = refl; nonempty = some };
     }
 
--- once the source has ended and the buffer is empty, the reader returns no further line
 no_more : (r r' : ReaderState) (left left' : Option (List ℕ)) (lines : List (List ℕ)) (came : List ℕ) → r.held ++ r.excess
     ≡ [] →
     r.ended ≡ true
@@ -626,7 +582,6 @@ no_more r r' left left' (line ∷ lines) came none ended (first, rest, mid, betw
       | inr last ↦ absurd (omega (arith, ap length last.0.octets, last.0.nonempty, length-append {A = ℕ}))
     ]
 
--- if the buffer is empty at the end, the returned lines are a division of the octets buffered at the start and those read
 IsDividedIntoLines-answers : (lines : List (List ℕ)) (r r' : ReaderState) (left left' : Option (List ℕ)) (came : List ℕ)
     → CallsReturnLines r left lines came r' left' → r'.held ++ r'.excess ≡ [] →
     IsDividedIntoLines (r.held ++ r.excess ++ came) lines
@@ -651,7 +606,6 @@ IsDividedIntoLines-answers (line ∷ lines) r r' left left' came (first, rest, m
           rw (octets, ends.0) (IsDividedIntoLines-last shown last.0.no_line_feed some)
     ])
 
--- if the buffered octets, followed by the octets read, are an empty list, both lists are empty
 nothing_came : (held came : List ℕ) → held ++ came ≡ [] → (held ≡ []) × (came ≡ [])
 nothing_came [] came none = (refl, none)
 nothing_came (o ∷ held) came none = cc none
@@ -678,7 +632,6 @@ IsLeft-step r r' octets (Some rest) next came known step =
       ];
     }
 
--- after calls that read the octets `came`, the source satisfies `IsLeft`
 IsLeft-answers : (lines : List (List ℕ)) (r r' : ReaderState) (octets came : List ℕ) (left' : Option (List ℕ))
     → (r.ended ≡ true → octets ≡ []) → CallsReturnLines r (Some octets) lines came r' left' → IsLeft octets came left' r'.ended
 IsLeft-answers [] r r' octets came left' known (none, same, left_is) =
@@ -699,7 +652,6 @@ record AreWhole (r r' : ReaderState) (lines : List (List ℕ)) (came : List ℕ)
   answered : r'.octet_count ≡ r.octet_count + length (text_of_lines lines)
   no_line_feed : All IsLine lines
 
--- after a reader returns some lines, either `AreWhole` holds, or the source has ended and the buffer is empty
 AreWhole-answers : (lines : List (List ℕ)) (r r' : ReaderState) (left left' : Option (List ℕ)) (came : List ℕ)
     → CallsReturnLines r left lines came r' left'
     → AreWhole r r' lines came ⊎ ((r'.held ++ r'.excess ≡ []) × (r'.ended ≡ true))
@@ -735,7 +687,6 @@ AreWhole-answers (line ∷ lines) r r' left left' came (first, rest, mid, betwee
     after_end (line ∷ lines) mid r' between left' rest none ended same later = absurd (cc same)
 
 module _ (octets : List ℕ) (lines : List (List ℕ)) (came last : List ℕ) (r r' : ReaderState) (left left' : Option (List ℕ)) where
-  -- the lines that a reader returns until it reaches the end are the lines of all octets of the source
   lines_of_octets-answers : CallsReturnLines new_reader (Some octets) lines came r left → IsReaderStep r r' left left' End last →
       lines ≡ lines_of_octets octets
   lines_of_octets-answers answers step =
@@ -746,8 +697,6 @@ module _ (octets : List ℕ) (lines : List (List ℕ)) (came last : List ℕ) (r
       let all : octets ≡ came = had.octets_split ∙ rw (nothing, append-nil) in
       lines_of_octets-only octets lines (rw all (IsDividedIntoLines-answers _ _ _ _ _ _ answers held))
 
-  -- if a reader stops while it still buffers octets, or before the end of its source, the octets read so far are the complete lines
-  -- followed by the buffered octets
   DividesReadOctets-answers : {next : Next} → CallsReturnLines new_reader (Some octets) lines came r left →
       IsReaderStep r r' left left' next last → IsValidReader r' → ReturnsNoLine r r' (r.held ++ r.excess ++ last) true →
       (r.held ++ r.excess ++ last ≡ [] → r'.ended ≡ true → ⊥) → DividesReadOctets octets (came ++ last) lines r'.held r'.excess
@@ -772,7 +721,6 @@ module _ (octets : List ℕ) (lines : List (List ℕ)) (came last : List ℕ) (r
             absurd (open_ (rw (nil, append-nil) none) ended')
       ]
 
-  -- `ReaderStopsWith` holds for every result with which a reader can stop
   pub ends_with : (next : Next) → CallsReturnLines new_reader (Some octets) lines came r left →
       IsReaderStep r r' left left' next last → IsValidReader r' → ReaderStopsWith next octets (came ++ last) lines
   ends_with (Line line) answers step valid = tt

@@ -36,7 +36,6 @@ enum LineSearchResult {
     Line { length: usize, with_feed: usize },
     /// The end of the input: no octets remain.
     NoOctets,
-    /// A line that exceeds the line limit.
     LineTooLong,
     /// No line feed within the input limit, but octets past that limit.
     PastInputLimit,
@@ -103,7 +102,6 @@ impl Lines {
         self.is_over || self.find_in_held_octets().is_some()
     }
 
-    /// The number of buffered octets within the input limit.
     fn octets_within_limit(&self) -> usize
         ensures within { result ≡ length self.now.held }
         ensures space { result ≤ buffer_limit }
@@ -159,6 +157,7 @@ impl Lines {
     }
 
     /// Reads from the source once. A read that returns no octets marks the end of the input.
+    // Cold and not inlined: it runs once a reading, and is kept out of the way of each line.
     #[cold]
     #[inline(never)]
     fn read<S: Source>(&mut self, source: &mut S) -> Result<(), Failed>

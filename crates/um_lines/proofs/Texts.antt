@@ -28,19 +28,16 @@ use lib.Lanes.{Each1, mask_l, sel_l, top, zip2}
 
 -- ## WordLists: Lemmas about the first space in a text, and about the words that the text is split into.
 
--- if no octet with an index below `end` is a space, the first `end` octets contain no space
 no_space : (text : List ℕ) (end : ℕ) → end ≤ length text → ((k : ℕ) → k < end → eqb (get_or text k 0) 32 ≡ false)
     → All (λ octet. eqb octet 32 ≡ false) (take end text)
 no_space text end within passed =
     All-from_get_or (λ octet. eqb octet 32 ≡ false) _ 0
     (λ k lt. let below : k < end = omega (arith, length-take-le end text within) in rw get_or-take (passed k below))
 
--- a text without a space is one word
 only_word : (text : List ℕ) → ((k : ℕ) → k < length text → eqb (get_or text k 0) 32 ≡ false) → words text ≡ text ∷ []
 only_word text passed =
     slice_split_none (λ octet. eqb octet 32) text (rw take-length at (no_space text (length text) (omega arith) passed))
 
--- if the octet at index `end` is the first space, the words are the octets before it, followed by the words of the text after it
 front_word : (text : List ℕ) (end : ℕ) → end < length text → eqb (get_or text end 0) 32 ≡ true
     → ((k : ℕ) → k < end → eqb (get_or text k 0) 32 ≡ false) → words text ≡ take end text ∷ words (drop (end + 1) text)
 front_word text end within space passed =
@@ -49,7 +46,6 @@ front_word text end within space passed =
     ∙ slice_split_at _ (take end text) (get_or text end 0) (drop (suc end) text)
     (no_space text end (omega arith) passed) space)
 
--- if a search finds no space in a text, the text is one word
 pub words_uncut : (text : List ℕ) → IsFirstByte (is_byte 32) text None → words text ≡ text ∷ []
 words_uncut text passed = only_word text (λ k below. false_from_ne_true _ (passed k (omega arith) below))
 
@@ -73,7 +69,6 @@ words_found text end e =
     rw (take_all (length text - (end + 1)) (drop (end + 1) text) (omega (arith, length-drop (end + 1) text)))
     (front_word text end at.0 at.1 at.2)
 
--- adding an octet other than a space to the front of the first word puts no space into any word
 spaceless_first : (octet : ℕ) (parts : List (List ℕ)) → octet ≢ 32 → All (All IsNotSpace) parts
     → All (All IsNotSpace) (onto_first octet parts)
 spaceless_first octet [] plain each = grind arith
@@ -81,7 +76,6 @@ spaceless_first octet (part ∷ parts) plain each =
     let first = each 0 part (omega arith) in
     let rest = All-tail (All IsNotSpace) part parts each in grind arith
 
--- no word of a line contains a space
 pub words-no_spaces : (line : List ℕ) → All (All IsNotSpace) (words line)
 words-no_spaces [] = grind arith
 words-no_spaces (octet ∷ line) =
@@ -91,7 +85,6 @@ words-no_spaces (octet ∷ line) =
       | inr plain ↦ rw (ne_eqb octet 32 plain) (spaceless_first octet (words line) plain (words-no_spaces line))
     ]
 
--- if words without spaces are joined with single spaces, splitting the joined line gives the same words
 pub words-join : (parts : List (List ℕ)) → parts ≢ [] → All (All IsNotSpace) parts → words (join_with_byte 32 parts) ≡ parts
 words-join [] some each = absurd (some refl)
 words-join (part ∷ []) some each = slice_split_none (λ x. eqb x 32) part (λ k d h. ne_eqb _ 32 (each 0 part (omega arith) k d h))
@@ -138,7 +131,6 @@ written_more bits at n old new width within (long, front) is =
       rw (take-put_mid at n old new (at + 16) (omega arith) (omega arith), front, take-add at 16 bits, map-append, some),
     )
 
--- after the last group of sixteen digits is written, which may overlap the group before it, the digits of all bits are written
 pub written_all : (bits : List ℕ) (last at n : ℕ) (old new : List ℕ) → n ≡ 16 → last + 16 ≡ length bits → last ≤ at →
     AreWritten bits at old
     → new ≡ bit_digits (take n (drop last bits)) → put_mid last n old new ≡ bit_digits bits
@@ -234,7 +226,6 @@ none_above n xs e = absurd (omega arith)
 
 -- ## HexLists: Lemmas about decoding hexadecimal digits, several at a time.
 
--- two digits give one octet, so a word has half as many octets as digits
 pub length-octets_from_hex : (word : List ℕ) → length (octets_from_hex word) ≡ length word / 2
 length-octets_from_hex (high ∷ low ∷ rest) = let fewer = length-octets_from_hex rest in omega arith
 length-octets_from_hex word = refl
@@ -242,14 +233,12 @@ length-octets_from_hex word = refl
 digit_value-small : (digit : ℕ) → digit_value digit < 16
 digit_value-small _ = grind arith
 
--- each number that two hexadecimal digits represent is an octet, below 256
 pub octets_from_hex-small : (digits : List ℕ) → All (λ octet. octet < 256) (octets_from_hex digits)
 octets_from_hex-small (high ∷ low ∷ rest) =
     All-cons (λ octet. octet < 256) _ (octets_from_hex rest) (omega (arith, digit_value-small high, digit_value-small low))
     (octets_from_hex-small rest)
 octets_from_hex-small digits = All-nil (λ octet. octet < 256)
 
--- if each octet has the value of its two digits, the octets are those that the list of digits represents
 pub octets_from_places : (digits octets : List ℕ) → length digits ≡ 2 * length octets
     → ((k : ℕ) → k < length octets → get_or octets k 0 ≡ hex_octet_at digits k) → octets ≡ octets_from_hex digits
 octets_from_places [] [] many each = refl
@@ -262,8 +251,6 @@ octets_from_places x y many each = absurd (omega arith)
 
 -- ---- decoding 32 digits at a time gives sixteen octets
 
--- if `front` and `back` hold the values of 32 hexadecimal digits from octet `at` on, the values at `2 * i` and `2 * i + 1` give octet `at +
--- i`
 pub decoded_at : (digits front back : List ℕ) (at i : ℕ) → 2 * (at + 16) ≤ length digits → i < 16
     → list_all is_hex_digit digits ≡ true
     → (list_all is_hex_digit (take 16 (drop (2 * at) digits)) ≡ true → front ≡ map digit_value (take 16 (drop (2 * at) digits)))
@@ -295,8 +282,6 @@ two_sixteens p xs from = rw (← drop-drop 16 from xs) (all_more p (drop from xs
 
 -- ## LowerDigits: Lemmas about writing octets as hexadecimal digits, several octets at a time.
 
--- if the digits at the indices `2 * k` and `2 * k + 1` are those of octet `k`, for every octet, the list consists of the digits of all
--- octets
 pub digits_from_places : (octets digits : List ℕ) → length digits ≡ 2 * length octets
     → ((k : ℕ) → k < length octets → HasDigitsOfOctet octets digits k) → digits ≡ encode_lower octets
 unfolding encode_with
@@ -310,7 +295,6 @@ digits_from_places (octet ∷ octets) (high ∷ low ∷ digits) many each =
     rw (first.0, first.1, rest)
 digits_from_places x y many each = absurd (omega arith)
 
--- after the two digits of octet n are written, the list has the digits of all octets before index n + 1
 pub digits_set : (octets digits : List ℕ) (n high low : ℕ) → 2 * n + 1 < length digits
     → high ≡ get_or lower_digits (get_or octets n 0 / 16) 0 → low ≡ get_or lower_digits (get_or octets n 0 % 16) 0
     → ((k : ℕ) → k < n → HasDigitsOfOctet octets digits k)

@@ -46,7 +46,8 @@ impl HexValues {
         }
     }
 
-    /// Returns, for each index, the greater of the values of `self` and `other` at this index.
+    /// Returns, for each index, the greater of the values of `self` and `other` at this index. A value above 15 stays, so that one test at
+    /// the end finds any octet that is no digit.
     #[inline(always)]
     pub(crate) fn maxima(self, other: HexValues) -> HexValues
         requires count { length self.lanes ≡ 16 }

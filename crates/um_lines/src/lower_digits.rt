@@ -16,6 +16,7 @@ pub(crate) fn write_lower_hex(octets: &[u8], digits: &mut [u8])
     }
 }
 
+// Encodes fewer than sixteen octets, which `write_by_sixteens` cannot.
 fn write_one_by_one(octets: &[u8], digits: &mut [u8])
     requires size { length digits.old ≡ 2 * length octets.now }
     ensures { digits.new ≡ encode_lower octets.now }
@@ -27,7 +28,7 @@ fn write_one_by_one(octets: &[u8], digits: &mut [u8])
 }
 
 // Encodes octets as hexadecimal digits, sixteen octets at a time. If their number is not a multiple of sixteen, the last sixteen overlap
-// the preceding ones.
+// the preceding ones, so that no rest needs a loop of its own.
 fn write_by_sixteens(octets: &[u8], digits: &mut [u8])
     requires size { length digits.old ≡ 2 * length octets.now }
     requires some { 16 ≤ length octets.now }

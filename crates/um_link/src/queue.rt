@@ -11,7 +11,7 @@ ghost use Rattle.um_link.specs.Queues.{AreBitIndices, IsValidQueue, ReceivesOlde
 use circular_buffer::HeapCircularBuffer;
 use um_block::{BLOCK_OCTETS, BURST_BITS, Radio, Received, soften_block};
 
-/// The capacity of a queue, in blocks.
+/// The capacity of a queue, in blocks. A step is refused if more than 62 wait, since it may add two.
 pub(crate) const QUEUE_CAPACITY: usize = 64;
 
 /// Codes each frame as a block and appends it to the queue.
@@ -56,7 +56,8 @@ pub(crate) fn receive_oldest_block<R: Radio>(
     *received = Some(radio.receive(soft));
 }
 
-/// Writes the oldest block of the queue as soft values 127 and -127, with the given bits inverted.
+/// Writes the oldest block of the queue as soft values 127 and -127, with the given bits inverted. If there are none, the block is read
+/// where it stands, without a copy.
 fn write_oldest_as_soft_values(
     queue: &HeapCircularBuffer<[[u8; BURST_BITS]; 4]>,
     inverted_bits: &[u16],
@@ -79,7 +80,6 @@ fn write_oldest_as_soft_values(
     }
 }
 
-/// Removes the oldest block from the queue `way`.
 // If the queue becomes empty, `clear` makes it start at its first slot again, so that the next block reuses recently used memory.
 pub(crate) fn drop_oldest_block(way: &mut HeapCircularBuffer<[[u8; BURST_BITS]; 4]>)
     requires way { IsValidQueue way.old }

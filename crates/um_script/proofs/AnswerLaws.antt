@@ -41,7 +41,6 @@ lines_text_append [] ms = refl
 lines_text_append (l ∷ ls) ms = ap (λ t. answer_line_text l ++ t) (lines_text_append ls ms)
     ∙ sym (append_assoc (answer_line_text l) (answer_lines_text ls) (answer_lines_text ms))
 
--- joining words with spaces gives the first word, and then a space and the word for each further word
 pub join-spaced : (w : List ℕ) (ws : List (List ℕ)) → join_with_byte 32 (w ∷ ws) ≡ w ++ spaced_words ws
 join-spaced w [] = sym (append-nil w)
 join-spaced w (v ∷ ws) = ap (λ t. w ++ 32 ∷ t) (join-spaced v ws)
@@ -56,7 +55,6 @@ pub line_spaced : (w : List ℕ) (ws vs : List (List ℕ)) →
 line_spaced w ws vs =
     append_assoc w (spaced_words ws) (spaced_words vs) ∙ ap (λ t. w ++ t) (sym (spaced-append ws vs)) ∙ sym (join-spaced w (ws ++ vs))
 
--- appending the words of a notice one after another gives the line of the notice
 pub report_line : (out : List ℕ) (who : E.Who) (sapi : Sapi) (notice : Notice) (rest : List ℕ) →
     ((((out ++ actor_word who) ++ sapi_suffix sapi) ++ spaced_words (notice_words notice)) ++ codes "\n") ++ rest
     ≡ out ++ answer_line_text (Reports who sapi notice) ++ rest
@@ -165,7 +163,6 @@ no_spaces (w ∷ ws) plain =
     let parts = and_parts (is_plain w) (are_plain ws) plain in
     All-cons (L.All IsNotSpace) w ws (is_plain-All w 32 (omega arith) parts.0) (no_spaces ws parts.1)
 
--- the text contains no line feed
 abbrev NoLineFeed : List ℕ → Type 0
 NoLineFeed text = L.All (λ octet. (octet == 10) ≡ false) text
 
@@ -182,7 +179,6 @@ NoLineFeed-join (w ∷ v ∷ ws) plain =
     All-append (λ octet. (octet == 10) ≡ false) w (32 ∷ join_with_byte 32 (v ∷ ws)) (NoLineFeed-word w parts.0)
     (All-cons (λ octet. (octet == 10) ≡ false) 32 (join_with_byte 32 (v ∷ ws)) refl (NoLineFeed-join (v ∷ ws) parts.1))
 
--- splitting a text at its line feeds gives its first line, followed by the lines of the rest
 split-first : (text rest : List ℕ) → NoLineFeed text → slice_split (λ o. o == 10) ((text ++ 10 ∷ []) ++ rest) ≡ text
     ∷ slice_split (λ o. o == 10) rest
 split-first text rest no_line_feed =
@@ -392,7 +388,6 @@ fit_append (l ∷ ls) ms h k = (h.0, fit_append ls ms h.1 k)
 
 -- ## PackedOctets: Unpacking octets into bits and packing these bits again gives the same octets.
 
--- an octet is the sum of its eight bits, each multiplied by its power of two
 octet_of_bits : (x : ℕ) → x < 256
     → x % 2 + 2 * (x / 2 % 2) + 4 * (x / 4 % 2) + 8 * (x / 8 % 2) + 16 * (x / 16 % 2) + 32 * (x / 32 % 2) + 64 * (x / 64 % 2) + 128
     * (x / 128 % 2) ≡ x

@@ -184,7 +184,6 @@ rivals [] = refl
 rivals (w ∷ []) = octets_given w E.Rival
 rivals (w ∷ other ∷ ws) = refl
 
--- parsing a line word by word gives the result that the line forms define
 read_by_parts : (ws : List (List ℕ)) → script_parse_result ws ≡ parsed_script_words ws
 read_by_parts [] = refl
 read_by_parts (name ∷ ws) =
@@ -199,7 +198,6 @@ read_by_parts (name ∷ ws) =
 
 -- ---- any text after the action word of a line has at least one word
 
--- splitting a text into words gives at least one word
 cases_words : (P : List (List ℕ) → Type 0) (text : List ℕ) → ((w : List ℕ) (ws : List (List ℕ)) → P (w ∷ ws)) →
     P (words text)
 cases_words P text some = by (words text) (omega (arith, length-slice_split (λ octet. eqb octet 32) text))
@@ -220,7 +218,6 @@ radio_event-verb way verb text =
 
 -- ## OctetLaws: The messages in script lines consist of octets, 0 to 255.
 
--- if values fit their fields, all octets in these values are below 256
 fitting_octets : (fields : List LineField) (values : List Value) → Fitting fields values → AreOctets (octets_of_values values)
 fitting_octets [] values f = rw f (All-nil (λ octet. octet < 256))
 fitting_octets (FixedWord text ∷ fields) values f = fitting_octets fields values f
@@ -237,7 +234,6 @@ fitting_octets (OctetsBetween least most ∷ fields) values (octets, rest, same,
 fitting_octets (BlockBitIndex ∷ fields) values (n, rest, same, known, fits) =
     rw same (fitting_octets fields rest fits)
 
--- if the lists in the values of a line consist of octets, so does the message in the event
 named_octets : (name : L.LinkLineKind) (values : List Value) → AreOctets (octets_of_values values) →
     EventMessageIsOctets (event_of_values name values)
 named_octets L.Open values small = small
@@ -269,12 +265,10 @@ octet_event line event means =
 
 -- ---- the value of a word of digits, capped at 592, can be computed digit by digit
 
--- appending digits to a number never makes its value smaller
 appending_digits_never_lowers : (n : ℕ) (ds : List ℕ) → n ≤ digits_value_after 10 n ds
 appending_digits_never_lowers n [] = omega arith
 appending_digits_never_lowers n (d ∷ ds) = omega (arith, appending_digits_never_lowers (n * 10 + digit_value d) ds)
 
--- capping a number at 592 before more digits are appended does not change the capped result
 cap_before_appending : (n : ℕ) (ds : List ℕ) → min (digits_value_after 10 (min n 592) ds) 592 ≡ min (digits_value_after 10 n ds) 592
 cap_before_appending n ds = elim (cases_lt n 592) [
   | inl under ↦ rw (let same : min n 592 ≡ n = omega arith in same) refl
@@ -301,7 +295,6 @@ next_digit-place word i place new in_range digits is =
 
 -- ---- marking each index that has occurred finds every repeated index
 
--- whether n occurs in a list
 abbrev is_among : List ℕ → ℕ → Bool
 is_among before n = list_any (λ m. n == m) before
 
@@ -333,15 +326,12 @@ Marks-set marks before n small m =
           ];
     }
 
--- if no word of a list is an index above 591, neither is the first word nor any of the others
 first_small : (w : List ℕ) (ws : List (List ℕ)) → list_any is_index_above_591 (w ∷ ws) ≡ false →
     (digits_value 10 w < 592) × (list_any is_index_above_591 ws ≡ false)
 first_small w ws in_range =
     let parts = or_parts (is_index_above_591 w) (list_any is_index_above_591 ws) in_range in
     (omega (arith, ltb-false 591 (digits_value 10 w) parts.0), parts.1)
 
--- if `marks` marks the indices in `before`, the words contain a marked or repeated index if and only if one of their indices occurs in
--- `before` or is repeated
 again : (ws : List (List ℕ)) (marks : List Bool) (before : List ℕ) → list_any is_index_above_591 ws ≡ false → Marks marks before
     →
     has_marked_or_repeated_index marks (decimal_word_values ws) ≡
@@ -366,14 +356,12 @@ again (w ∷ ws) marks before in_range m =
 Marks-none : Marks (replicate 592 false) []
 Marks-none = record { right_length = refl; each = λ k in_range. get_or-replicate 592 k false false in_range }
 
--- if no index is marked, the words contain a marked or repeated index if and only if they contain a repeated index
 pub repeated-no_marks : (ws : List (List ℕ)) → list_any is_index_above_591 ws ≡ false
     → has_marked_or_repeated_index (replicate 592 false) (decimal_word_values ws) ≡ has_repeated_number (decimal_word_values ws)
 repeated-no_marks ws in_range =
     again ws (replicate 592 false) [] in_range Marks-none
     ∙ rw (list_any_none (is_among []) (decimal_word_values ws) (λ k d lt. refl)) refl
 
--- if the index that the first word gives is marked, the words contain a marked or repeated index
 pub repeated-next : (marks : List Bool) (ws others : List (List ℕ)) (w : List ℕ) (n : ℕ) → ws ≡ w ∷ others →
     n ≡ min (digits_value 10 w) 592
     → list_any is_index_above_591 ws ≡ false → get_or marks n false ≡ true →
@@ -383,7 +371,6 @@ repeated-next marks ws others w n is value in_range marked =
     let same : n ≡ digits_value 10 w = omega (arith, small.0) in
     rw (is, rw same at marked) refl
 
--- parsing words that are decimal numbers up to 591 without repetition gives the list of their values
 pub places_held : (ws : List (List ℕ)) (ns : List ℕ) → list_any (λ w. not (is_decimal w)) ws ≡ false →
     list_any is_index_above_591 ws ≡ false
     → has_repeated_number (decimal_word_values ws) ≡ false → ns ≡ decimal_word_values ws → Ok ns ≡ parsed_bit_indices ws

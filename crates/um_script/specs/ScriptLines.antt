@@ -11,14 +11,12 @@ use Rattle.um_lines.specs.LinkForms as L
 use Rattle.um_lines.specs.LinkForms.{link_line_forms}
 use Rattle.um_lines.specs.Meanings.{IsValueOfMeaning}
 
--- the side of an endpoint, mobile or network
 abbrev pub role_of : L.LinkEndpoint → Role
 role_of L.MobileSapi0 = Mobile
 role_of L.NetworkSapi0 = Network
 role_of L.MobileSapi3 = Mobile
 role_of L.NetworkSapi3 = Network
 
--- the SAPI of an endpoint
 abbrev pub sapi_of : L.LinkEndpoint → Sapi
 sapi_of L.MobileSapi0 = Zero
 sapi_of L.NetworkSapi0 = Zero

@@ -11,7 +11,6 @@ ghost use Rattle.um_script.specs.Held.{remaining_words, decimal_word_values, Are
 
 use um_lines::first_word;
 
-/// The number of bits in a block.
 const BLOCK_BIT_COUNT: u16 = 592;
 
 /// Splits a text into its first word and, if more words follow, the text after it.
@@ -61,7 +60,8 @@ pub(crate) fn are_decimals(text: &[u8]) -> bool
     true
 }
 
-/// Returns the number that a word of digits represents, or 592 if the number is greater. The word may have any length.
+/// Returns the number that a word of digits represents, or 592 if the number is greater. The word may have any length: each step is capped,
+/// so that every value fits 16 bits.
 fn bit_index_of_word(word: &[u8]) -> u16
     requires { IsTrue (all_ascii_digits word.now) }
     ensures { result ≡ min (digits_value 10 word.now) 592 }
@@ -73,7 +73,6 @@ fn bit_index_of_word(word: &[u8]) -> u16
     place
 }
 
-/// Whether a word of the text is a number above 591.
 pub(crate) fn has_index_above_591(text: &[u8]) -> bool
     requires { AreDecimalWords (words text.now) }
     ensures { result ≡ list_any is_index_above_591 (words text.now) }
@@ -89,7 +88,7 @@ pub(crate) fn has_index_above_591(text: &[u8]) -> bool
     false
 }
 
-/// Whether the text lists a bit index twice.
+/// Whether the text lists a bit index twice. Each index that has occurred is marked, so that one pass over the words is enough.
 pub(crate) fn has_repeated_index(text: &[u8]) -> bool
     requires { AreBitIndexWords (words text.now) }
     ensures { result ≡ has_repeated_number (decimal_word_values (words text.now)) }

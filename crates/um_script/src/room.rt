@@ -69,7 +69,6 @@ impl Room {
         Ok(self.decode_hex_octets(word))
     }
 
-    /// Decodes hexadecimal digits, two for each octet, into the buffer, and returns the octets.
     fn decode_hex_octets(&mut self, digits: &[u8]) -> &[u8]
         requires each { IsTrue (list_all is_hex_digit digits.now) }
         requires even { length digits.now % 2 ≡ 0 }
@@ -81,7 +80,8 @@ impl Room {
         held
     }
 
-    /// Parses each word of a text as a bit index, stores the indices in the buffer, and returns them, or returns the first fault.
+    /// Parses each word of a text as a bit index, stores the indices in the buffer, and returns them, or returns the first fault. Each
+    /// fault is looked for in all words before the next one, because faults are reported in their own order, not in that of the words.
     pub(crate) fn parse_bit_indices(&mut self, text: &[u8]) -> Result<&[u16], LineFault>
         ensures read { bit_indices_or_fault result ≡ parsed_bit_indices (words text.now) }
         ensures possible { IfOk result (λ places. AreBitIndices places.now) }

@@ -106,7 +106,6 @@ paid_step state bit h b = go bit b where
 paid_rest : (state : ℕ) → state < 16 → potential state ≤ ones (encoding_from_state state tail_bits)
 paid_rest _ h = grind arith
 
--- the weight of the coded bits from a state to the end of the tail is at least the potential of the state
 ones_bound : (state : ℕ) (u : List ℕ) → state < 16 → AllBits u →
     potential state ≤ ones (encoding_from_state state (u ++ tail_bits))
 ones_bound state [] h bits = paid_rest state h
@@ -119,7 +118,6 @@ ones_bound state (x ∷ u) h bits =
 
 -- ## AbsoluteValues: The least and the greatest absolute value of a list, found by reading one value at a time.
 
--- the absolute value lies within two bounds
 abbrev pub Between : ℕ → ℕ → ℤ → Type 0
 Between min_abs max_abs value = (min_abs ≤ unsigned_abs value) × (unsigned_abs value ≤ max_abs)
 
@@ -134,7 +132,6 @@ Contains-strength : (s : List ℤ) (k strength : ℕ) → k < length s → stren
     Contains (map unsigned_abs s) strength
 Contains-strength s k _ within e = (k, rw length-map within, get_or-map _ s k (pos 0) _ within ∙ sym e)
 
--- if c equals one of two elements of a list, it is an element of the list
 either : (xs : List ℕ) (a b c : ℕ) → (c ≡ a) ⊎ (c ≡ b) → Contains xs a → Contains xs b → Contains xs c
 either xs a b c x in_a in_b = grind arith
 
@@ -177,7 +174,6 @@ count_by_more p n =
 count_by-le : (p : ℕ → Bool) (n : ℕ) → count_by p (range_with_len 0 n) ≤ n
 count_by-le p n = omega (arith, count_by-le-length p (range_with_len 0 n), length-range_with_len 0 n)
 
--- if p accepts k + 1 exactly when q accepts k, p accepts as many indices from a + 1 on as q accepts from a on
 count_by-rest : (p q : ℕ → Bool) (a n : ℕ) → ((k : ℕ) → p (suc k) ≡ q k) →
     count_by p (range_with_len (suc a) n) ≡ count_by q (range_with_len a n)
 count_by-rest p q a zero h = refl
@@ -201,7 +197,6 @@ distance-cons x y a b = count_by-first _ (differ_at a b) (length a) (λ k. refl)
 -- XOR of their encoder inputs. The first bit 1 in this XOR gives two coded bits 1 and leads to state 1, whose potential is five. The
 -- codeword of an encoder input with a single bit 1 has weight seven.
 
--- the distance between two bit lists is the number of ones in their XOR
 distance-xor_bits : (a b : List ℕ) → length a ≡ length b → AllBits a → AllBits b → distance a b ≡ ones (xor_bits a b)
 distance-xor_bits [] b e bits_a bits_b = refl
 distance-xor_bits (x ∷ a) [] e bits_a bits_b = absurd (omega arith)
@@ -241,7 +236,6 @@ seven_ones (suc (suc x) ∷ u) (y ∷ v) bits_u bits_v e ne = absurd (omega (ari
 seven_ones (x ∷ u) (suc (suc y) ∷ v) bits_u bits_v e ne = absurd (omega (arith, All-head IsBit (suc (suc y)) v bits_v))
 seven_ones u v bits_u bits_v e ne = absurd (omega arith)
 
--- a list of four zeros is the list of tail bits
 tail_bits-from_zeros : (t : List ℕ) → length t ≡ 4 → All (λ bit. bit ≡ 0) t → t ≡ tail_bits
 tail_bits-from_zeros (a ∷ b ∷ c ∷ d ∷ []) e zeros =
     let all : (a ≡ 0) × (b ≡ 0) × (c ≡ 0) × (d ≡ 0) =
@@ -260,7 +254,6 @@ front-tail_bits u information =
     ap (λ tail. front u ++ tail) (sym (tail_bits-from_zeros (drop (length u - 4) u) four information.tail))
     ∙ take-append-drop (length u - 4) u
 
--- the distance between two codewords is the weight of the codeword of the XOR of their encoder inputs
 distance-coded : (u v : List ℕ) → length u ≡ length v → AllBits u → AllBits v →
     distance (encoding u) (encoding v) ≡ ones (encoding_from_state 0 (xor_bits u v))
 distance-coded u v same bits_u bits_v =
@@ -344,7 +337,6 @@ bit_metric-zero p = grind arith
 bit_metric-one : (p : ℤ) → bit_metric p 1 ≡ pos 0 -ℤ p
 bit_metric-one p = grind arith
 
--- either z is at most 0, so that the soft bit is wrong, or z is positive; the test `int_le` and the inequality agree on this
 right_or_wrong : (z : ℤ) → ((int_le z (pos 0) ≡ true) × (z ≤ℤ pos 0)) ⊎ ((int_le z (pos 0) ≡ false) × (pos 0 <ℤ z))
 right_or_wrong x = grind arith
 
@@ -352,12 +344,10 @@ right_or_wrong x = grind arith
 abbrev Opposite : ℤ → ℤ → ℤ → Type 0
 Opposite p a b = ((a ≡ p) × (b ≡ pos 0 -ℤ p)) ⊎ ((b ≡ p) × (a ≡ pos 0 -ℤ p))
 
--- where the coded bits differ and the soft bit is right, the sent encoder input gains at least 2 `min_abs`
 right_place : (p a b : ℤ) (min_abs max_abs : ℕ) → Between min_abs max_abs p → Opposite p a b → pos 0 <ℤ a →
     (b +ℤ pos (2 * min_abs)) ≤ℤ a
 right_place x a b _ _ between y right = grind arith
 
--- where the coded bits differ and the soft bit is wrong, the sent encoder input loses at most 2 `max_abs`
 wrong_place : (p a b : ℤ) (min_abs max_abs : ℕ) → Between min_abs max_abs p → Opposite p a b → a ≤ℤ pos 0 →
     b ≤ℤ (a +ℤ pos (2 * max_abs))
 wrong_place x a b _ _ between y _ = grind arith
@@ -393,7 +383,6 @@ all_places (p ∷ s) (x ∷ c) (y ∷ d) min_abs max_abs ec ed bits_c bits_d bet
     rw (distance-cons x y c d) (omega (arith, ints, here, later))
 all_places x y z min_abs max_abs ec ed bits_c bits_d between = absurd (omega arith)
 
--- if the soft bits are correctable, every other encoder input has a smaller path metric: seven differences outweigh three wrong soft bits
 less_likely : (s : List ℤ) (u v : List ℕ) → IsEncoderInput u → IsEncoderInput v → length s ≡ 2 * length u →
     length v ≡ length u → v ≢ u → IsCorrectable s (encoding u) → likelihood s (encoding v) <ℤ likelihood s (encoding u)
 less_likely s u v information_u information_v pairs same ne damage =
@@ -408,7 +397,6 @@ less_likely s u v information_u information_v pairs same ne damage =
     let lost = mul-le-mul_left (min_abs + max_abs) damage.at_most_3_wrong_bits in
     omega (arith, ints, sums, gained, lost, damage.similar_strengths)
 
--- if the soft bits are correctable, the sent encoder input is the most likely one, and no other ties with it
 pub restores : (soft : List ℤ) (u : List ℕ) → CorrectableIsRestored soft u
 restores soft u information pairs damage = (
   record {
@@ -419,12 +407,10 @@ restores soft u information pairs damage = (
   (λ v other same ne. less_likely soft u v information other pairs same ne damage),
 )
 
--- if the soft bits are correctable (`IsCorrectable`), the most likely encoder input is the sent one
 pub restored : (soft : List ℤ) (u v : List ℕ) → IsEncoderInput u → length soft ≡ 2 * length u →
     IsCorrectable soft (encoding u) → IsMostLikely soft v → v ≡ u
 restored soft u v information pairs damage most = IsMostLikely-only soft u v (restores soft u information pairs damage).0 most
 
--- soft bits of equal nonzero strength are correctable if at most three of them are wrong
 pub IsCorrectable-equal : (soft : List ℤ) (c : List ℕ) (strength : ℕ) → 0 < length soft → 0 < strength →
     All (λ value. unsigned_abs value ≡ strength) soft → count_wrong_bits soft c ≤ 3 → IsCorrectable soft c
 IsCorrectable-equal soft c strength any more equal few =
@@ -450,7 +436,6 @@ distance-two = refl
 count_wrong_bits-two : count_wrong_bits (pos 0 ∷ pos 3 ∷ negsuc 2 ∷ []) (0 ∷ 0 ∷ 0 ∷ []) ≡ 2
 count_wrong_bits-two = refl
 
--- the coded bits of eighteen bits whose only one is the first differ from those of eighteen zeros in seven positions
 distance-seven : distance (encoding (1 ∷ replicate 17 0)) (encoding (replicate 18 0)) ≡ 7
 distance-seven = refl
 

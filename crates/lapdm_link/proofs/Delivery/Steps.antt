@@ -59,12 +59,10 @@ module _ {x y : EndpointState} {out comes hears : List Content} where
   pub sends_plain : (cs : List Content) → AllOf IsPlain cs → BothHold x y out comes hears → BothHold x y (out ++ cs) comes hears
   sends_plain cs plain h = sends cs (of-as IsPlain _ (may-plain x) cs plain) h
 
-  -- the invariant of both directions does not depend on the link state, SABM information, reject condition or retry count
   pub moved : (s : State) (k : Message) (b : Bool) (r : ℕ) → BothHold x y out comes hears →
       BothHold (record x { state = s; sabm_info = k; rejecting = b; retries = r }) y out comes hears
   moved s k b r h = grind arith
 
--- the invariant of both directions still holds after the oldest frame is lost or ignored
 pub gone : (o : Option Content) {x y : EndpointState} {out comes : List Content} →
     BothHold x y out (cons_option o comes) (cons_option o comes) → BothHold x y out comes comes
 gone None h = h
@@ -174,7 +172,6 @@ module _ {A : Type 0} (call : A → Option Call) (notice : A → Option Notice) 
   leads (x ∷ xs) m k h = leads-asked (call x) m k (filter_map call xs) (filter_map notice (x ∷ xs))
       (leads-notified _ _ k (filter_map call xs) _ h.0 (leads xs _ k h.1))
 
-  -- if the link is open after a list of calls and notices, it is neither closing nor closed after any of them
   before_open : (xs : List A) (m k : Known) → RunsTo m xs k → k.stage ≡ 1 → (y : A) → Contains xs y →
       (j : Known) × ((notified (notice y) (asked (call y) j)).stage ≤ 1)
   before_open [] m k h now y c = absurd (omega (arith, c.1))
@@ -212,7 +209,6 @@ module _ (r : Role) (s : Sapi) where
     is_notified = let g = leads _ _ ls _ m run in
         record { messages = g.0; got = g.1; acked = omega (arith, g.2); staged = g.3 }
 
-    -- if a notice is in the log, the endpoint can report it after the log lines before it
     pub at_place : (before : List LogLine) (n : Notice) → OccursAfter before (Notified r s n) ls →
         (j : Known) × Runs nothing before j × MayNotify (Some n) j
     at_place before n place =
@@ -233,11 +229,9 @@ CarriesSegmentOf ps (Rr nr pf) = Unit {0}
 CarriesSegmentOf ps (Rej nr pf) = Unit {0}
 CarriesSegmentOf ps other = ⊥
 
--- the notice reports neither a UI frame nor an establishment
 abbrev pub IsNoUnitOrOpening : Notice → Type 0
 IsNoUnitOrOpening n = (ui_message_in_notice n ≡ None) × (establishment_info_in_notice n ≡ None)
 
--- the endpoint with its window set to the initial state
 abbrev pub without_window : EndpointState → EndpointState
 without_window x = record x { acked_segments = 0; sent_segments = 0; accepted_segments = []; rejecting = false; retries = 0 }
 
@@ -284,7 +278,6 @@ Numbered x c = MaySend x c × (¬ IsPlain c)
 Numbered-carries_segment : (x : EndpointState) (c : Content) → Numbered x c → CarriesSegmentOf (segments_of_all_messages x) c
 Numbered-carries_segment x c h = grind arith
 
--- a step that changes only the counts, the accepted segments, the reject condition and the retry count satisfies `InOpen`
 step_of_rule : {From To : Way} (x : EndpointState) (a s : ℕ) (ps : List Segment) (b : Bool) (r : ℕ) (fs : List Frame)
     (ns : List Notice) → (let z =
     record x { acked_segments = a; sent_segments = s; accepted_segments = ps; rejecting = b; retries = r } in
@@ -303,7 +296,6 @@ step_of_rule x a s ps b r fs ns end frames notified keeps =
       keeps = λ y out comes h. keeps y out _ (frames-say (Numbered z) (MaySend z) (λ c m. m.0) x.sapi fs frames) h;
     }
 
--- a step that changes only the reject condition and the retry count satisfies `InOpen`
 InOpen-plain : (x : EndpointState) (b : Bool) (r : ℕ) (fs : List Frame) → HasWindowOfOne x → AllFrames (Numbered x) x.sapi fs →
     InOpen Both Both x (record { new_state = record x { rejecting = b; retries = r }; frames = fs; notices = [] })
 InOpen-plain x b r fs e h = step_of_rule x _ _ _ b r fs [] (grind arith) h (refl, tt)
@@ -463,7 +455,6 @@ pub data Goes (call : Option Call) (c : Content) (x : EndpointState) (o : Outcom
   opens : {info : Message} → o.notices ≡ N.Opened info ∷ [] → o.new_state.state ≡ Open → o.new_state.sabm_info ≡ info →
       OpensBy c x info → Goes call c x o
 
--- the message that a UI frame carries
 abbrev pub unit_in : Content → Option Message
 unit_in (Ui p m) = Some m
 unit_in other = None
@@ -504,7 +495,6 @@ none-of : {A B : Type 0} (f : A → Option B) (xs : List A) → AllOf (λ x. f x
 none-of f [] h = refl
 none-of f (x ∷ xs) h = rw (h.0, none-of f xs h.1) refl
 
--- a step by the window rules of state Open satisfies `StepFacts`; `ts` are all messages that layer 3 has passed to the endpoint
 step_in_open : {From : Way} (call : Option Call) (c : Content) (x : EndpointState) (ts : List Message) (o : Outcome) →
     (let mid = record x { messages = ts } in InOpen From Both mid o →
     ((y : EndpointState) (out comes : List Content) → BothHold x y out (cons_option (content_of_body c) comes)
@@ -531,7 +521,6 @@ step_in_open call c x ts o h from takes notified none =
       arrives = λ y out comes k. h.keeps y out _ (from y out _ k);
     }
 
--- a step that sends no I, RR, RNR or REJ frame and takes no message from layer 3 satisfies `StepFacts`
 plain_step : (call : Option Call) (c : Content) (x : EndpointState) (w : HasWindowOfOne x) (s : State) (k : Message) (r : ℕ)
     (fs : List Frame)
     (ns : List Notice) → (let z = record x { state = s; sabm_info = k; retries = r } in
@@ -556,7 +545,6 @@ plain_step call c x w s k r fs ns says notifies goes reports none ui_in_order =
 
 -- ## Taking: The step of an endpoint that receives a frame, of whatever kind, satisfies `StepFacts`.
 
--- an endpoint that receives a frame sends no UI frame in response
 no_unit : (x z : EndpointState) (c : Content) → SaysPlain None x z c → unit_in c ≡ None
 no_unit x z c h = grind arith
 
@@ -619,7 +607,6 @@ module _ (x : EndpointState) (w : HasWindowOfOne x) where
   unopened : x.state ≡ S.Idle → record (known x) { stage = 0 } ≡ known x
   unopened is_now = grind arith
 
-  -- the step in which an endpoint repeats a frame at T200 expiry satisfies `StepFacts`
   IsCalled-retransmits : (s : State) → x.state ≡ s → awaits_answer_in_state s (awaits_ack x) ≡ true →
       IsCalled x T200Expires (sends_frame (awaited_frame true s x) (record x { retries = x.retries + 1 }))
   IsCalled-retransmits S.Opening e due =
@@ -630,7 +617,6 @@ module _ (x : EndpointState) (w : HasWindowOfOne x) where
       step_in_open _ _ x x.messages _ (in-repeats _ _ x w due) (λ y out comes h. h) (sym (append-nil _)) refl refl
   IsCalled-retransmits s e due = absurd (false≢true due)
 
-  -- so does the step in which it repeats the frame without counting it
   IsCalled-repeats : (s : State) → x.state ≡ s → awaits_answer_in_state s (awaits_ack x) ≡ true →
       IsCalled x Repeats (sends_frame (awaited_frame false s x) x)
   IsCalled-repeats S.Opening e due =
@@ -727,7 +713,6 @@ module _ {r : Role} {s : Sapi} {e : EndpointState} {ls : List LogLine} (h : IsRe
   IsReported-unseen : (new : List LogLine) → Runs r s (known e) new (known e) → IsReported r s e (ls ++ new)
   IsReported-unseen new run = goes_on e new (record { role = refl; sapi = refl; channel = refl }) h.window_of_one run
 
-  -- each acknowledgement in the log has the next number in order, and its message was sent before
   acknowledged : (n : ℕ) (before : List LogLine) → OccursAfter before (Notified r s (N.Acked n)) ls →
       (n ≡ capped_at_64_bits (length (acked_message_numbers r s before) + 1))
       × (length (acked_message_numbers r s before) + 1 ≤ length (sent_messages r s before))

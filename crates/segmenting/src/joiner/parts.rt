@@ -47,7 +47,6 @@ impl Joiner {
     }
 }
 
-// Returns whether a joiner can hold these octets as this part of a message.
 fn is_possible_part(part: ReassemblyState, octets: &[u8]) -> bool
     ensures { IsTrue result ↔ IsPossiblePart part octets.now }
 {

@@ -20,7 +20,6 @@ use Rattle.trellis_decode.proofs.decode_soft.Goals as goal
 octets : (soft : List ℤ) → AllSoftBits soft → AreSignedOctets soft
 octets soft h k d lt = let is = h k d lt in (omega (arith, ints, is.0), is.1)
 
--- the encoder input that the decoder writes is the survivor of state 0
 best : (c : After-metric_of_state_0) → IsSurvivor 0 (c.write_last_state_bits.new.u ++ c.trace_back_survivors.new.u) c.args.soft.now
     (lane (path_metric c.extend_survivors-walk.result.values) 0)
 best c =

@@ -43,7 +43,6 @@ IsPlain (Rr nr pf) = ⊥
 IsPlain (Rej nr pf) = ⊥
 IsPlain other = Unit {0}
 
--- the frame has this SAPI or is a fill frame
 abbrev pub IsForSapi : Sapi → Frame → Type 0
 IsForSapi s f = (f.sapi ≡ sapi_number s) ⊎ (f.content ≡ Ui false [])
 
@@ -73,7 +72,6 @@ pub frames-of_sapi : (Says : Content → Type 0) (s : Sapi) (fs : List Frame) �
 frames-of_sapi Says s [] h = tt
 frames-of_sapi Says s (f ∷ fs) h = (h.0, frames-of_sapi _ s fs h.2)
 
--- the endpoint with the SAPI of a frame gets the content of the frame, and the endpoint with the other SAPI gets nothing
 said-at : (t s : Sapi) (own : Bool) → is_same_sapi t s ≡ own → (f : Frame) → IsForSapi s f →
     content_on t f ≡ (if own then content_of_body f.content else None)
 said-at t s own e f h = grind arith
@@ -109,14 +107,12 @@ without_oldest_item r w = record w { queues = W.without_oldest_item r w.queues }
 abbrev pub with_frames : Role → List Frame → World → World
 with_frames r fs w = record w { queues = W.with_items_appended r fs w.queues }
 
--- the state of the session after this endpoint has this outcome
 abbrev pub acted : Role → Sapi → Outcome → World → World
 acted r s o w = with_frames r o.frames (record w { ends = with_endpoint_replaced r s o.new_state w.ends })
 
 abbrev pub is_end : Role → Sapi → Role → Sapi → Bool
 is_end r s r' s' = is_same_role r r' && is_same_sapi s s'
 
--- the log lines for these calls and notices of an endpoint
 abbrev pub said : Role → Sapi → List Call → List Notice → List LogLine
 said r s cs ns = map (Asked r s) cs ++ map (Notified r s) ns
 
@@ -131,14 +127,11 @@ pub each_start : (P : Role → Sapi → EndpointState → Type 0) (capacity : Qu
     → P r s (end_of r s (initial_world capacity channel))
 each_start P capacity channel h r s = grind arith
 
--- if a property holds for the endpoint that acted and for the other endpoint of its side, it holds for both endpoints of the side after the
--- step
 side_does : (P : Sapi → EndpointState → Type 0) (s : Sapi) (e : EndpointState) (side : SideState) → P s e →
     ((s' : Sapi) → is_same_sapi s' s ≡ false → P s' (endpoint_with_sapi s' side)) → (s' : Sapi) →
     P s' (endpoint_with_sapi s' (with_sapi_endpoint_replaced s e side))
 side_does P s e side s' h g = grind arith
 
--- if a property holds for the endpoint that acted and for the three others, it holds for all four endpoints after the step
 pub ends_do : (P : Role → Sapi → EndpointState → Type 0) (r : Role) (s : Sapi) (o : Outcome) (w : World) → P r s o.new_state →
     ((r' : Role) (s' : Sapi) → is_end r' s' r s ≡ false → P r' s' (end_of r' s' w)) → (r' : Role) (s' : Sapi) →
     P r' s' (end_of r' s' (acted r s o w))
@@ -153,7 +146,6 @@ way-acted r s o w = grind arith
 pub way-acted_other : (r : Role) (s : Sapi) (o : Outcome) (w : World) → way (other r) (acted r s o w) ≡ way (other r) w
 way-acted_other r s o w = grind arith
 
--- if removing the oldest frame of a queue preserves a property, each queue still has the property after one queue loses its oldest frame
 each_lost : (P : Role → List Frame → Type 0) → ((r : Role) (fs : List Frame) → P r fs → P r (rest fs)) →
     (sender : Role) (w : World) → ((r : Role) → P r (way r w)) → (r : Role) → P r (way r (without_oldest_item sender w))
 each_lost P gone sender w h r = grind arith
@@ -259,7 +251,6 @@ module _ (w : World) (P : World → List LogLine → Type 0) (Known : Role → F
         (o ≡ None → Knows Known event → Then None event) → Then o event
     either o event known h = grind arith
 
-    -- `P` holds after an event that removes a frame from a queue and sends none
     quietly : (sender r : Role) → P (with_frames r [] (without_oldest_item sender w)) []
     quietly sender r = subst (λ z. P z []) (sym (none_sent r _)) (lost sender)
 
@@ -318,7 +309,6 @@ module _ {Notifies : ℕ → Content → Type 0} where
   climbs-le (last h) = h
   climbs-le (first l t h) = omega (arith, climbs-le h)
 
-  -- a non-decreasing sequence of counts remains valid under a weaker relation `Notifies` and in a wider range
   climbs-as : (Notifies' : ℕ → Content → Type 0) → ((k : ℕ) (c : Content) → Notifies k c → Notifies' k c) →
       {low low' high high' : ℕ}
       {cs : List Content} → low' ≤ low → high ≤ high' → Ascending Notifies low cs high → Ascending Notifies' low' cs high'
@@ -333,7 +323,6 @@ module _ {Notifies : ℕ → Content → Type 0} where
       Ascending Notifies low cs high
   climbs-rest (first l t h) = climbs-within l (omega arith) h
 
-  -- contents that have the highest count can be appended to a non-decreasing sequence
   climbs-append : {low high : ℕ} {cs : List Content} (ds : List Content) → AllOf (Notifies high) ds →
       Ascending Notifies low cs high → Ascending Notifies low (cs ++ ds) high
   climbs-append [] a (last h) = last h
@@ -381,7 +370,6 @@ right_segment a r s at h1 h2 h3 h4 h5 = grind arith
 right_number : (a r s k : ℕ) → a ≤ k → k ≤ r → r ≤ s → s ≤ a + 1 → s ≢ a → k % 8 ≡ s % 8 → k ≡ s
 right_number a r s k h1 h2 h3 h4 h5 h6 = grind arith
 
--- a content that carries a segment of a list still carries it after segments are appended to the list
 carries-more : (ps more : List Segment) (n : ℕ) (c : Content) → CarriesIn ps n c → CarriesIn (ps ++ more) n c
 carries-more ps more n c h = grind (arith, length-append, get_or-append)
 
@@ -502,7 +490,6 @@ module _ (E : Role → Sapi → EndpointState → Type 0) (F : Frame → Type 0)
         queues = each_way _ Mobile (All-push F _ _ (h.queues Mobile) (rival info ok l)) (h.queues Network);
       }) _ known
 
--- the endpoint satisfies `IsValidEndpoint` and has this channel, role and SAPI
 pub record FitsEnd (channel : Channel) (r : Role) (s : Sapi) (e : EndpointState) : Type 0 where
   pub on_channel : e.channel ≡ channel
   pub of_role : e.role ≡ r
@@ -512,11 +499,9 @@ pub record FitsEnd (channel : Channel) (r : Role) (s : Sapi) (e : EndpointState)
 abbrev pub AllFit : Channel → List Frame → Type 0
 AllFit channel fs = All (FrameFits channel) fs
 
--- all endpoints satisfy `FitsEnd`, and all frames in transit fit in a block
 abbrev pub IsFitting : Channel → World → Type 0
 IsFitting channel w = Holds (FitsEnd channel) (FrameFits channel) channel w
 
--- every call that an event makes to an endpoint exists for the role and the SAPI of this endpoint
 has_call : (r : Role) (s : Sapi) (call : Call) (x : EndpointState) → IsPlaced r s call → x.role ≡ r → x.sapi ≡ s →
     IsCallAllowedForEndpoint x call
 has_call r s call x placed role at = grind arith
@@ -529,7 +514,6 @@ rival_fits : (channel : Channel) (w : World) (info : Message) → w.channel ≡ 
     FrameFits channel (rival_sabm info)
 rival_fits channel w info same ok = grind arith
 
--- if the frame that is read in an event, if any, fits in a block, so does every frame in transit after the event
 pub fits-step : (channel : Channel) (w : World) (event : Event) → KnowsBy (refusal event w) (λ sender f. FrameFits channel f) event →
     IsFitting channel w → IsFitting channel (world_after event w)
 fits-step channel w event known h = holds-step _ _ (λ ls. Unit {0}) (λ sender f. FrameFits channel f) _ w h
@@ -541,7 +525,6 @@ fits-step channel w event known h = holds-step _ _ (λ ls. Unit {0}) (λ sender 
 pub initial-fits : (capacity : QueueCapacity) (channel : Channel) → IsFitting channel (initial_world capacity channel)
 initial-fits capacity channel = grind arith
 
--- a property of all frames in transit after a step holds for the frames that the step sends
 with_items_appended-all : (F : Frame → Type 0) (r : Role) (fs : List Frame) (ws : Queues Frame) →
     ((r' : Role) → All F (W.queue_of r' (with_items_appended r fs ws))) → All F fs
 with_items_appended-all F Mobile fs ws h = rw drop-append_seam at (All-drop F (length ws.up) _ (h Mobile))
@@ -553,7 +536,6 @@ pub event_step-holds : (E : Role → Sapi → EndpointState → Type 0) (F : Fra
 event_step-holds E F channel w event o none h =
     with_items_appended-all F (sending_role (event_step event w.ends).who) _ (queues_after_removal event w.queues) (rw none at h).queues
 
--- if the frame that is read in an event, if any, fits in a block, so does every frame that the step sends
 pub event_step-fits : (channel : Channel) (w : World) (event : Event) →
     KnowsBy (refusal event w) (λ sender f. FrameFits channel f) event → IsFitting channel w → refusal event w ≡ None →
     AllFit channel (event_step event w.ends).frames

@@ -7,7 +7,6 @@ use Rattle.{
 }
 use Rattle.list_decode.proofs.branch.find_least_loss.Goals as goal
 
--- from the position where the two words merge on, the deviation that `survivor_deviation` returns has the least loss
 tail : (c : After-survivor_deviation-later) → IsLeastLossDeviationOrNone c.args.u.now (losses_of_pass c.args.pass.now)
     (is_in_range c.find_merging_place-merging.result c.args.span.now.to) c.args.span.now.to (Some c.survivor_deviation-later.result)
 tail c =

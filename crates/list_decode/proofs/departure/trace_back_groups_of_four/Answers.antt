@@ -8,7 +8,6 @@ use Rattle.{
 use lib.Bits.{bit_and}
 use Rattle.list_decode.proofs.departure.trace_back_groups_of_four.Goals as goal
 
--- a partial traceback at position k is also one at position j if k = j
 at_place : (rows : List ℕ) (losses : List (List ℤ)) (u : List ℕ) (k j : ℕ) (reading : PartialTraceback) →
     IsPartialTraceback rows losses u k reading → k ≡ j → IsPartialTraceback rows losses u j reading
 at_place rows losses u k j reading is same = rw (← same) is

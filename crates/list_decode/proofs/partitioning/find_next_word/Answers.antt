@@ -9,7 +9,6 @@ use Rattle.{
 }
 use Rattle.list_decode.proofs.partitioning.find_next_word.Goals as goal
 
--- the next word deviates from a returned word within the span of the chosen branch
 chosen_here : (c : In_ok-choice) → IsDeviationInSpan c.args.pass.now
     (get_or (stored_words c.args.pass.now c.args.lists.now) (get_or c.args.branches.now c.in_ok-choice.choice.branch blank).span.word_index
     [])

@@ -10,7 +10,6 @@ use Rattle.{
 }
 use Rattle.list_decode.proofs.tails.fill_best_later_places.Goals as goal
 
--- in a range of one position, the deviation at this position has the least loss
 least_loss-one : (u : List ℕ) (losses : List (List ℤ)) (k n : ℕ) (x : PossibleDeviation) → k + 1 ≡ n → x.place ≡ k →
     IsPossibleDeviation u losses x → IsLeastLossDeviationOrNone u losses (is_in_range k n) n (Some x)
 least_loss-one u losses k n x end place possible = (

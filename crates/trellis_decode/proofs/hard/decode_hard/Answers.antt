@@ -7,7 +7,6 @@ use Rattle.{
 }
 use Rattle.trellis_decode.proofs.hard.decode_hard.Goals as goal
 
--- the encoder input that the decoder writes is the survivor of state 0
 best : (c : After-metric_of_state_0) →
     IsSurvivor 0 c.trace_back_survivors.new.u c.args.soft.now (lane (hard_lane_metrics c.fill_hard_survivors-values.result.lanes) 0)
 best c = rw c.trace_back_survivors.ensures (c.fill_hard_survivors-values.ensures.best 0 (omega arith))

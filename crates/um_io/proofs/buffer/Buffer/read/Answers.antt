@@ -17,7 +17,6 @@ returns-clause-came g c =
     omega (arith, length-between new.items b.end (b.end + n) (omega (arith, known.bound, known.len, new.ok.0))) in
     (came, grown ∙ ap (λ l. l ++ came) c.move_to_front.ensures.unchanged, size, known.came)
 
--- a read does not change the scanned octets, so they still contain no line feed
 scanned_stays : (b : Buffer) (octets : List ℕ) → take b.end octets ≡ take b.end b.octets.items
     → IsLine (slice_range octets b.start b.scanned)
 scanned_stays b octets same = subst IsLine (sym (slice_range-kept b.octets.items octets b.start b.scanned b.end b.scan_order same))

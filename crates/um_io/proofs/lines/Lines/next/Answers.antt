@@ -7,11 +7,9 @@ use Rattle.{
 }
 use Rattle.um_io.proofs.lines.Lines.next.Goals as goal
 
--- the invariant of `Lines` implies that its value in contracts is a valid reader
 valid : (inside : Inside) → the_invariant inside → IsValidReader (the_view inside)
 valid inside holds = IsValidReader-from inside.buffer inside.octet_count inside.number inside.ended inside.is_over holds.0 holds.1
 
--- if `is_over` is false in a `Lines`, it is false in the value of this `Lines` in contracts
 goes_on : (r : ReaderState) (inside : Inside) → the_view inside ≡ r → inside.is_over ≡ false → r.is_over ≡ false
 goes_on r inside view going = sym (ap (λ (s : ReaderState). s.is_over) view) ∙ going
 
