@@ -1,0 +1,116 @@
+-- States of a session of `lapdm_link` with one event after another, in queues of unlimited length.
+use Rattle.lapdm_link.proofs.Lemmas.{◌≡◌, refl, ◌∙◌, arith, ◌++◌, Bool, true, false, List, [], ◌∷◌, map}
+use Rattle.lapdm_link.proofs.Lemmas.{nat_eq, nat_tests, append_assoc, append-nil, Option, Some, None, drop, Frame, Channel, Role, Mobile}
+use Rattle.lapdm_link.proofs.Lemmas.{Network, Sapi, Zero, Three, Call, Opens, OpensWithoutInfo, Sends, SendsUi, Closes, T200Expires, Repeats}
+use Rattle.lapdm_link.proofs.Lemmas.{SendsFillFrame, call_outcome, refusal_of, frame_outcome, sapi_number, Request, Send, Close, T200Expiry}
+use Rattle.lapdm_link.proofs.Lemmas.{Event, OpenBare, Ask, Deliver, Lose, other, endpoint_call_of, as_event_refusal, event_step}
+use Rattle.lapdm_link.proofs.Lemmas.{LogLine, Asked, Notified, answer_log_lines, session_log, answer_unless_refused, answer, answers, World}
+use Rattle.lapdm_link.proofs.Lemmas.{initial_world, refusal, world_after, world_after_possible_refusal, Claims, AckedAtMostDelivered}
+use Rattle.lapdm_link.proofs.Lemmas.{end_of, way, acted, without_oldest_item, with_frames, IsPlaced, AllReported, in_order-step}
+use Rattle.lapdm_link.proofs.Lemmas.{initial-reported, claims_with_rr, counts_with_rr}
+use Rattle.lapdm_link.specs.Events.{Open, Repeat, SendUi, Idle, unbounded_capacity}
+use Rattle.lapdm_link.specs.Worlds.{IsBenignExceptRrForRej, IsBenignEventExceptRrForRej, IsOldestSentOrRrForRej}
+
+-- the state of a session after these events
+abbrev pub ran : (events : List Event) (w : World) → World
+ran [] w = w
+ran (event ∷ events) w = ran events (world_after event w)
+
+ran-push : (events : List Event) (event : Event) (w : World) → ran (events ++ event ∷ []) w ≡ world_after event (ran events w)
+ran-push [] event w = refl
+ran-push (e ∷ events) event w = ran-push events event (world_after e w)
+
+benign-push : (events : List Event) (event : Event) (w : World) → IsBenignExceptRrForRej events w →
+    IsBenignEventExceptRrForRej (refusal event (ran events w)) event (ran events w) → IsBenignExceptRrForRej (events ++ event ∷ []) w
+benign-push [] event w h g = (g, h)
+benign-push (e ∷ events) event w h g = (h.0, benign-push events event (world_after e w) h.1 g)
+
+log-push : (events : List Event) (event : Event) (w : World) → session_log (events ++ event ∷ []) (answers (events ++ event ∷ []) w) ≡
+    session_log events (answers events w) ++ answer_log_lines event (answer event (ran events w))
+log-push [] event w = append-nil _
+log-push (e ∷ events) event w = rw (log-push events event (world_after e w), append_assoc) refl
+
+abbrev pub start : Channel → World
+start channel = initial_world unbounded_capacity channel
+
+-- a session on this channel, in which frames arrive in order or are lost, reaches the state `w` with the log `ls`
+pub record Reaches (channel : Channel) (w : World) (ls : List LogLine) : Type 0 where
+  pub events : List Event
+  pub benign : IsBenignExceptRrForRej events (start channel)
+  pub state : ran events (start channel) ≡ w
+  pub log : session_log events (answers events (start channel)) ≡ ls
+  pub room : w.capacity ≡ unbounded_capacity
+  pub reported : AllReported w ls
+
+pub at_start : (channel : Channel) → Reaches channel (start channel) []
+at_start channel = record {
+  events = [];
+  benign = tt;
+  state = refl;
+  log = refl;
+  room = refl;
+  reported = initial-reported unbounded_capacity channel;
+}
+
+module _ {channel : Channel} {w : World} {ls : List LogLine} (h : Reaches channel w ls) where
+  pub reached_claims : Claims ls
+  reached_claims = rw h.log at (claims_with_rr unbounded_capacity channel h.events h.benign)
+
+  pub reached_counts : AckedAtMostDelivered ls
+  reached_counts = rw h.log at (counts_with_rr unbounded_capacity channel h.events h.benign)
+
+  -- one more event that is not refused
+  one_more : (event : Event) → refusal event w ≡ None → IsBenignEventExceptRrForRej None event w →
+      Reaches channel (world_after_possible_refusal None event w)
+      (ls ++ answer_log_lines event (answer_unless_refused None (event_step event w.ends)))
+  one_more event none benign =
+      let reported : AllReported (world_after_possible_refusal None event w)
+      (ls ++ answer_log_lines event (answer_unless_refused None (event_step event w.ends))) =
+      rw none at (in_order-step w ls event h.reported) in
+      record {
+        events = h.events ++ event ∷ [];
+        benign = benign-push h.events event _ h.benign (rw (h.state, none) benign);
+        state = ran-push h.events event _ ∙ rw (h.state, none) refl;
+        log = log-push h.events event _ ∙ rw (h.log, h.state, none) refl;
+        room = h.room;
+        reported = reported;
+      }
+
+  -- the event makes the endpoint act
+  by_event : (event : Event) (z : World) (new : List LogLine) → refusal event w ≡ None → IsBenignEventExceptRrForRej None event w →
+      world_after_possible_refusal None event w ≡ z →
+      answer_log_lines event (answer_unless_refused None (event_step event w.ends)) ≡ new → Reaches channel z (ls ++ new)
+  by_event event z new none benign e e' = rw (e, e') at (one_more event none benign)
+
+  -- the endpoint carries out a call
+  pub calls : (r : Role) (s : Sapi) (call : Call) → IsPlaced r s call → refusal_of call (end_of r s w) ≡ None →
+      Reaches channel (acted r s (call_outcome call (end_of r s w)) w)
+      (ls ++ Asked r s call ∷ map (Notified r s) (call_outcome call (end_of r s w)).notices)
+  calls Mobile Zero (Opens info) placed ok = by_event (Open info) _ _ (rw (h.room, ok) refl) tt refl refl
+  calls r s (Opens info) placed ok = absurd (grind arith)
+  calls r Three OpensWithoutInfo placed ok = by_event (OpenBare r) _ _ (rw (h.room, ok) refl) tt refl refl
+  calls r Zero OpensWithoutInfo placed ok = absurd (grind arith)
+  calls r s (Sends m) placed ok = by_event (Ask r s (Send m)) _ _ (rw (h.room, ok) refl) tt refl refl
+  calls r s (SendsUi m) placed ok = by_event (Ask r s (SendUi m)) _ _ (rw (h.room, ok) refl) tt refl refl
+  calls r s Closes placed ok = by_event (Ask r s Close) _ _ (rw (h.room, ok) refl) tt refl refl
+  calls r s T200Expires placed ok = by_event (Ask r s T200Expiry) _ _ (rw (h.room, ok) refl) tt refl refl
+  calls r s Repeats placed ok = by_event (Ask r s Repeat) _ _ (rw (h.room, ok) refl) tt refl refl
+  calls r s SendsFillFrame placed ok = by_event (Ask r s Idle) _ _ (rw h.room refl) tt refl refl
+
+  -- the oldest frame in transit, or an RR in place of a REJ, arrives at the endpoint
+  pub takes : (r : Role) (s : Sapi) (f : Frame) → nat_eq f.sapi (sapi_number s) ≡ true →
+      IsOldestSentOrRrForRej (Some f) (way (other r) w) →
+      Reaches channel (acted r s (frame_outcome f (end_of r s w)) (without_oldest_item (other r) w))
+      (ls ++ map (Notified r s) (frame_outcome f (end_of r s w)).notices)
+  takes Mobile Zero f on known = by_event (Deliver Network (Some f)) _ _ (rw h.room refl) known (rw on refl) (rw on refl)
+  takes Network Zero f on known = by_event (Deliver Mobile (Some f)) _ _ (rw h.room refl) known (rw on refl) (rw on refl)
+  takes r s f on known =
+      let no : nat_eq f.sapi 0 ≡ false = grind (arith, nat_tests) in
+      by_event (Deliver (other r) (Some f)) _ _ (rw h.room refl) known (rw (no, on) refl) (rw (no, on) refl)
+
+  -- the oldest frame in transit is lost
+  pub loses : (sender : Role) → Reaches channel (without_oldest_item sender w) ls
+  loses sender = rw append-nil at (by_event (Lose sender) _ [] (rw h.room refl) tt (none_sent (without_oldest_item sender w)) refl)
+    where
+      none_sent : (z : World) → with_frames Mobile [] z ≡ z
+      none_sent z = rw append-nil refl
