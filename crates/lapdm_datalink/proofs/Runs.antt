@@ -37,7 +37,7 @@ air_of r s c = on s (queue_of r c.air)
 pub record At (channel : Channel) (s : Sapi) (c : RunState) (log : List LogLine) : Type 0 where
   pub world : World
   pub lines : List LogLine
-  pub reaches : Reaches channel world lines
+  pub reaches : Reaches channel s world lines
   pub seen_lines : seen lines ≡ log_lines_of_sapi s log
   pub fits : (r : Role) → Fits r s (air_of r s c) (link_at r s c) world
 
@@ -132,10 +132,10 @@ placed r s call h = grind arith
 module _ {channel : Channel} {c : RunState} {log : List LogLine} (r : Role) (call : Call) where
   call_own : (s : Sapi) → At channel s c log → IsPossible (Calls r s call) c →
       At channel s (after_event (Calls r s call) c) (log ++ Asked r s call ∷ [])
-  call_own s a (own, allowed, ok, idle) =
+  call_own s a (own, allowed, ok) =
       let d = with_link s (after_call call (link_at r s c)) (data_link_of r c) in
       goes_to a r (with_data_link r d c) (Asked r s call ∷ []) (Asked r s call ∷ [])
-      (call_step (of_side r a) call own (placed r s call allowed) ok idle) (air-kept r r s d c)
+      (call_step (of_side r a) call own (placed r s call allowed) ok) (air-kept r r s d c)
       (sym (ap (link_with_sapi s) (replaced-own r d c) ∙ link-own s (after_call call (link_at r s c)) (data_link_of r c)))
       (air-kept (other r) r s d c) (peer-kept r s d c) (rw (same_sapi s) refl)
 
@@ -422,15 +422,15 @@ run_at (event ∷ events) c log all run =
 
 initial_fits : (channel : Channel) (t200 : Role → Sapi → ℕ) (s : Sapi) (r : Role) →
     Fits r s (air_of r s (initial_run channel t200)) (link_at r s (initial_run channel t200)) (start channel)
-initial_fits channel t200 Zero Mobile = record { endpoint = refl; queue = empty; sound = record { clock = λ e. refl; answer = tt } }
-initial_fits channel t200 Three Mobile = record { endpoint = refl; queue = empty; sound = record { clock = λ e. refl; answer = tt } }
-initial_fits channel t200 s r = record { endpoint = refl; queue = empty; sound = record { clock = λ e. refl; answer = tt } }
+initial_fits channel t200 Zero Mobile = record { endpoint = refl; queue = empty; sound = record { clock = λ e. refl; answer = tt; idle = λ e. refl } }
+initial_fits channel t200 Three Mobile = record { endpoint = refl; queue = empty; sound = record { clock = λ e. refl; answer = tt; idle = λ e. refl } }
+initial_fits channel t200 s r = record { endpoint = refl; queue = empty; sound = record { clock = λ e. refl; answer = tt; idle = λ e. refl } }
 
 initial_at : (channel : Channel) (t200 : Role → Sapi → ℕ) → IsAt channel (initial_run channel t200) []
 initial_at channel t200 s = record {
   world = start channel;
   lines = [];
-  reaches = at_start channel;
+  reaches = at_start channel s;
   seen_lines = refl;
   fits = λ r. initial_fits channel t200 s r;
 }

@@ -27,14 +27,15 @@ use Rattle.lapdm_datalink.specs.Links.{keeps_back, sends_due_frame, sends_nothin
 use Rattle.lapdm_datalink.specs.Runs.{IsLayer3Call}
 use Rattle.lapdm_datalink.proofs.Lemmas.{endpoint_with_frames}
 use Rattle.lapdm_datalink.proofs.RunsClaims.{seen}
-use Rattle.lapdm_datalink.proofs.RunsWorlds.{Reaches, calls, takes, loses}
+use Rattle.lapdm_datalink.proofs.RunsWorlds.{Reaches, calls, takes, loses, silent}
 use Rattle.lapdm_datalink.proofs.RunsQueues.{IsSub, empty, kept, dropped, none, all, append, fewer, on_air, unsent, owed, pending, unsent-sent}
 use Rattle.lapdm_datalink.proofs.RunsQueues.{IsNoOpening, elsewhere, answers, pending-outcome, unsent-not}
 
--- what holds of each link: a frame that was not sent is due, and the answer has the SAPI of the link
+-- what holds of each link: a frame that was not sent is due, the answer has the SAPI of the link, and a link in Idle owes none
 pub record IsSound (s : Sapi) (l : LinkState) : Type 0 where
   pub clock : l.is_sent ≡ false → l.clock ≡ 0
   pub answer : IfSome l.answer (λ f. is_on s f ≡ true)
+  pub idle : l.endpoint.state ≡ Idle → l.answer ≡ None
 
 -- the link, with these frames of its SAPI on the air, is an endpoint of a session and its queue
 pub record Fits (r : Role) (s : Sapi) (air : List Frame) (l : LinkState) (w : World) : Type 0 where
@@ -47,7 +48,7 @@ pub record LinkAt (channel : Channel) (s : Sapi) (r : Role) (air : List Frame) (
     (log : List LogLine) : Type 0 where
   pub world : World
   pub lines : List LogLine
-  pub reaches : Reaches channel world lines
+  pub reaches : Reaches channel s world lines
   pub seen_lines : seen lines ≡ log
   pub here : Fits r s air l world
   pub there : Fits (other r) s air' l' world
@@ -75,13 +76,21 @@ module _ (call : Option Call) (x z : EndpointState) (s : Sapi) (not_ui : (info :
     frames-on [] h = tt
     frames-on (f ∷ fs) h = (frame-on f h.0 h.1, frames-on fs h.2)
 
-sound-frames : (s : Sapi) (fs : List Frame) (l : LinkState) → AllOn s fs → IsSound s l → IsSound s (with_frames fs l)
-sound-frames s [] l g h = h
-sound-frames s (f ∷ fs) l g h = sound-frames s fs (with_frame f l) g.1 (by_kind (is_awaiting_kind f.content))
+endpoint-kept : (f : Frame) (l : LinkState) → (with_frame f l).endpoint ≡ l.endpoint
+endpoint-kept f l = grind arith
+
+sound-frames : (s : Sapi) (fs : List Frame) (l : LinkState) → AllOn s fs → (l.endpoint.state ≡ Idle → fs ≡ []) → IsSound s l →
+    IsSound s (with_frames fs l)
+sound-frames s [] l g idle h = h
+sound-frames s (f ∷ fs) l g idle h =
+    sound-frames s fs (with_frame f l) g.1 (λ e. absurd (never (rw (endpoint-kept f l) at e))) (by_kind (is_awaiting_kind f.content))
   where
+    never : l.endpoint.state ≡ Idle → ⊥
+    never e = let none_sent : f ∷ fs ≡ [] = idle e in cc
+
     by_kind : (b : Bool) → IsSound s (if b then record l { is_sent = false; clock = 0 } else record l { answer = Some f })
-    by_kind true = record { clock = λ e. refl; answer = h.answer }
-    by_kind false = record { clock = h.clock; answer = g.0 }
+    by_kind true = record { clock = λ e. refl; answer = h.answer; idle = h.idle }
+    by_kind false = record { clock = h.clock; answer = g.0; idle = λ e. absurd (never e) }
 
 -- ---- layer 3 sees every notice
 
@@ -121,7 +130,7 @@ module _ {channel : Channel} {s : Sapi} {r : Role} {air air' : List Frame} {l l'
 
     -- the endpoint acts in a state in which the other end fits
     acts : {air2 there_air : List Frame} {l2 : LinkState} (v : World) (o : Outcome) (new seen_new : List LogLine) →
-        Reaches channel (acted r s o v) (k.lines ++ new) → seen new ≡ seen_new → Fits (other r) s there_air l' v →
+        Reaches channel s (acted r s o v) (k.lines ++ new) → seen new ≡ seen_new → Fits (other r) s there_air l' v →
         l2.endpoint ≡ o.new_state → IsSub (air2 ++ pending l2) (way r v ++ o.frames) → IsSound s l2 →
         LinkAt channel s r air2 l2 there_air l' (log ++ seen_new)
     acts v o new seen_new reaches is there e queue sound = record {
@@ -146,7 +155,7 @@ module _ {channel : Channel} {s : Sapi} {r : Role} {air air' : List Frame} {l l'
         LinkAt channel s r air2 l2 air' l' (log ++ seen_new)
     calls_with call seen_new placed ok is e queue sound =
         acts k.world (call_outcome call l.endpoint) (Asked r s call ∷ map (Notified r s) (call_outcome call l.endpoint).notices) seen_new
-        (rw k.here.endpoint at (calls k.reaches r s call placed (rw k.here.endpoint ok))) is k.there e queue sound
+        (rw k.here.endpoint at (calls k.reaches r call placed (rw k.here.endpoint ok))) is k.there e queue sound
 
     -- ---- a slot passes
 
@@ -158,10 +167,12 @@ module _ {channel : Channel} {s : Sapi} {r : Role} {air air' : List Frame} {l l'
             (rw (unsent-sent (after_slot l) e) (rw (unsent-sent l e) at k.here.queue)) (record {
               clock = λ n. absurd cc;
               answer = k.here.sound.answer;
+              idle = k.here.sound.idle;
             })
         by_sent false e = (let zero = k.here.sound.clock e in stays refl (rw zero (rw zero at k.here.queue)) (record {
           clock = λ n. rw zero refl;
           answer = k.here.sound.answer;
+          idle = k.here.sound.idle;
         }))
 
     -- ---- a slot
@@ -175,7 +186,7 @@ module _ {channel : Channel} {s : Sapi} {r : Role} {air air' : List Frame} {l l'
     sends_now call {l2} frames seen_new placed ok is e sent owes_none sub =
         calls_with call seen_new placed ok is e
         (rw (unsent-sent l2 sent, owes_none, append-nil) (append (on_air air (pending l) k.here.queue) sub))
-        (record { clock = λ n. absurd cc; answer = rw owes_none tt })
+        (record { clock = λ n. absurd cc; answer = rw owes_none tt; idle = λ n. owes_none })
 
 -- what a link does in a slot
 pub data IsSlot (l : LinkState) : SlotOutcome → Type 0 where
@@ -274,11 +285,11 @@ module _ {channel : Channel} {s : Sapi} {r : Role} {air air' : List Frame} {l l'
     slot_of o (sabm_first opening first) = rw (append-nil log) (stays k refl
         (rw (awaited-sabm false l.endpoint.state l.endpoint opening, unsent-sent o.link refl, append_assoc)
         (rw first at k.here.queue))
-        (record { clock = λ n. absurd cc; answer = k.here.sound.answer }))
+        (record { clock = λ n. absurd cc; answer = k.here.sound.answer; idle = k.here.sound.idle }))
     slot_of o (idles first owes_none) = rw (append-nil air, append-nil log) k
     slot_of o (answering f first owes) = rw (append-nil log) (stays k refl
         (rw (first, append-nil) (rw (first, owes) at k.here.queue))
-        (record { clock = k.here.sound.clock; answer = tt }))
+        (record { clock = k.here.sound.clock; answer = tt; idle = λ n. refl }))
     slot_of o (repeating awaits) =
         sends_now k Repeats (awaited_frame false l.endpoint.state l.endpoint ∷ []) [] tt (rw awaits refl) refl refl refl refl (all _)
     slot_of o (expiring awaits sent) =
@@ -340,6 +351,14 @@ module _ (l : LinkState) where
   layer3-no_fill SendsFillFrame own h = own
   layer3-no_fill call own h = cc h
 
+  layer3-no_idle : (call : Call) → IsLayer3Call call → refusal_of call l.endpoint ≡ None →
+      (call_outcome call l.endpoint).new_state.state ≡ Idle → ⊥
+  layer3-no_idle (Sends m) own ok h = grind arith
+  layer3-no_idle (Opens info) own ok h = cc h
+  layer3-no_idle OpensWithoutInfo own ok h = cc h
+  layer3-no_idle Closes own ok h = cc h
+  layer3-no_idle call own ok h = own
+
   -- ---- received frames
 
   open-stays : (c : Content) (o : Outcome) → Goes None c l.endpoint o → l.endpoint.state ≡ Open → is_opening o.new_state.state ≡ false
@@ -377,17 +396,17 @@ way-lost_other Mobile w = refl
 way-lost_other Network w = refl
 
 -- the session goes on until this frame is the oldest in transit to side `r`
-record IsInFront (channel : Channel) (r : Role) (w : World) (lines : List LogLine) (f : Frame) (xs : List Frame) : Type 0 where
+record IsInFront (channel : Channel) (s : Sapi) (r : Role) (w : World) (lines : List LogLine) (f : Frame) (xs : List Frame) : Type 0 where
   world : World
   left : List Frame
-  reaches : Reaches channel world lines
+  reaches : Reaches channel s world lines
   front : way (other r) world ≡ f ∷ left
   sub : IsSub xs left
   ends : world.ends ≡ w.ends
   same_way : way r world ≡ way r w
 
-in_front : {channel : Channel} (r : Role) (w : World) {lines : List LogLine} (f : Frame) (xs q : List Frame) →
-    Reaches channel w lines → way (other r) w ≡ q → IsSub (f ∷ xs) q → IsInFront channel r w lines f xs
+in_front : {channel : Channel} {s : Sapi} (r : Role) (w : World) {lines : List LogLine} (f : Frame) (xs q : List Frame) →
+    Reaches channel s w lines → way (other r) w ≡ q → IsSub (f ∷ xs) q → IsInFront channel s r w lines f xs
 in_front r w f xs [] h e g = elim g [ ]
 in_front r w f xs (y ∷ ys) h e (kept g) = record {
   world = w;
@@ -432,32 +451,30 @@ module _ {channel : Channel} {s : Sapi} {r : Role} {air air' : List Frame} {l l'
     (k : LinkAt channel s r air l air' l' log)
   where
     call_with : (call : Call) → IsLayer3Call call → IsPlaced r s call → refusal_of call l.endpoint ≡ None →
-        (l.endpoint.state ≡ Idle → l.answer ≡ None) →
         LinkAt channel s r air (with_outcome (call_outcome call l.endpoint) l) air' l' (log ++ Asked r s call ∷ [])
-    call_with call own placed ok idle =
+    call_with call own placed ok =
         let o = call_outcome call l.endpoint in
         let on : AllOn s o.frames = frames-on (Some call) l.endpoint o.new_state s (layer3-no_ui l call own) (layer3-no_fill l call own)
         o.frames (subst (λ t. AllFrames (Says (Some call) l.endpoint o.new_state) t o.frames) (own_sapi k)
         (is_called l.endpoint (window k) call ok).frames) in
         calls_with k call (Asked r s call ∷ []) placed ok (seen-asked r s call own (call-silent l call own))
         (endpoint_with_frames o.frames (record l { endpoint = o.new_state }))
-        (waits-call l air (way r k.world) call own ok idle k.here.queue)
-        (sound-frames s o.frames (record l { endpoint = o.new_state }) on
-        (record { clock = k.here.sound.clock; answer = k.here.sound.answer }))
+        (waits-call l air (way r k.world) call own ok k.here.sound.idle k.here.queue)
+        (sound-frames s o.frames (record l { endpoint = o.new_state }) on (λ e. absurd (layer3-no_idle l call own ok e))
+        (record { clock = k.here.sound.clock; answer = k.here.sound.answer; idle = λ e. absurd (layer3-no_idle l call own ok e) }))
 
     -- layer 3 calls the link
     pub call_step : (call : Call) → IsLayer3Call call → IsPlaced r s call → refusal_of call l.endpoint ≡ None →
-        (l.endpoint.state ≡ Idle → l.answer ≡ None) →
         LinkAt channel s r air (after_call call l) air' l' (log ++ Asked r s call ∷ [])
-    call_step call own placed ok idle =
+    call_step call own placed ok =
         let e : after_call call l ≡ with_outcome (call_outcome call l.endpoint) l =
         ap (λ (b : Bool). let m = if b then afresh l else l in with_outcome (call_outcome call m.endpoint) m) (not_reopened l call ok) in
-        rw e (call_with call own placed ok idle)
+        rw e (call_with call own placed ok)
 
 module _ {channel : Channel} {s : Sapi} {r : Role} {air rest : List Frame} {l l' : LinkState} {f : Frame} {log : List LogLine}
     (k : LinkAt channel s r air l (f ∷ rest) l' log)
   where
-    abbrev at_front : IsInFront channel r k.world k.lines f (rest ++ pending l')
+    abbrev at_front : IsInFront channel s r k.world k.lines f (rest ++ pending l')
     at_front = in_front r k.world f (rest ++ pending l') (way (other r) k.world) k.reaches refl k.there.queue
 
     -- the other end once the frame has left the queue
@@ -494,14 +511,17 @@ module _ {channel : Channel} {s : Sapi} {r : Role} {air rest : List Frame} {l l'
         let all_on : AllOn s o.frames = frames-on None l.endpoint o.new_state s (λ info e. cc e) (λ e. cc e) o.frames
         (subst (λ t. AllFrames (Says None l.endpoint o.new_state) t o.frames) (own_sapi k)
         (taken-frame l.endpoint (window k) g).frames) in
+        let oldest : IsOldestSentOrRrForRej (Some g) (way (other r) at_front.world) = rw at_front.front (inr refl) in
+        let quiet : o.new_state.state ≡ Idle → (l.endpoint.state ≡ Idle) × (o.frames ≡ []) =
+        rw same at (silent at_front.reaches r g oldest) in
         acts k z o (map (Notified r s) o.notices) (map (Notified r s) o.notices)
-        (rw same at (takes at_front.reaches r s g on (rw at_front.front (inr refl))))
+        (rw same at (takes at_front.reaches r g on oldest))
         (notices-seen r s o.notices) left_there
         (endpoint_with_frames o.frames (record l { endpoint = o.new_state }))
         (rw (way-lost_other r at_front.world, at_front.same_way)
         (pending-outcome air o l (way r k.world) (received-no_opening l (window k) g) k.here.queue))
-        (sound-frames s o.frames (record l { endpoint = o.new_state }) all_on
-        (record { clock = k.here.sound.clock; answer = k.here.sound.answer }))
+        (sound-frames s o.frames (record l { endpoint = o.new_state }) all_on (λ e. (quiet e).1)
+        (record { clock = k.here.sound.clock; answer = k.here.sound.answer; idle = λ e. k.here.sound.idle (quiet e).0 }))
 
     -- the frame arrives at the link
     pub take_step : is_on s f ≡ true → is_reopened_by_frame f l ≡ false →

@@ -9,6 +9,8 @@ use Rattle.lapdm_link.proofs.Lemmas.{initial_world, refusal, world_after, world_
 use Rattle.lapdm_link.proofs.Lemmas.{end_of, way, acted, without_oldest_item, with_frames, IsPlaced, AllReported, in_order-step}
 use Rattle.lapdm_link.proofs.Lemmas.{initial-reported, claims_with_rr, counts_with_rr}
 use Rattle.lapdm_link.specs.Events.{Open, Repeat, SendUi, Idle, unbounded_capacity}
+use Rattle.lapdm_end.specs.lapdm_window.declared.State.TheVariants as S
+use Rattle.lapdm_datalink.proofs.RunsIdle.{IsFresh, fresh-start, fresh-calls, fresh-takes, fresh-loses, idle-silent}
 use Rattle.lapdm_link.specs.Worlds.{IsBenignExceptRrForRej, IsBenignEventExceptRrForRej, IsOldestSentOrRrForRej}
 
 -- the state of a session after these events
@@ -33,26 +35,28 @@ log-push (e ∷ events) event w = rw (log-push events event (world_after e w), a
 abbrev pub start : Channel → World
 start channel = initial_world unbounded_capacity channel
 
--- a session on this channel, in which frames arrive in order or are lost, reaches the state `w` with the log `ls`
-pub record Reaches (channel : Channel) (w : World) (ls : List LogLine) : Type 0 where
+-- a session on this channel with events of this SAPI, in which frames arrive in order or are lost, reaches the state `w` with the log `ls`
+pub record Reaches (channel : Channel) (s : Sapi) (w : World) (ls : List LogLine) : Type 0 where
   pub events : List Event
   pub benign : IsBenignExceptRrForRej events (start channel)
   pub state : ran events (start channel) ≡ w
   pub log : session_log events (answers events (start channel)) ≡ ls
   pub room : w.capacity ≡ unbounded_capacity
   pub reported : AllReported w ls
+  pub fresh : IsFresh s w
 
-pub at_start : (channel : Channel) → Reaches channel (start channel) []
-at_start channel = record {
+pub at_start : (channel : Channel) (s : Sapi) → Reaches channel s (start channel) []
+at_start channel s = record {
   events = [];
   benign = tt;
   state = refl;
   log = refl;
   room = refl;
   reported = initial-reported unbounded_capacity channel;
+  fresh = fresh-start unbounded_capacity channel s;
 }
 
-module _ {channel : Channel} {w : World} {ls : List LogLine} (h : Reaches channel w ls) where
+module _ {channel : Channel} {s : Sapi} {w : World} {ls : List LogLine} (h : Reaches channel s w ls) where
   pub reached_claims : Claims ls
   reached_claims = rw h.log at (claims_with_rr unbounded_capacity channel h.events h.benign)
 
@@ -61,9 +65,9 @@ module _ {channel : Channel} {w : World} {ls : List LogLine} (h : Reaches channe
 
   -- one more event that is not refused
   one_more : (event : Event) → refusal event w ≡ None → IsBenignEventExceptRrForRej None event w →
-      Reaches channel (world_after_possible_refusal None event w)
+      IsFresh s (world_after_possible_refusal None event w) → Reaches channel s (world_after_possible_refusal None event w)
       (ls ++ answer_log_lines event (answer_unless_refused None (event_step event w.ends)))
-  one_more event none benign =
+  one_more event none benign fresh =
       let reported : AllReported (world_after_possible_refusal None event w)
       (ls ++ answer_log_lines event (answer_unless_refused None (event_step event w.ends))) =
       rw none at (in_order-step w ls event h.reported) in
@@ -74,43 +78,69 @@ module _ {channel : Channel} {w : World} {ls : List LogLine} (h : Reaches channe
         log = log-push h.events event _ ∙ rw (h.log, h.state, none) refl;
         room = h.room;
         reported = reported;
+        fresh = fresh;
       }
 
   -- the event makes the endpoint act
-  by_event : (event : Event) (z : World) (new : List LogLine) → refusal event w ≡ None → IsBenignEventExceptRrForRej None event w →
-      world_after_possible_refusal None event w ≡ z →
-      answer_log_lines event (answer_unless_refused None (event_step event w.ends)) ≡ new → Reaches channel z (ls ++ new)
-  by_event event z new none benign e e' = rw (e, e') at (one_more event none benign)
+  by_event : (event : Event) (z : World) (new : List LogLine) → IsFresh s z → refusal event w ≡ None →
+      IsBenignEventExceptRrForRej None event w → world_after_possible_refusal None event w ≡ z →
+      answer_log_lines event (answer_unless_refused None (event_step event w.ends)) ≡ new → Reaches channel s z (ls ++ new)
+  by_event event z new fresh none benign e e' = rw (e, e') at (one_more event none benign (rw e fresh))
+
+  abbrev Called : Sapi → Role → Call → Type 0
+  Called t r call = Reaches channel s (acted r t (call_outcome call (end_of r t w)) w)
+      (ls ++ Asked r t call ∷ map (Notified r t) (call_outcome call (end_of r t w)).notices)
 
   -- the endpoint carries out a call
-  pub calls : (r : Role) (s : Sapi) (call : Call) → IsPlaced r s call → refusal_of call (end_of r s w) ≡ None →
-      Reaches channel (acted r s (call_outcome call (end_of r s w)) w)
+  pub calls : (r : Role) (call : Call) → IsPlaced r s call → refusal_of call (end_of r s w) ≡ None →
+      Reaches channel s (acted r s (call_outcome call (end_of r s w)) w)
       (ls ++ Asked r s call ∷ map (Notified r s) (call_outcome call (end_of r s w)).notices)
-  calls Mobile Zero (Opens info) placed ok = by_event (Open info) _ _ (rw (h.room, ok) refl) tt refl refl
-  calls r s (Opens info) placed ok = absurd (grind arith)
-  calls r Three OpensWithoutInfo placed ok = by_event (OpenBare r) _ _ (rw (h.room, ok) refl) tt refl refl
-  calls r Zero OpensWithoutInfo placed ok = absurd (grind arith)
-  calls r s (Sends m) placed ok = by_event (Ask r s (Send m)) _ _ (rw (h.room, ok) refl) tt refl refl
-  calls r s (SendsUi m) placed ok = by_event (Ask r s (SendUi m)) _ _ (rw (h.room, ok) refl) tt refl refl
-  calls r s Closes placed ok = by_event (Ask r s Close) _ _ (rw (h.room, ok) refl) tt refl refl
-  calls r s T200Expires placed ok = by_event (Ask r s T200Expiry) _ _ (rw (h.room, ok) refl) tt refl refl
-  calls r s Repeats placed ok = by_event (Ask r s Repeat) _ _ (rw (h.room, ok) refl) tt refl refl
-  calls r s SendsFillFrame placed ok = by_event (Ask r s Idle) _ _ (rw h.room refl) tt refl refl
+  calls r call placed ok = by_call s r call (fresh-calls h.fresh r call placed ok) placed ok
+    where
+      by_call : (t : Sapi) (r : Role) (call : Call) → IsFresh s (acted r t (call_outcome call (end_of r t w)) w) → IsPlaced r t call →
+          refusal_of call (end_of r t w) ≡ None → Called t r call
+      by_call Zero Mobile (Opens info) fresh placed ok = by_event (Open info) _ _ fresh (rw (h.room, ok) refl) tt refl refl
+      by_call t r (Opens info) fresh placed ok = absurd (grind arith)
+      by_call Three r OpensWithoutInfo fresh placed ok = by_event (OpenBare r) _ _ fresh (rw (h.room, ok) refl) tt refl refl
+      by_call Zero r OpensWithoutInfo fresh placed ok = absurd (grind arith)
+      by_call t r (Sends m) fresh placed ok = by_event (Ask r t (Send m)) _ _ fresh (rw (h.room, ok) refl) tt refl refl
+      by_call t r (SendsUi m) fresh placed ok = by_event (Ask r t (SendUi m)) _ _ fresh (rw (h.room, ok) refl) tt refl refl
+      by_call t r Closes fresh placed ok = by_event (Ask r t Close) _ _ fresh (rw (h.room, ok) refl) tt refl refl
+      by_call t r T200Expires fresh placed ok = by_event (Ask r t T200Expiry) _ _ fresh (rw (h.room, ok) refl) tt refl refl
+      by_call t r Repeats fresh placed ok = by_event (Ask r t Repeat) _ _ fresh (rw (h.room, ok) refl) tt refl refl
+      by_call t r SendsFillFrame fresh placed ok = by_event (Ask r t Idle) _ _ fresh (rw h.room refl) tt refl refl
+
+  abbrev taken : Sapi → Role → Frame → World
+  taken t r f = acted r t (frame_outcome f (end_of r t w)) (without_oldest_item (other r) w)
 
   -- the oldest frame in transit, or an RR in place of a REJ, arrives at the endpoint
-  pub takes : (r : Role) (s : Sapi) (f : Frame) → nat_eq f.sapi (sapi_number s) ≡ true →
-      IsOldestSentOrRrForRej (Some f) (way (other r) w) →
-      Reaches channel (acted r s (frame_outcome f (end_of r s w)) (without_oldest_item (other r) w))
+  pub takes : (r : Role) (f : Frame) → nat_eq f.sapi (sapi_number s) ≡ true → IsOldestSentOrRrForRej (Some f) (way (other r) w) →
+      Reaches channel s (acted r s (frame_outcome f (end_of r s w)) (without_oldest_item (other r) w))
       (ls ++ map (Notified r s) (frame_outcome f (end_of r s w)).notices)
-  takes Mobile Zero f on known = by_event (Deliver Network (Some f)) _ _ (rw h.room refl) known (rw on refl) (rw on refl)
-  takes Network Zero f on known = by_event (Deliver Mobile (Some f)) _ _ (rw h.room refl) known (rw on refl) (rw on refl)
-  takes r s f on known =
-      let no : nat_eq f.sapi 0 ≡ false = grind (arith, nat_tests) in
-      by_event (Deliver (other r) (Some f)) _ _ (rw h.room refl) known (rw (no, on) refl) (rw (no, on) refl)
+  takes r f on known =
+      by_end r s on known (fresh-takes h.fresh r f (way (other r) w) refl known (h.reported r s).role (h.reported r s).sapi
+      (h.reported r s).window_of_one)
+    where
+      by_end : (r : Role) (t : Sapi) → nat_eq f.sapi (sapi_number t) ≡ true → IsOldestSentOrRrForRej (Some f) (way (other r) w) →
+          IsFresh s (taken t r f) → Reaches channel s (taken t r f) (ls ++ map (Notified r t) (frame_outcome f (end_of r t w)).notices)
+      by_end Mobile Zero on known fresh =
+          by_event (Deliver Network (Some f)) _ _ fresh (rw h.room refl) known (rw on refl) (rw on refl)
+      by_end Network Zero on known fresh =
+          by_event (Deliver Mobile (Some f)) _ _ fresh (rw h.room refl) known (rw on refl) (rw on refl)
+      by_end r t on known fresh =
+          let no : nat_eq f.sapi 0 ≡ false = grind (arith, nat_tests) in
+          by_event (Deliver (other r) (Some f)) _ _ fresh (rw h.room refl) known (rw (no, on) refl) (rw (no, on) refl)
+
+  -- an endpoint in Idle was there before, and returns nothing for what arrives
+  pub silent : (r : Role) (f : Frame) → IsOldestSentOrRrForRej (Some f) (way (other r) w) →
+      (frame_outcome f (end_of r s w)).new_state.state ≡ S.Idle →
+      ((end_of r s w).state ≡ S.Idle) × ((frame_outcome f (end_of r s w)).frames ≡ [])
+  silent r f known e =
+      idle-silent h.fresh r f (way (other r) w) refl known (h.reported r s).role (h.reported r s).sapi (h.reported r s).window_of_one e
 
   -- the oldest frame in transit is lost
-  pub loses : (sender : Role) → Reaches channel (without_oldest_item sender w) ls
-  loses sender = rw append-nil at (by_event (Lose sender) _ [] (rw h.room refl) tt (none_sent (without_oldest_item sender w)) refl)
+  pub loses : (sender : Role) → Reaches channel s (without_oldest_item sender w) ls
+  loses sender = rw append-nil at (by_event (Lose sender) _ [] (fresh-loses h.fresh sender) (rw h.room refl) tt (none_sent (without_oldest_item sender w)) refl)
     where
       none_sent : (z : World) → with_frames Mobile [] z ≡ z
       none_sent z = rw append-nil refl

@@ -7,7 +7,6 @@ use Rattle.lapdm_frame.specs.Content.{Frame}
 use Rattle.lapdm_end.specs.lapdm_window.segmenting.Segments.{Message}
 use Rattle.lapdm_end.specs.lapdm_window.declared.Sapi.{Sapi}
 use Rattle.lapdm_end.specs.lapdm_window.declared.Sapi.TheVariants.{Zero, Three}
-use Rattle.lapdm_end.specs.lapdm_window.declared.State.TheVariants.{Idle}
 use Rattle.lapdm_end.specs.lapdm_window.Ends.{Role, Mobile, Network}
 use Rattle.lapdm_end.specs.lapdm_window.Calls.{Call, Opens, OpensWithoutInfo, Sends, SendsUi, Closes, IsCallAllowedFor, refusal_of}
 use Rattle.lapdm_link.specs.Queues.{Queues, empty_queues, queue_of, with_items_appended, without_oldest_item, IsOldestSentOrNone}
@@ -71,15 +70,11 @@ abbrev pub OpensNoClosedLink : (arrived : Option Frame) (state : DataLinkState) 
 OpensNoClosedLink None s = Unit {0}
 OpensNoClosedLink (Some f) s = IfSome (sapi_for_frame f s) (λ sapi. is_reopened_by_frame f (link_with_sapi sapi s) ≡ false)
 
--- a link in Idle owes no answer
-abbrev pub OwesNothingInIdle : LinkState → Type 0
-OwesNothingInIdle l = l.endpoint.state ≡ Idle → l.answer ≡ None
-
 -- The event is possible in this state: a call is one of layer 3 that the endpoint does not refuse, and a UI frame is sent in a free slot.
 -- Each link is opened once, by a call (an endpoint in Closed refuses it) or by a frame.
 abbrev pub IsPossible : RunEvent → RunState → Type 0
-IsPossible (Calls role sapi call) r = IsLayer3Call call × IsCallAllowedFor role sapi call
-    × (refusal_of call (link_at role sapi r).endpoint ≡ None) × OwesNothingInIdle (link_at role sapi r)
+IsPossible (Calls role sapi call) r =
+    IsLayer3Call call × IsCallAllowedFor role sapi call × (refusal_of call (link_at role sapi r).endpoint ≡ None)
 IsPossible (Slot role) r = Unit {0}
 IsPossible (UnitSlot role sapi m) r =
     let o = data_link_outcome (data_link_of role r) in
