@@ -1,25 +1,25 @@
 -- Each event of a run is, for each SAPI, a list of events of a session of `lapdm_link`, so the claims hold of the log of a run.
-use Rattle.lapdm_link.proofs.Lemmas.{◌≡◌, refl, sym, ap, ◌∙◌, arith, subst, ◌++◌, Bool, true, false, List, [], ◌∷◌, ◌⊎◌, inl, inr, ℕ}
+use Rattle.lapdm_link.proofs.Lemmas.{◌≡◌, refl, sym, ap, ◌∙◌, arith, ◌++◌, Bool, true, false, List, [], ◌∷◌, ℕ}
 use Rattle.lapdm_link.proofs.Lemmas.{map, append_assoc, append-nil, filter_map, filter_map-append, if◌then◌else◌, Option, Some, None}
-use Rattle.lapdm_link.proofs.Lemmas.{cons_option, Frame, Message, Role, Mobile, Network, Sapi, Zero, Three, Call, SendsUi, refusal_of, other}
+use Rattle.lapdm_link.proofs.Lemmas.{cons_option, Frame, Message, Role, Mobile, Network, Sapi, Zero, Three, Call, SendsUi, other}
 use Rattle.lapdm_link.proofs.Lemmas.{World, LogLine, Asked, Notified, Notice, is_same_sapi, is_on, each_way, Claims, AckedAtMostDelivered}
 use Rattle.lapdm_link.proofs.Lemmas.{delivery_by_link, counts_by_link, Channel, IsPlaced, nat_tests, drop, sapi_number}
 use Rattle.lapdm_link.specs.Claims.{log_lines_of_sapi}
-use Rattle.lapdm_link.specs.Queues.{Queues, queue_of, with_items_appended, without_oldest_item as without_oldest, IsOldestSentOrNone}
+use Rattle.lapdm_link.specs.Queues.{queue_of, without_oldest_item as without_oldest, IsOldestSentOrNone}
 use Rattle.std.specs.Prelude.{IfSome}
 use Rattle.lapdm_end.specs.lapdm_window.Calls.{IsCallAllowedFor}
 use Rattle.lapdm_datalink.specs.Links.{LinkState, SlotOutcome, after_call, after_frame, frame_notices, after_slot, slot_outcome, ui_frame}
 use Rattle.lapdm_datalink.specs.Links.{is_reopened_by_frame}
-use Rattle.lapdm_datalink.specs.DataLinks.{DataLinkState, link_with_sapi, with_link, having_main, having_heard, with_clocks_moved, with_sapi3}
-use Rattle.lapdm_datalink.specs.DataLinks.{DataLinkOutcome, data_link_outcome, sapi_for_frame, after_arrival, takes_sapi3, taken_by, notices_of_taking}
-use Rattle.lapdm_datalink.specs.Runs.{RunState, RunEvent, Calls, Slot, UnitSlot, Arrives, HasMain, IsPossible, IsRun, IsLayer3Call, run_log}
+use Rattle.lapdm_datalink.specs.DataLinks.{DataLinkState, link_with_sapi, with_link, having_main, with_clocks_moved, with_sapi3}
+use Rattle.lapdm_datalink.specs.DataLinks.{DataLinkOutcome, data_link_outcome, sapi_for_frame, after_arrival, taken_by}
+use Rattle.lapdm_datalink.specs.Runs.{RunState, RunEvent, Calls, Slot, UnitSlot, Arrives, HasMain, IsPossible, IsRun, run_log}
 use Rattle.lapdm_datalink.specs.Runs.{initial_run, data_link_of, with_data_link, link_at, after_event, event_lines, slot_lines, arrival_lines}
-use Rattle.lapdm_datalink.specs.Runs.{after_slot_of, after_arrival_at, with_frames_sent, taking_lines, OpensNoClosedLink}
+use Rattle.lapdm_datalink.specs.Runs.{after_slot_of, taking_lines, OpensNoClosedLink}
 use Rattle.lapdm_datalink.proofs.Lemmas.{passed}
 use Rattle.lapdm_datalink.proofs.RunsClaims.{seen, claims-seen, counts-seen}
 use Rattle.lapdm_datalink.proofs.RunsWorlds.{Reaches, at_start, start, reached_claims, reached_counts}
 use Rattle.lapdm_datalink.proofs.RunsQueues.{empty, pending}
-use Rattle.lapdm_datalink.proofs.RunsLinks.{LinkAt, Fits, IsSound, call_step, passes_slot, slot_step, slot-on, is_slot, unit_step, free-waits}
+use Rattle.lapdm_datalink.proofs.RunsLinks.{LinkAt, Fits, call_step, passes_slot, slot_step, slot-on, is_slot, unit_step, free-waits}
 use Rattle.lapdm_datalink.proofs.RunsLinks.{lose_step, take_step, own_sapi, on_own}
 
 -- ---- the frames and lines of one SAPI
@@ -213,15 +213,30 @@ module _ {channel : Channel} {c : RunState} {log : List LogLine} (r : Role) (all
       rw (on_f, append-nil (map (Notified r Zero) slot0.notices), notified-own r Zero slot0.notices) (rw e at (slot_step k0))
   slot_of (Some f) e Three =
       let on_f : is_on Zero f ≡ true = rw e at (slot_frame-on k0) in
-      rw (is_on-else Three Zero f refl on_f, append-nil (map (Notified r Zero) slot0.notices), notified-else r Three Zero slot0.notices refl,
-      append-nil (air_of r Three c), append-nil (log_lines_of_sapi Three log)) k3
+      rw (
+        is_on-else Three Zero f refl on_f,
+        append-nil (map (Notified r Zero) slot0.notices),
+        notified-else r Three Zero slot0.notices refl,
+        append-nil (air_of r Three c),
+        append-nil (log_lines_of_sapi Three log),
+      ) k3
   slot_of None e Zero =
-      rw (on-else Zero Three slot3.frame refl (slot_frame-on k3), lines-append Zero (map (Notified r Zero) slot0.notices)
-      (map (Notified r Three) slot3.notices), notified-own r Zero slot0.notices, notified-else r Zero Three slot3.notices refl,
-      append-nil (map (Notified r Zero) slot0.notices)) (rw e at (slot_step k0))
+      rw (
+        on-else Zero Three slot3.frame refl (slot_frame-on k3),
+        lines-append Zero (map (Notified r Zero) slot0.notices)
+            (map (Notified r Three) slot3.notices),
+        notified-own r Zero slot0.notices,
+        notified-else r Zero Three slot3.notices refl,
+        append-nil (map (Notified r Zero) slot0.notices),
+      ) (rw e at (slot_step k0))
   slot_of None e Three =
-      rw (on-own Three slot3.frame (slot_frame-on k3), lines-append Three (map (Notified r Zero) slot0.notices)
-      (map (Notified r Three) slot3.notices), notified-own r Three slot3.notices, notified-else r Three Zero slot0.notices refl) (slot_step k3)
+      rw (
+        on-own Three slot3.frame (slot_frame-on k3),
+        lines-append Three (map (Notified r Zero) slot0.notices)
+            (map (Notified r Three) slot3.notices),
+        notified-own r Three slot3.notices,
+        notified-else r Three Zero slot0.notices refl,
+      ) (slot_step k3)
 
   slot_link : (s : Sapi) → IsSlotOf s slot
   slot_link s = slot_of slot0.frame refl s
@@ -280,8 +295,11 @@ module _ {channel : Channel} {c : RunState} {log : List LogLine} (r : Role) (all
     unit_own =
         let k = unit_step (free_link t) m (free_of slot0.frame refl may.0 t) may.1 in
         sent_at {s = t} {air = air_of r t c ++ unit ∷ []} (unit ∷ []) unit_lines
-        (rw (lines-append t (slot_lines r c) (Asked r t (SendsUi m) ∷ []), same_sapi t,
-        ← append_assoc (log_lines_of_sapi t log) (log_lines_of_sapi t (slot_lines r c)) (Asked r t (SendsUi m) ∷ [])) k)
+        (rw (
+          lines-append t (slot_lines r c) (Asked r t (SendsUi m) ∷ []),
+          same_sapi t,
+          ← append_assoc (log_lines_of_sapi t log) (log_lines_of_sapi t (slot_lines r c)) (Asked r t (SendsUi m) ∷ []),
+        ) k)
         (rw unit-on refl)
 
     unit_else : (s : Sapi) → is_same_sapi s t ≡ false → At channel s (after_slot_of r (unit ∷ []) c) (log ++ unit_lines)

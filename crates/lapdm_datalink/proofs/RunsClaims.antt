@@ -1,11 +1,10 @@
 -- The claims hold of what layer 3 sees of a session if they hold of its whole log, in which T200 expires and frames are repeated.
 use Rattle.lapdm_link.proofs.Lemmas.{◌≡◌, refl, ap, ◌∙◌, arith, inl, inr, ◌&&◌, zero, suc, ◌++◌, Bool, true, false, List, []}
-use Rattle.lapdm_link.proofs.Lemmas.{◌∷◌, filter_map, length, if◌then◌else◌, Option, Some, None, Contains, cons_option}
-use Rattle.lapdm_link.proofs.Lemmas.{Role, Mobile, Network, Sapi, Zero, Three, Message, Call, T200Expires, Repeats, Opens, OpensWithoutInfo}
+use Rattle.lapdm_link.proofs.Lemmas.{◌∷◌, filter_map, if◌then◌else◌, Option, Some, None, Contains, cons_option}
+use Rattle.lapdm_link.proofs.Lemmas.{Role, Mobile, Network, Sapi, Zero, Three, Message, Call, T200Expires, Repeats}
 use Rattle.lapdm_link.proofs.Lemmas.{LogLine, Asked, is_same_role, is_same_sapi, notices_in_log, calls_in_log, message_sent_by_call}
 use Rattle.lapdm_link.proofs.Lemmas.{ui_message_of_call, OccursAfter, Claims, HasEstablishmentTrigger, AckedAtMostDelivered, other}
-use Rattle.lapdm_link.specs.Claims.{sent_messages, ui_messages_sent, acked_message_numbers, delivered_messages}
-use Rattle.lapdm_end.specs.lapdm_window.declared.Notice.TheVariants as N
+use Rattle.lapdm_link.specs.Claims.{sent_messages, ui_messages_sent}
 
 -- whether layer 3 sees this line: it is a notice or one of its own calls
 abbrev pub is_seen : LogLine → Bool

@@ -1,13 +1,12 @@
 -- While an endpoint is in Idle, the other end of its link sends it UI frames and SABMs alone. So an endpoint in Idle returns no answer.
-use Rattle.lapdm_link.proofs.Lemmas.{◌≡◌, refl, sym, ap, ◌∙◌, arith, ◌++◌, Bool, true, false, List, [], ◌∷◌, ◌⊎◌, inl, inr, drop, if◌then◌else◌}
-use Rattle.lapdm_link.proofs.Lemmas.{nat_eq, nat_tests, append-nil, Option, Some, None, Frame, Content, Sabm, Ui, Role, Mobile, Network, Sapi}
-use Rattle.lapdm_link.proofs.Lemmas.{Zero, Three, EndpointState, State, Idle, Opening, Closing, Closed, Outcome, Call, Opens, OpensWithoutInfo}
+use Rattle.lapdm_link.proofs.Lemmas.{◌≡◌, refl, sym, ◌∙◌, arith, Bool, true, false, List, [], ◌∷◌, drop}
+use Rattle.lapdm_link.proofs.Lemmas.{Some, None, Frame, Content, Sabm, Ui, Role, Mobile, Network, Sapi}
+use Rattle.lapdm_link.proofs.Lemmas.{Zero, Three, EndpointState, State, Idle, Opening, Closed, Outcome, Call, Opens, OpensWithoutInfo}
 use Rattle.lapdm_link.proofs.Lemmas.{Sends, SendsUi, Closes, T200Expires, Repeats, SendsFillFrame, call_outcome, refusal_of, frame_outcome}
 use Rattle.lapdm_link.proofs.Lemmas.{other, World, end_of, way, acted, without_oldest_item, AllOf, of-append, IsPlaced, HasWindowOfOne}
 use Rattle.lapdm_link.proofs.Lemmas.{end_of-acted, end_of-acted_else, way-acted, way-acted_other, other_is, taken-frame, Goes, remains, ends}
 use Rattle.lapdm_link.proofs.Lemmas.{closes, begins, opens, initial_world, Channel, QueueCapacity}
-use Rattle.lapdm_link.specs.Worlds.{IsOldestSentOrRrForRej, rej_replaced_by_rr}
-use Rattle.lapdm_end.specs.lapdm_window.declared.State.TheVariants.{Open}
+use Rattle.lapdm_link.specs.Worlds.{IsOldestSentOrRrForRej}
 use Rattle.lapdm_datalink.specs.DataLinks.{is_ui}
 
 -- whether the content may be in transit to an endpoint in Idle: UI, or a SABM that this end may receive

@@ -1,12 +1,12 @@
 -- The steps of one link in a run, each as events of a session of `lapdm_link`.
 use Rattle.lapdm_link.proofs.Lemmas.{◌≡◌, refl, sym, ap, ◌∙◌, arith, subst, ◌++◌, Bool, true, false, List, [], ◌∷◌, ◌&&◌, ◌⊎◌, inl, inr}
-use Rattle.lapdm_link.proofs.Lemmas.{not, map, nat_eq, nat_lt, append_assoc, append-nil, filter_map-append, if◌then◌else◌, Option, Some, None}
-use Rattle.lapdm_link.proofs.Lemmas.{cons_option, drop, Frame, Content, Ui, Channel, Role, Mobile, Network, Sapi, Zero, Three, EndpointState}
+use Rattle.lapdm_link.proofs.Lemmas.{map, nat_lt, append_assoc, append-nil, filter_map-append, if◌then◌else◌, Option, Some, None}
+use Rattle.lapdm_link.proofs.Lemmas.{cons_option, drop, Frame, Content, Ui, Channel, Role, Mobile, Network, Sapi, EndpointState}
 use Rattle.lapdm_link.proofs.Lemmas.{Outcome, Call, Opens, OpensWithoutInfo, Sends, SendsUi, Closes, T200Expires, Repeats, SendsFillFrame}
 use Rattle.lapdm_link.proofs.Lemmas.{call_outcome, refusal_of, frame_outcome, sends_frame, awaited_frame, sapi_number, other, World, end_of}
-use Rattle.lapdm_link.proofs.Lemmas.{way, acted, without_oldest_item, AllOf, AllFrames, IsForSapi, is_on, is_end, other_is, end_of-acted}
+use Rattle.lapdm_link.proofs.Lemmas.{way, acted, without_oldest_item, AllOf, AllFrames, IsForSapi, is_on, other_is, end_of-acted}
 use Rattle.lapdm_link.proofs.Lemmas.{end_of-acted_else, way-acted, way-acted_other, LogLine, Asked, Notified, Notice, HasWindowOfOne}
-use Rattle.lapdm_link.proofs.Lemmas.{Says, StepFacts, is_called, taken-frame, is_open, IsPlaced, Idle, State, n200, Closed}
+use Rattle.lapdm_link.proofs.Lemmas.{Says, is_called, taken-frame, IsPlaced, Idle, State, n200, Closed}
 use Rattle.lapdm_link.proofs.Lemmas.{Goes, remains, ends, closes, begins, opens, cause_of, IsReplyTo}
 use Rattle.lapdm_link.specs.Worlds.{rej_replaced_by_rr, IsOldestSentOrRrForRej}
 use Rattle.std.specs.Prelude.{IfSome}
@@ -15,21 +15,21 @@ use Rattle.lapdm_link.proofs.Lemmas.{is_idle-is, not_false, passes, single_frame
 use Rattle.lapdm_datalink.specs.Links.{is_closed, is_opening_call, afresh}
 use Rattle.lapdm_end.specs.lapdm_window.declared.Reason.TheVariants as R
 use Rattle.lapdm_end.specs.lapdm_window.Ends.{awaits_answer}
-use Rattle.lapdm_end.specs.lapdm_window.Tables.{Reply, reply_to_frame, outcome_of_reply, Nothing, SendsDm, SendsUa, AcceptsSabm}
-use Rattle.lapdm_end.specs.lapdm_window.Tables.{ConfirmsEstablishment, ClosesLink, AcceptsDisc, ReportsUiInformation, TakesIFrame, TakesRr}
+use Rattle.lapdm_end.specs.lapdm_window.Tables.{Reply, reply_to_frame, outcome_of_reply, Nothing, SendsDm, SendsUa}
+use Rattle.lapdm_end.specs.lapdm_window.Tables.{ReportsUiInformation, TakesIFrame, TakesRr}
 use Rattle.lapdm_end.specs.lapdm_window.Tables.{TakesRej}
-use Rattle.lapdm_end.specs.lapdm_window.declared.State.TheVariants.{Open, Opening, Closing}
-use Rattle.lapdm_end.specs.lapdm_window.Calls.{sabm, t200_expiry, IsCallAllowedFor}
+use Rattle.lapdm_end.specs.lapdm_window.declared.State.TheVariants.{Open, Opening}
+use Rattle.lapdm_end.specs.lapdm_window.Calls.{sabm, t200_expiry}
 use Rattle.lapdm_datalink.specs.Links.{LinkState, SlotOutcome, sabm_goes_first, is_opening, is_awaiting_kind, with_frame, with_frames}
-use Rattle.lapdm_datalink.specs.Links.{with_outcome, first_frame, after_call, after_frame, frame_notices, received_outcome, for_call, for_frame}
+use Rattle.lapdm_datalink.specs.Links.{with_outcome, first_frame, after_call, after_frame, frame_notices, received_outcome}
 use Rattle.lapdm_datalink.specs.Links.{is_reopened_by_call, is_reopened_by_frame, ignores, after_slot, slot_outcome, slot_outcome_owing, is_due}
 use Rattle.lapdm_datalink.specs.Links.{keeps_back, sends_due_frame, sends_nothing, sends_answer, sends_awaited, expires, ui_frame}
 use Rattle.lapdm_datalink.specs.Runs.{IsLayer3Call}
 use Rattle.lapdm_datalink.proofs.Lemmas.{endpoint_with_frames}
 use Rattle.lapdm_datalink.proofs.RunsClaims.{seen}
 use Rattle.lapdm_datalink.proofs.RunsWorlds.{Reaches, calls, takes, loses, silent}
-use Rattle.lapdm_datalink.proofs.RunsQueues.{IsSub, empty, kept, dropped, none, all, append, fewer, on_air, unsent, owed, pending, unsent-sent}
-use Rattle.lapdm_datalink.proofs.RunsQueues.{IsNoOpening, elsewhere, answers, pending-outcome, unsent-not}
+use Rattle.lapdm_datalink.proofs.RunsQueues.{IsSub, empty, kept, dropped, none, all, append, on_air, pending, unsent-sent}
+use Rattle.lapdm_datalink.proofs.RunsQueues.{IsNoOpening, elsewhere, answers, pending-outcome}
 
 -- what holds of each link: a frame that was not sent is due, the answer has the SAPI of the link, and a link in Idle owes none
 pub record IsSound (s : Sapi) (l : LinkState) : Type 0 where

@@ -1,13 +1,10 @@
 -- Frames in transit of one link: what is on the air and what waits is a subsequence of a queue of `lapdm_link`.
-use Rattle.lapdm_link.proofs.Lemmas.{◌≡◌, refl, sym, ap, ◌∙◌, arith, ◌++◌, Bool, true, false, List, [], ◌∷◌, ◌&&◌, not, nat_eq, append_assoc}
-use Rattle.lapdm_link.proofs.Lemmas.{append-nil, if◌then◌else◌, Option, Some, None, cons_option, drop, Frame, Role, Sapi, EndpointState}
-use Rattle.lapdm_link.proofs.Lemmas.{Outcome, other, World, end_of, way, without_oldest_item, AllOf, is_on, ℕ, inl, inr, ◌⊎◌}
-use Rattle.std.specs.Prelude.{IfSome}
-use Rattle.lapdm_frame.specs.declared.Channel.{Channel}
+use Rattle.lapdm_link.proofs.Lemmas.{◌≡◌, refl, arith, ◌++◌, Bool, true, false, List, [], ◌∷◌, ◌&&◌, append_assoc}
+use Rattle.lapdm_link.proofs.Lemmas.{append-nil, if◌then◌else◌, Some, cons_option, Frame}
+use Rattle.lapdm_link.proofs.Lemmas.{Outcome, AllOf}
 use Rattle.lapdm_end.specs.lapdm_window.Calls.{sabm}
-use Rattle.lapdm_datalink.specs.Links.{LinkState, sabm_goes_first, is_opening, is_awaiting_kind, with_frame, with_frames, with_outcome, first_frame}
+use Rattle.lapdm_datalink.specs.Links.{LinkState, sabm_goes_first, is_opening, is_awaiting_kind, with_frame, with_frames, with_outcome}
 use Rattle.lapdm_datalink.proofs.Lemmas.{endpoint_with_frames}
-use Rattle.lapdm_datalink.proofs.RunsWorlds.{Reaches, loses}
 
 -- ---- subsequences
 

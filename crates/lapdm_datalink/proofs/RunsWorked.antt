@@ -1,14 +1,12 @@
 -- A worked run: the mobile opens SAPI 0 and sends a message, and the first I frame is lost.
-use Rattle.std.proofs.Common.{◌≡◌, refl, ℕ, List, [], ◌∷◌, Option, Some, None}
+use Rattle.std.proofs.Common.{◌≡◌, refl, List, [], ◌∷◌, None}
 use Rattle.lapdm_frame.specs.declared.Channel.TheVariants.{Sdcch}
-use Rattle.lapdm_frame.specs.Content.{Frame}
-use Rattle.lapdm_end.specs.lapdm_window.declared.Sapi.{Sapi}
 use Rattle.lapdm_end.specs.lapdm_window.declared.Sapi.TheVariants.{Zero}
 use Rattle.lapdm_end.specs.lapdm_window.declared.Notice.TheVariants as N
 use Rattle.lapdm_end.specs.lapdm_window.Ends.{Role, Mobile, Network}
 use Rattle.lapdm_end.specs.lapdm_window.Calls.{Opens, Sends}
 use Rattle.lapdm_link.specs.Queues.{queue_of}
-use Rattle.lapdm_link.specs.Claims.{LogLine, Asked, Notified}
+use Rattle.lapdm_link.specs.Claims.{Asked, Notified}
 use Rattle.lapdm_datalink.specs.Links.{first_frame}
 use Rattle.lapdm_datalink.specs.Runs.{RunState, RunEvent, Calls, Slot, Arrives, initial_run, after_event, run_log}
 

@@ -1,9 +1,9 @@
 -- States of a session of `lapdm_link` with one event after another, in queues of unlimited length.
-use Rattle.lapdm_link.proofs.Lemmas.{◌≡◌, refl, ◌∙◌, arith, ◌++◌, Bool, true, false, List, [], ◌∷◌, map}
-use Rattle.lapdm_link.proofs.Lemmas.{nat_eq, nat_tests, append_assoc, append-nil, Option, Some, None, drop, Frame, Channel, Role, Mobile}
+use Rattle.lapdm_link.proofs.Lemmas.{◌≡◌, refl, ◌∙◌, arith, ◌++◌, true, false, List, [], ◌∷◌, map}
+use Rattle.lapdm_link.proofs.Lemmas.{nat_eq, nat_tests, append_assoc, append-nil, Some, None, Frame, Channel, Role, Mobile}
 use Rattle.lapdm_link.proofs.Lemmas.{Network, Sapi, Zero, Three, Call, Opens, OpensWithoutInfo, Sends, SendsUi, Closes, T200Expires, Repeats}
-use Rattle.lapdm_link.proofs.Lemmas.{SendsFillFrame, call_outcome, refusal_of, frame_outcome, sapi_number, Request, Send, Close, T200Expiry}
-use Rattle.lapdm_link.proofs.Lemmas.{Event, OpenBare, Ask, Deliver, Lose, other, endpoint_call_of, as_event_refusal, event_step}
+use Rattle.lapdm_link.proofs.Lemmas.{SendsFillFrame, call_outcome, refusal_of, frame_outcome, sapi_number, Send, Close, T200Expiry}
+use Rattle.lapdm_link.proofs.Lemmas.{Event, OpenBare, Ask, Deliver, Lose, other, event_step}
 use Rattle.lapdm_link.proofs.Lemmas.{LogLine, Asked, Notified, answer_log_lines, session_log, answer_unless_refused, answer, answers, World}
 use Rattle.lapdm_link.proofs.Lemmas.{initial_world, refusal, world_after, world_after_possible_refusal, Claims, AckedAtMostDelivered}
 use Rattle.lapdm_link.proofs.Lemmas.{end_of, way, acted, without_oldest_item, with_frames, IsPlaced, AllReported, in_order-step}
