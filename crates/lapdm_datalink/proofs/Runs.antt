@@ -13,14 +13,15 @@ use Rattle.lapdm_datalink.specs.Links.{is_reopened_by_frame}
 use Rattle.lapdm_datalink.specs.DataLinks.{DataLinkState, link_with_sapi, with_link, having_main, with_clocks_moved, with_sapi3}
 use Rattle.lapdm_datalink.specs.DataLinks.{DataLinkOutcome, data_link_outcome, sapi_for_frame, after_arrival, taken_by}
 use Rattle.lapdm_datalink.specs.Runs.{RunState, RunEvent, Calls, Slot, UnitSlot, Arrives, HasMain, IsPossible, IsRun, run_log}
-use Rattle.lapdm_datalink.specs.Runs.{initial_run, data_link_of, with_data_link, link_at, after_event, event_lines, slot_lines, arrival_lines}
+use Rattle.lapdm_datalink.specs.Runs.{initial_run, data_link_of, with_data_link, link_at, after_event, event_lines, slot_lines}
+use Rattle.lapdm_datalink.specs.Runs.{arrival_lines}
 use Rattle.lapdm_datalink.specs.Runs.{after_slot_of, taking_lines, OpensNoClosedLink}
 use Rattle.lapdm_datalink.proofs.Lemmas.{passed}
 use Rattle.lapdm_datalink.proofs.RunsClaims.{seen, claims-seen, counts-seen}
 use Rattle.lapdm_datalink.proofs.RunsWorlds.{Reaches, at_start, start, reached_claims, reached_counts}
 use Rattle.lapdm_datalink.proofs.RunsQueues.{empty, pending}
 use Rattle.lapdm_datalink.proofs.RunsLinks.{LinkAt, Fits, call_step, passes_slot, slot_step, slot-on, is_slot, unit_step, free-waits}
-use Rattle.lapdm_datalink.proofs.RunsLinks.{lose_step, take_step, own_sapi, on_own}
+use Rattle.lapdm_datalink.proofs.RunsLinks.{IsSound, lose_step, take_step, own_sapi, on_own}
 
 -- ---- the frames and lines of one SAPI
 
@@ -100,7 +101,8 @@ notified-own : (r : Role) (s : Sapi) (ns : List Notice) → log_lines_of_sapi s 
 notified-own r s [] = refl
 notified-own r s (n ∷ ns) = rw (same_sapi s) (ap (λ ls. Notified r s n ∷ ls) (notified-own r s ns))
 
-notified-else : (r : Role) (s t : Sapi) (ns : List Notice) → is_same_sapi s t ≡ false → log_lines_of_sapi s (map (Notified r t) ns) ≡ []
+notified-else : (r : Role) (s t : Sapi) (ns : List Notice) → is_same_sapi s t ≡ false →
+    log_lines_of_sapi s (map (Notified r t) ns) ≡ []
 notified-else r s t [] e = refl
 notified-else r s t (n ∷ ns) e = rw e (notified-else r s t ns e)
 
@@ -111,7 +113,8 @@ module _ {channel : Channel} {s : Sapi} {c : RunState} {log : List LogLine} (a :
   module _ (r : Role) (z : RunState) (lines : List LogLine) where
     goes_to : {air air' : List Frame} {l l' : LinkState} (new : List LogLine) →
         LinkAt channel s r air l air' l' (log_lines_of_sapi s log ++ new) → air ≡ air_of r s z → l ≡ link_at r s z →
-        air' ≡ air_of (other r) s z → l' ≡ link_at (other r) s z → log_lines_of_sapi s lines ≡ new → At channel s z (log ++ lines)
+        air' ≡ air_of (other r) s z → l' ≡ link_at (other r) s z → log_lines_of_sapi s lines ≡ new →
+        At channel s z (log ++ lines)
     goes_to new k e f e' f' g = of_link r z (log ++ lines) k e f e' f' (sym (lines-append s log lines ∙ rw g refl))
 
     unchanged : air_of r s c ≡ air_of r s z → link_at r s c ≡ link_at r s z → air_of (other r) s c ≡ air_of (other r) s z →
@@ -123,7 +126,8 @@ module _ {channel : Channel} {s : Sapi} {c : RunState} {log : List LogLine} (a :
 air-kept : (q r : Role) (s : Sapi) (d : DataLinkState) (c : RunState) → air_of q s c ≡ air_of q s (with_data_link r d c)
 air-kept q r s d c = ap (λ ws. on s (queue_of q ws)) (sym (replaced-air r d c))
 
-peer-kept : (r : Role) (s : Sapi) (d : DataLinkState) (c : RunState) → link_at (other r) s c ≡ link_at (other r) s (with_data_link r d c)
+peer-kept : (r : Role) (s : Sapi) (d : DataLinkState) (c : RunState) →
+    link_at (other r) s c ≡ link_at (other r) s (with_data_link r d c)
 peer-kept r s d c = ap (link_with_sapi s) (sym (replaced-other r d c))
 
 placed : (r : Role) (s : Sapi) (call : Call) → IsCallAllowedFor r s call → IsPlaced r s call
@@ -165,7 +169,8 @@ on-own s (Some f) h = rw h refl
 is_on-else : (s t : Sapi) (f : Frame) → is_same_sapi s t ≡ false → is_on t f ≡ true → is_on s f ≡ false
 is_on-else s t f e h = grind (arith, nat_tests)
 
-on-else : (s t : Sapi) (a : Option Frame) → is_same_sapi s t ≡ false → IfSome a (λ f. is_on t f ≡ true) → on s (cons_option a []) ≡ []
+on-else : (s t : Sapi) (a : Option Frame) → is_same_sapi s t ≡ false → IfSome a (λ f. is_on t f ≡ true) →
+    on s (cons_option a []) ≡ []
 on-else s t None e h = refl
 on-else s t (Some f) e h = rw (is_on-else s t f e h) refl
 
@@ -242,7 +247,8 @@ module _ {channel : Channel} {c : RunState} {log : List LogLine} (r : Role) (all
   slot_link s = slot_of slot0.frame refl s
 
   -- the run after the slot, in which these frames are sent
-  sent_at : {s : Sapi} {air : List Frame} (fs : List Frame) (lines : List LogLine) → LinkAt channel s r air (link_with_sapi s slot.new_state)
+  sent_at : {s : Sapi} {air : List Frame} (fs : List Frame) (lines : List LogLine) →
+      LinkAt channel s r air (link_with_sapi s slot.new_state)
       (air_of (other r) s c) (link_at (other r) s c) (log_lines_of_sapi s log ++ log_lines_of_sapi s lines) →
       air ≡ air_of r s c ++ on s fs → At channel s (after_slot_of r fs c) (log ++ lines)
   sent_at {s} fs lines k e =
@@ -305,7 +311,8 @@ module _ {channel : Channel} {c : RunState} {log : List LogLine} (r : Role) (all
     unit_else : (s : Sapi) → is_same_sapi s t ≡ false → At channel s (after_slot_of r (unit ∷ []) c) (log ++ unit_lines)
     unit_else s e =
         sent_at {s = s} {air = air_of r s c} (unit ∷ []) unit_lines
-        (rw (lines-append s (slot_lines r c) (Asked r t (SendsUi m) ∷ []), e, append-nil (log_lines_of_sapi s (slot_lines r c))) (free_link s))
+        (rw (lines-append s (slot_lines r c) (Asked r t (SendsUi m) ∷ []), e, append-nil (log_lines_of_sapi s (slot_lines r c)))
+        (free_link s))
         (rw (is_on-else s t unit e unit-on, append-nil) refl)
 
   unit_at : (t : Sapi) (m : Message) → IsPossible (UnitSlot r t m) c →
@@ -356,7 +363,8 @@ module _ {channel : Channel} {c : RunState} {log : List LogLine} (r : Role) (all
     gone : link_with_sapi s (data_link_of r c) ≡ link_with_sapi s d → (fs : List Frame) → q ≡ fs → (lines : List LogLine) →
         log_lines_of_sapi s lines ≡ [] → At channel s (arrived_at r d c) (log ++ lines)
     gone same [] e lines silent =
-        unchanged (all s) r (arrived_at r d c) lines (sym (arrived-air r d s c)) (same ∙ sym (ap (link_with_sapi s) (arrived-own r d s c)))
+        unchanged (all s) r (arrived_at r d c) lines (sym (arrived-air r d s c))
+        (same ∙ sym (ap (link_with_sapi s) (arrived-own r d s c)))
         (ap (on s) e ∙ left [] (ap (λ xs. drop 1 xs) e)) (sym (ap (link_with_sapi s) (arrived-peer r d s c))) silent
     gone same (f ∷ fs) e lines silent = by_on (is_on s f) refl
       where
@@ -370,10 +378,12 @@ module _ {channel : Channel} {c : RunState} {log : List LogLine} (r : Role) (all
         by_on false on_f =
             unchanged (all s) r (arrived_at r d c) lines (sym (arrived-air r d s c))
             (same ∙ sym (ap (link_with_sapi s) (arrived-own r d s c)))
-            (ap (on s) e ∙ on-there s f fs on_f ∙ left fs (ap (λ xs. drop 1 xs) e)) (sym (ap (link_with_sapi s) (arrived-peer r d s c))) silent
+            (ap (on s) e ∙ on-there s f fs on_f ∙ left fs (ap (λ xs. drop 1 xs) e))
+            (sym (ap (link_with_sapi s) (arrived-peer r d s c))) silent
 
     -- the link takes the frame
-    takes_own : (f : Frame) (fs : List Frame) → q ≡ f ∷ fs → is_on s f ≡ true → is_reopened_by_frame f (link_at r s c) ≡ false →
+    takes_own : (f : Frame) (fs : List Frame) → q ≡ f ∷ fs → is_on s f ≡ true →
+        is_reopened_by_frame f (link_at r s c) ≡ false →
         after_frame f (link_at r s c) ≡ link_with_sapi s d →
         At channel s (arrived_at r d c) (log ++ map (Notified r s) (frame_notices f (link_at r s c)))
     takes_own f fs e on_f once is =
@@ -438,11 +448,14 @@ run_at [] c log all run = (c, rw append-nil all)
 run_at (event ∷ events) c log all run =
     rw (← append_assoc) (run_at events (after_event event c) (log ++ event_lines event c) (step_at all event run.0) run.1)
 
+new_link_sound : {s : Sapi} {l : LinkState} → l.clock ≡ 0 → l.answer ≡ None → IsSound s l
+new_link_sound zero none = record { clock = λ e. zero; answer = rw none tt; idle = λ e. none }
+
 initial_fits : (channel : Channel) (t200 : Role → Sapi → ℕ) (s : Sapi) (r : Role) →
     Fits r s (air_of r s (initial_run channel t200)) (link_at r s (initial_run channel t200)) (start channel)
-initial_fits channel t200 Zero Mobile = record { endpoint = refl; queue = empty; sound = record { clock = λ e. refl; answer = tt; idle = λ e. refl } }
-initial_fits channel t200 Three Mobile = record { endpoint = refl; queue = empty; sound = record { clock = λ e. refl; answer = tt; idle = λ e. refl } }
-initial_fits channel t200 s r = record { endpoint = refl; queue = empty; sound = record { clock = λ e. refl; answer = tt; idle = λ e. refl } }
+initial_fits channel t200 Zero Mobile = record { endpoint = refl; queue = empty; sound = new_link_sound refl refl }
+initial_fits channel t200 Three Mobile = record { endpoint = refl; queue = empty; sound = new_link_sound refl refl }
+initial_fits channel t200 s r = record { endpoint = refl; queue = empty; sound = new_link_sound refl refl }
 
 initial_at : (channel : Channel) (t200 : Role → Sapi → ℕ) → IsAt channel (initial_run channel t200) []
 initial_at channel t200 s = record {

@@ -1,6 +1,6 @@
 -- The claims hold of what layer 3 sees of a session if they hold of its whole log, in which T200 expires and frames are repeated.
-use Rattle.lapdm_link.proofs.Lemmas.{◌≡◌, refl, ap, ◌∙◌, arith, inl, inr, ◌&&◌, zero, suc, ◌++◌, Bool, true, false, List, []}
-use Rattle.lapdm_link.proofs.Lemmas.{◌∷◌, filter_map, if◌then◌else◌, Option, Some, None, Contains, cons_option}
+use Rattle.lapdm_link.proofs.Lemmas.{◌≡◌, refl, ap, ◌∙◌, arith, inl, inr, ◌&&◌, zero, suc, ◌++◌, Bool, true, false}
+use Rattle.lapdm_link.proofs.Lemmas.{List, [], ◌∷◌, filter_map, if◌then◌else◌, Option, Some, None, Contains, cons_option}
 use Rattle.lapdm_link.proofs.Lemmas.{Role, Mobile, Network, Sapi, Zero, Three, Message, Call, T200Expires, Repeats}
 use Rattle.lapdm_link.proofs.Lemmas.{LogLine, Asked, is_same_role, is_same_sapi, notices_in_log, calls_in_log, message_sent_by_call}
 use Rattle.lapdm_link.proofs.Lemmas.{ui_message_of_call, OccursAfter, Claims, HasEstablishmentTrigger, AckedAtMostDelivered, other}
@@ -57,6 +57,10 @@ module _ (r : Role) (s : Sapi) where
 abbrev pub StandsBehind : (before : List LogLine) (l : LogLine) (ls : List LogLine) → Type 0
 StandsBehind before l ls = (past : List LogLine) × (seen past ≡ before) × OccursAfter past l ls
 
+pushed : (k : LogLine) (past : List LogLine) (l : LogLine) (ks : List LogLine) → OccursAfter past l ks →
+    OccursAfter (k ∷ past) l (k ∷ ks)
+pushed k past l ks h = (h.0, ap (λ xs. k ∷ xs) h.1)
+
 stands-behind : (before : List LogLine) (l : LogLine) (more ls : List LogLine) → before ++ l ∷ more ≡ seen ls →
     StandsBehind before l ls
 stands-behind [] l more [] h = absurd cc
@@ -66,12 +70,12 @@ stands-behind before l more (k ∷ ks) h = by_seen (λ xs g. stands-behind xs l 
     by_seen : ((xs : List LogLine) → xs ++ l ∷ more ≡ seen ks → StandsBehind xs l ks) → (b : Bool) → is_seen k ≡ b →
         (before : List LogLine) → before ++ l ∷ more ≡ seen (k ∷ ks) → StandsBehind before l (k ∷ ks)
     by_seen later false e before h =
-        let t = later before (rw e at h) in (k ∷ t.0, rw e t.1, (t.2.0, ap (λ xs. k ∷ xs) t.2.1))
+        let t = later before (rw e at h) in (k ∷ t.0, rw e t.1, pushed k t.0 l ks t.2)
     by_seen later true e [] h = let g : l ∷ more ≡ k ∷ seen ks = rw e at h in ([], refl, (ks, cc))
     by_seen later true e (b ∷ bs) h =
         let g : b ∷ (bs ++ l ∷ more) ≡ k ∷ seen ks = rw e at h in
         let t = later bs cc in
-        (k ∷ t.0, rw (e, t.1) cc, (t.2.0, ap (λ xs. k ∷ xs) t.2.1))
+        (k ∷ t.0, rw (e, t.1) cc, pushed k t.0 l ks t.2)
 
 -- ---- the cause of an establishment is seen
 

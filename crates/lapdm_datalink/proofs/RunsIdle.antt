@@ -4,8 +4,8 @@ use Rattle.lapdm_link.proofs.Lemmas.{Some, None, Frame, Content, Sabm, Ui, Role,
 use Rattle.lapdm_link.proofs.Lemmas.{Zero, Three, EndpointState, State, Idle, Opening, Closed, Outcome, Call, Opens, OpensWithoutInfo}
 use Rattle.lapdm_link.proofs.Lemmas.{Sends, SendsUi, Closes, T200Expires, Repeats, SendsFillFrame, call_outcome, refusal_of, frame_outcome}
 use Rattle.lapdm_link.proofs.Lemmas.{other, World, end_of, way, acted, without_oldest_item, AllOf, of-append, IsPlaced, HasWindowOfOne}
-use Rattle.lapdm_link.proofs.Lemmas.{end_of-acted, end_of-acted_else, way-acted, way-acted_other, other_is, taken-frame, Goes, remains, ends}
-use Rattle.lapdm_link.proofs.Lemmas.{closes, begins, opens, initial_world, Channel, QueueCapacity}
+use Rattle.lapdm_link.proofs.Lemmas.{end_of-acted, end_of-acted_else, way-acted, way-acted_other, other_is, taken-frame, Goes, remains}
+use Rattle.lapdm_link.proofs.Lemmas.{ends, closes, begins, opens, initial_world, Channel, QueueCapacity}
 use Rattle.lapdm_link.specs.Worlds.{IsOldestSentOrRrForRej}
 use Rattle.lapdm_datalink.specs.DataLinks.{is_ui}
 
@@ -92,7 +92,8 @@ module _ (x : EndpointState) where
       by_kind (begins opening a n) = absurd a
       by_kind (opens n now e by) = absurd cc
 
-  idle-frame : (r : Role) (s : Sapi) (f : Frame) → x.role ≡ r → x.sapi ≡ s → x.state ≡ Idle → is_early r s f.content ≡ true →
+  idle-frame : (r : Role) (s : Sapi) (f : Frame) → x.role ≡ r → x.sapi ≡ s → x.state ≡ Idle →
+      is_early r s f.content ≡ true →
       (frame_outcome f x).new_state.state ≡ Idle → (frame_outcome f x).frames ≡ []
   idle-frame r s f role sapi idle early h = grind arith
 
@@ -149,7 +150,8 @@ module _ {s : Sapi} {w : World} (h : IsFresh s w) (r : Role) where
       (λ e. (let g = idle-call (end_of r s w) call ok e in ((fresh_at r h).0 g.0, g.1)))
       (λ e. (let g = (fresh_at r h).1 e in let t = early-call (end_of r s w) r s call placed ok g.state in (g, t.0, t.1)))
 
-  early-read : (f g : Frame) (fs : List Frame) (q : Role) → IsOldestSentOrRrForRej (Some g) (f ∷ fs) → is_early q s f.content ≡ true →
+  early-read : (f g : Frame) (fs : List Frame) (q : Role) → IsOldestSentOrRrForRej (Some g) (f ∷ fs) →
+      is_early q s f.content ≡ true →
       is_early q s g.content ≡ true
   early-read f g fs q read e = grind arith
 

@@ -1,8 +1,9 @@
 -- The steps of one link in a run, each as events of a session of `lapdm_link`.
-use Rattle.lapdm_link.proofs.Lemmas.{◌≡◌, refl, sym, ap, ◌∙◌, arith, subst, ◌++◌, Bool, true, false, List, [], ◌∷◌, ◌&&◌, ◌⊎◌, inl, inr}
-use Rattle.lapdm_link.proofs.Lemmas.{map, nat_lt, append_assoc, append-nil, filter_map-append, if◌then◌else◌, Option, Some, None}
-use Rattle.lapdm_link.proofs.Lemmas.{cons_option, drop, Frame, Content, Ui, Channel, Role, Mobile, Network, Sapi, EndpointState}
-use Rattle.lapdm_link.proofs.Lemmas.{Outcome, Call, Opens, OpensWithoutInfo, Sends, SendsUi, Closes, T200Expires, Repeats, SendsFillFrame}
+use Rattle.lapdm_link.proofs.Lemmas.{◌≡◌, refl, sym, ap, ◌∙◌, arith, subst, ◌++◌, Bool, true, false, List, [], ◌∷◌}
+use Rattle.lapdm_link.proofs.Lemmas.{◌&&◌, ◌⊎◌, inl, inr, ℕ, ◌+◌, map, nat_lt, append_assoc, append-nil, filter_map-append}
+use Rattle.lapdm_link.proofs.Lemmas.{if◌then◌else◌, Option, Some, None, cons_option, drop, Frame, Content, Ui, Channel, Role, Mobile}
+use Rattle.lapdm_link.proofs.Lemmas.{Network, Sapi, EndpointState, Outcome, Call, Opens, OpensWithoutInfo, Sends}
+use Rattle.lapdm_link.proofs.Lemmas.{SendsUi, Closes, T200Expires, Repeats, SendsFillFrame}
 use Rattle.lapdm_link.proofs.Lemmas.{call_outcome, refusal_of, frame_outcome, sends_frame, awaited_frame, sapi_number, other, World, end_of}
 use Rattle.lapdm_link.proofs.Lemmas.{way, acted, without_oldest_item, AllOf, AllFrames, IsForSapi, is_on, other_is, end_of-acted}
 use Rattle.lapdm_link.proofs.Lemmas.{end_of-acted_else, way-acted, way-acted_other, LogLine, Asked, Notified, Notice, HasWindowOfOne}
@@ -10,7 +11,7 @@ use Rattle.lapdm_link.proofs.Lemmas.{Says, is_called, taken-frame, IsPlaced, Idl
 use Rattle.lapdm_link.proofs.Lemmas.{Goes, remains, ends, closes, begins, opens, cause_of, IsReplyTo}
 use Rattle.lapdm_link.specs.Worlds.{rej_replaced_by_rr, IsOldestSentOrRrForRej}
 use Rattle.std.specs.Prelude.{IfSome}
-use Rattle.lapdm_link.proofs.Lemmas.{ℕ, ◌+◌, closes_and_reports, may_send_next_segment, with_queued_message, sends_segment, no_effect}
+use Rattle.lapdm_link.proofs.Lemmas.{closes_and_reports, may_send_next_segment, with_queued_message, sends_segment, no_effect}
 use Rattle.lapdm_link.proofs.Lemmas.{is_idle-is, not_false, passes, single_frame_refusal_checks}
 use Rattle.lapdm_datalink.specs.Links.{is_closed, is_opening_call, afresh}
 use Rattle.lapdm_end.specs.lapdm_window.declared.Reason.TheVariants as R
@@ -22,8 +23,8 @@ use Rattle.lapdm_end.specs.lapdm_window.declared.State.TheVariants.{Open, Openin
 use Rattle.lapdm_end.specs.lapdm_window.Calls.{sabm, t200_expiry}
 use Rattle.lapdm_datalink.specs.Links.{LinkState, SlotOutcome, sabm_goes_first, is_opening, is_awaiting_kind, with_frame, with_frames}
 use Rattle.lapdm_datalink.specs.Links.{with_outcome, first_frame, after_call, after_frame, frame_notices, received_outcome}
-use Rattle.lapdm_datalink.specs.Links.{is_reopened_by_call, is_reopened_by_frame, ignores, after_slot, slot_outcome, slot_outcome_owing, is_due}
-use Rattle.lapdm_datalink.specs.Links.{keeps_back, sends_due_frame, sends_nothing, sends_answer, sends_awaited, expires, ui_frame}
+use Rattle.lapdm_datalink.specs.Links.{is_reopened_by_call, is_reopened_by_frame, ignores, after_slot, slot_outcome, slot_outcome_owing}
+use Rattle.lapdm_datalink.specs.Links.{is_due, keeps_back, sends_due_frame, sends_nothing, sends_answer, sends_awaited, expires, ui_frame}
 use Rattle.lapdm_datalink.specs.Runs.{IsLayer3Call}
 use Rattle.lapdm_datalink.proofs.Lemmas.{endpoint_with_frames}
 use Rattle.lapdm_datalink.proofs.RunsClaims.{seen}
@@ -253,6 +254,11 @@ module _ (l : LinkState) where
 awaited-own : (p : Bool) (st : State) (e : EndpointState) → (awaited_frame p st e).sapi ≡ sapi_number e.sapi
 awaited-own p st e = grind arith
 
+awaited-on : (s : Sapi) (l : LinkState) → l.endpoint.sapi ≡ s → (p : Bool) →
+    is_on s (awaited_frame p l.endpoint.state l.endpoint) ≡ true
+awaited-on s l same p =
+    on_own s (awaited_frame p l.endpoint.state l.endpoint) (awaited-own p l.endpoint.state l.endpoint ∙ ap sapi_number same)
+
 awaited-sabm : (p : Bool) (st : State) (e : EndpointState) → is_opening st ≡ true → awaited_frame p st e ≡ sabm e
 awaited-sabm p Opening e h = refl
 awaited-sabm p st e h = absurd cc
@@ -264,17 +270,16 @@ first-some (f ∷ fs) = kept (none fs)
 -- the frame that a link sends in a slot has its SAPI
 pub slot-on : (s : Sapi) (l : LinkState) (o : SlotOutcome) → l.endpoint.sapi ≡ s → IsSound s l → IsSlot l o →
     IfSome o.frame (λ f. is_on s f ≡ true)
-slot-on s l o same h (sabm_first opening first) = on_own s (awaited_frame false l.endpoint.state l.endpoint) (awaited-own false l.endpoint.state l.endpoint ∙ ap sapi_number same)
+slot-on s l o same h (sabm_first opening first) = awaited-on s l same false
 slot-on s l o same h (idles first owes_none) = tt
 slot-on s l o same h (answering f first owes) = rw owes at h.answer
-slot-on s l o same h (repeating awaits) = on_own s (awaited_frame false l.endpoint.state l.endpoint) (awaited-own false l.endpoint.state l.endpoint ∙ ap sapi_number same)
+slot-on s l o same h (repeating awaits) = awaited-on s l same false
 slot-on s l o same h (expiring awaits sent) = by_count (nat_lt l.endpoint.retries (n200 l.endpoint.channel l.endpoint.state))
   where
     by_count : (b : Bool) → IfSome (first_frame (if b then sends_frame (awaited_frame true l.endpoint.state l.endpoint)
         (record l.endpoint { retries = l.endpoint.retries + 1 }) else closes_and_reports R.Failed l.endpoint).frames)
         (λ f. is_on s f ≡ true)
-    by_count true = on_own s (awaited_frame true l.endpoint.state l.endpoint)
-        (awaited-own true l.endpoint.state l.endpoint ∙ ap sapi_number same)
+    by_count true = awaited-on s l same true
     by_count false = tt
 
 module _ {channel : Channel} {s : Sapi} {r : Role} {air air' : List Frame} {l l' : LinkState} {log : List LogLine}
@@ -315,7 +320,8 @@ module _ (l : LinkState) where
   not_reopened : (call : Call) → refusal_of call l.endpoint ≡ None → is_reopened_by_call call l ≡ false
   not_reopened call ok = by_state l.endpoint.state refl call ok
     where
-      by_state : (st : State) → l.endpoint.state ≡ st → (call : Call) → refusal_of call (record l.endpoint { state = st }) ≡ None →
+      by_state : (st : State) → l.endpoint.state ≡ st → (call : Call) →
+          refusal_of call (record l.endpoint { state = st }) ≡ None →
           (is_closed st && is_opening_call call) ≡ false
       by_state Closed e OpensWithoutInfo ok = absurd cc
       by_state Closed e call ok = refl
@@ -361,7 +367,8 @@ module _ (l : LinkState) where
 
   -- ---- received frames
 
-  open-stays : (c : Content) (o : Outcome) → Goes None c l.endpoint o → l.endpoint.state ≡ Open → is_opening o.new_state.state ≡ false
+  open-stays : (c : Content) (o : Outcome) → Goes None c l.endpoint o → l.endpoint.state ≡ Open →
+      is_opening o.new_state.state ≡ false
   open-stays c o (remains same e n) is_now = rw (same, is_now) refl
   open-stays c o (ends over e n) is_now = rw over refl
   open-stays c o (closes now closing e n) is_now = rw closing refl

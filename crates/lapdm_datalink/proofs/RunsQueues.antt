@@ -81,7 +81,8 @@ module _ (air : List Frame) where
   owed-frames : (fs : List Frame) (l : LinkState) (q : List Frame) → IsSub (air ++ owed l) q →
       IsSub (air ++ owed (with_frames fs l)) (q ++ fs)
   owed-frames [] l q h = rw append-nil h
-  owed-frames (f ∷ fs) l q h = rw (one_on fs f q) at (owed-frames fs (with_frame f l) (q ++ f ∷ []) (by_kind (is_awaiting_kind f.content)))
+  owed-frames (f ∷ fs) l q h = rw (one_on fs f q) at
+      (owed-frames fs (with_frame f l) (q ++ f ∷ []) (by_kind (is_awaiting_kind f.content)))
     where
       by_kind : (b : Bool) →
           IsSub (air ++ owed (if b then record l { is_sent = false; clock = 0 } else record l { answer = Some f })) (q ++ f ∷ [])
@@ -105,8 +106,8 @@ module _ (air : List Frame) where
       by_kind true e later = absurd cc
       by_kind false e later = later
 
-  owed-outcome : (o : Outcome) (l : LinkState) (q : List Frame) → is_opening o.new_state.state ≡ false → IsSub (air ++ pending l) q →
-      IsSub (air ++ pending (with_outcome o l)) (q ++ o.frames)
+  owed-outcome : (o : Outcome) (l : LinkState) (q : List Frame) → is_opening o.new_state.state ≡ false →
+      IsSub (air ++ pending l) q → IsSub (air ++ pending (with_outcome o l)) (q ++ o.frames)
   owed-outcome o l q e h =
       let m : LinkState = record l { endpoint = o.new_state } in
       let z : LinkState = with_outcome o l in

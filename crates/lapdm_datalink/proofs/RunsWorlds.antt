@@ -1,8 +1,8 @@
 -- States of a session of `lapdm_link` with one event after another, in queues of unlimited length.
 use Rattle.lapdm_link.proofs.Lemmas.{◌≡◌, refl, ◌∙◌, arith, ◌++◌, true, false, List, [], ◌∷◌, map}
 use Rattle.lapdm_link.proofs.Lemmas.{nat_eq, nat_tests, append_assoc, append-nil, Some, None, Frame, Channel, Role, Mobile}
-use Rattle.lapdm_link.proofs.Lemmas.{Network, Sapi, Zero, Three, Call, Opens, OpensWithoutInfo, Sends, SendsUi, Closes, T200Expires, Repeats}
-use Rattle.lapdm_link.proofs.Lemmas.{SendsFillFrame, call_outcome, refusal_of, frame_outcome, sapi_number, Send, Close, T200Expiry}
+use Rattle.lapdm_link.proofs.Lemmas.{Network, Sapi, Zero, Three, Call, Opens, OpensWithoutInfo, Sends, SendsUi, Closes, T200Expires}
+use Rattle.lapdm_link.proofs.Lemmas.{Repeats, SendsFillFrame, call_outcome, refusal_of, frame_outcome, sapi_number, Send, Close, T200Expiry}
 use Rattle.lapdm_link.proofs.Lemmas.{Event, OpenBare, Ask, Deliver, Lose, other, event_step}
 use Rattle.lapdm_link.proofs.Lemmas.{LogLine, Asked, Notified, answer_log_lines, session_log, answer_unless_refused, answer, answers, World}
 use Rattle.lapdm_link.proofs.Lemmas.{initial_world, refusal, world_after, world_after_possible_refusal, Claims, AckedAtMostDelivered}
@@ -27,7 +27,8 @@ benign-push : (events : List Event) (event : Event) (w : World) → IsBenignExce
 benign-push [] event w h g = (g, h)
 benign-push (e ∷ events) event w h g = (h.0, benign-push events event (world_after e w) h.1 g)
 
-log-push : (events : List Event) (event : Event) (w : World) → session_log (events ++ event ∷ []) (answers (events ++ event ∷ []) w) ≡
+log-push : (events : List Event) (event : Event) (w : World) →
+    session_log (events ++ event ∷ []) (answers (events ++ event ∷ []) w) ≡
     session_log events (answers events w) ++ answer_log_lines event (answer event (ran events w))
 log-push [] event w = append-nil _
 log-push (e ∷ events) event w = rw (log-push events event (world_after e w), append_assoc) refl
@@ -140,7 +141,9 @@ module _ {channel : Channel} {s : Sapi} {w : World} {ls : List LogLine} (h : Rea
 
   -- the oldest frame in transit is lost
   pub loses : (sender : Role) → Reaches channel s (without_oldest_item sender w) ls
-  loses sender = rw append-nil at (by_event (Lose sender) _ [] (fresh-loses h.fresh sender) (rw h.room refl) tt (none_sent (without_oldest_item sender w)) refl)
+  loses sender =
+      rw append-nil at (by_event (Lose sender) _ [] (fresh-loses h.fresh sender) (rw h.room refl) tt
+      (none_sent (without_oldest_item sender w)) refl)
     where
       none_sent : (z : World) → with_frames Mobile [] z ≡ z
       none_sent z = rw append-nil refl

@@ -40,7 +40,8 @@ pub fn law_i_frame_is_answered_in_the_next_slot()
 /// once, each side delivers a prefix of the messages that the other accepted for sending, and reports a message as acknowledged only after
 /// the other side has delivered it.
 pub fn law_data_links_deliver_in_order()
-    ensures delivery { (channel : Channel) (t200 : Role → Sapi → ℕ) (events : List RunEvent) → IsRun events (initial_run channel t200)
+    ensures delivery { (channel : Channel) (t200 : Role → Sapi → ℕ) (events : List RunEvent) →
+        IsRun events (initial_run channel t200)
         → Claims (run_log events (initial_run channel t200)) }
     ensures acked_at_most_delivered { (channel : Channel) (t200 : Role → Sapi → ℕ) (events : List RunEvent) →
         IsRun events (initial_run channel t200)
