@@ -3,7 +3,7 @@ use Rattle.lapdm_link.proofs.Lemmas.{◌≡◌, refl, sym, ap, ◌∙◌, arith,
 use Rattle.lapdm_link.proofs.Lemmas.{map, append_assoc, append-nil, filter_map, filter_map-append, if◌then◌else◌, Option, Some, None}
 use Rattle.lapdm_link.proofs.Lemmas.{cons_option, Frame, Message, Role, Mobile, Network, Sapi, Zero, Three, Call, SendsUi, other}
 use Rattle.lapdm_link.proofs.Lemmas.{World, LogLine, Asked, Notified, Notice, is_same_sapi, is_on, each_way, Claims, AckedAtMostDelivered}
-use Rattle.lapdm_link.proofs.Lemmas.{delivery_by_link, counts_by_link, Channel, IsPlaced, nat_tests, drop, sapi_number}
+use Rattle.lapdm_link.proofs.Lemmas.{HasNoticesInOrder, delivery_by_link, counts_by_link, order_by_link, Channel, IsPlaced, nat_tests, drop, sapi_number}
 use Rattle.lapdm_link.specs.Claims.{log_lines_of_sapi}
 use Rattle.lapdm_link.specs.Queues.{queue_of, without_oldest_item as without_oldest, IsOldestSentOrNone}
 use Rattle.std.specs.Prelude.{IfSome}
@@ -17,8 +17,8 @@ use Rattle.lapdm_datalink.specs.Runs.{initial_run, data_link_of, with_data_link,
 use Rattle.lapdm_datalink.specs.Runs.{arrival_lines}
 use Rattle.lapdm_datalink.specs.Runs.{after_slot_of, taking_lines, OpensNoClosedLink}
 use Rattle.lapdm_datalink.proofs.Lemmas.{passed}
-use Rattle.lapdm_datalink.proofs.RunsClaims.{seen, claims-seen, counts-seen}
-use Rattle.lapdm_datalink.proofs.RunsWorlds.{Reaches, at_start, start, reached_claims, reached_counts}
+use Rattle.lapdm_datalink.proofs.RunsClaims.{seen, claims-seen, counts-seen, order-seen}
+use Rattle.lapdm_datalink.proofs.RunsWorlds.{Reaches, at_start, start, reached_claims, reached_counts, reached_order}
 use Rattle.lapdm_datalink.proofs.RunsQueues.{empty, pending}
 use Rattle.lapdm_datalink.proofs.RunsLinks.{LinkAt, Fits, call_step, passes_slot, slot_step, slot-on, is_slot, unit_step, free-waits}
 use Rattle.lapdm_datalink.proofs.RunsLinks.{IsSound, lose_step, take_step, own_sapi, on_own}
@@ -479,8 +479,14 @@ module _ (channel : Channel) (t200 : Role → Sapi → ℕ) (events : List RunEv
   counts_of : (s : Sapi) → AckedAtMostDelivered (log_lines_of_sapi s log)
   counts_of s = let a = (ran s).1 in rw a.seen_lines at (counts-seen a.lines (reached_counts a.reaches))
 
+  order_of : (s : Sapi) → HasNoticesInOrder (log_lines_of_sapi s log)
+  order_of s = let a = (ran s).1 in rw a.seen_lines at (order-seen a.lines (reached_order a.reaches))
+
   pub data_links_deliver : Claims log
   data_links_deliver = delivery_by_link log (claims_of Zero) (claims_of Three)
 
   pub data_links_count : AckedAtMostDelivered log
   data_links_count = counts_by_link log (counts_of Zero) (counts_of Three)
+
+  pub data_links_order : HasNoticesInOrder log
+  data_links_order = order_by_link log (order_of Zero) (order_of Three)

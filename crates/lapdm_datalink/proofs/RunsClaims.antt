@@ -4,6 +4,7 @@ use Rattle.lapdm_link.proofs.Lemmas.{List, [], ◌∷◌, filter_map, if◌then�
 use Rattle.lapdm_link.proofs.Lemmas.{Role, Mobile, Network, Sapi, Zero, Three, Message, Call, T200Expires, Repeats}
 use Rattle.lapdm_link.proofs.Lemmas.{LogLine, Asked, is_same_role, is_same_sapi, notices_in_log, calls_in_log, message_sent_by_call}
 use Rattle.lapdm_link.proofs.Lemmas.{ui_message_of_call, OccursAfter, Claims, HasEstablishmentTrigger, AckedAtMostDelivered, other}
+use Rattle.lapdm_link.proofs.Lemmas.{HasNoticesInOrder, IsOpenEndpoint}
 use Rattle.lapdm_link.specs.Claims.{sent_messages, ui_messages_sent}
 
 -- whether layer 3 sees this line: it is a notice or one of its own calls
@@ -96,6 +97,26 @@ cause-seen Network Zero info before (inr h) = inr (contains-seen _ _ refl h)
 cause-seen r Three info before (inl h) = inl (contains-seen _ _ refl h)
 cause-seen r Three info before (inr h) = inr (contains-seen _ _ refl h.0, contains-seen _ _ refl h.1)
 
+contains-back : (ls : List LogLine) (x : LogLine) → Contains (seen ls) x → Contains ls x
+contains-back [] x h = h
+contains-back (l ∷ ls) x h =
+    by (λ later. (let c = contains-back ls x later in (suc c.0, omega (arith, c.1), c.2))) (is_seen l) h
+  where
+    by : (Contains (seen ls) x → Contains (l ∷ ls) x) → (b : Bool) → Contains (cons_option (if b then Some l else None) (seen ls)) x →
+        Contains (l ∷ ls) x
+    by later true (zero, low, e) = (zero, omega arith, e)
+    by later true (suc i, low, e) = later (i, omega (arith, low), e)
+    by later false h = later h
+
+open-seen : (r : Role) (s : Sapi) (before : List LogLine) → IsOpenEndpoint r s before → IsOpenEndpoint r s (seen before)
+open-seen r s before h = record {
+  opened_once = rw (notices-seen r s before) h.opened_once;
+  not_closed = λ reason c. h.not_closed reason (contains-back before _ c);
+  release_not_requested = λ c. h.release_not_requested (contains-back before _ c);
+}
+
+-- ---- the claims
+
 pub claims-seen : (ls : List LogLine) → Claims ls → Claims (seen ls)
 claims-seen ls h = record {
   in_order = λ r s. rw (notices-seen (other r) s ls, sent-seen r s ls) (h.in_order r s);
@@ -110,3 +131,13 @@ claims-seen ls h = record {
 
 pub counts-seen : (ls : List LogLine) → AckedAtMostDelivered ls → AckedAtMostDelivered (seen ls)
 counts-seen ls h r s = rw (notices-seen r s ls, notices-seen (other r) s ls) (h r s)
+
+pub order-seen : (ls : List LogLine) → HasNoticesInOrder ls → HasNoticesInOrder (seen ls)
+order-seen ls h = record {
+  acked_in_order = λ r s n before place. (let t = stands-behind before _ place.0 ls place.1 in
+      rw (← t.1, notices-seen r s t.0, sent-seen r s t.0) (h.acked_in_order r s n t.0 t.2));
+  established_once = λ r s. rw (notices-seen r s ls) (h.established_once r s);
+  closed_once = λ r s. rw (notices-seen r s ls) (h.closed_once r s);
+  only_while_open = λ r s n before of place. (let t = stands-behind before _ place.0 ls place.1 in
+      rw (← t.1) (open-seen r s t.0 (h.only_while_open r s n t.0 of t.2)));
+}

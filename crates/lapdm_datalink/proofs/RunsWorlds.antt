@@ -7,7 +7,7 @@ use Rattle.lapdm_link.proofs.Lemmas.{Event, OpenBare, Ask, Deliver, Lose, other,
 use Rattle.lapdm_link.proofs.Lemmas.{LogLine, Asked, Notified, answer_log_lines, session_log, answer_unless_refused, answer, answers, World}
 use Rattle.lapdm_link.proofs.Lemmas.{initial_world, refusal, world_after, world_after_possible_refusal, Claims, AckedAtMostDelivered}
 use Rattle.lapdm_link.proofs.Lemmas.{end_of, way, acted, without_oldest_item, with_frames, IsPlaced, AllReported, in_order-step}
-use Rattle.lapdm_link.proofs.Lemmas.{initial-reported, claims_with_rr, counts_with_rr}
+use Rattle.lapdm_link.proofs.Lemmas.{HasNoticesInOrder, order_claims, initial-reported, claims_with_rr, counts_with_rr}
 use Rattle.lapdm_link.specs.Events.{Open, Repeat, SendUi, Idle, unbounded_capacity}
 use Rattle.lapdm_end.specs.lapdm_window.declared.State.TheVariants as S
 use Rattle.lapdm_datalink.proofs.RunsIdle.{IsFresh, fresh-start, fresh-calls, fresh-takes, fresh-loses, idle-silent}
@@ -63,6 +63,9 @@ module _ {channel : Channel} {s : Sapi} {w : World} {ls : List LogLine} (h : Rea
 
   pub reached_counts : AckedAtMostDelivered ls
   reached_counts = rw h.log at (counts_with_rr unbounded_capacity channel h.events h.benign)
+
+  pub reached_order : HasNoticesInOrder ls
+  reached_order = rw h.log at (order_claims unbounded_capacity channel h.events)
 
   -- one more event that is not refused
   one_more : (event : Event) → refusal event w ≡ None → IsBenignEventExceptRrForRej None event w →
