@@ -3,7 +3,8 @@ use Rattle.lapdm_link.proofs.Lemmas.{◌≡◌, refl, sym, ap, ◌∙◌, arith,
 use Rattle.lapdm_link.proofs.Lemmas.{map, append_assoc, append-nil, filter_map, filter_map-append, if◌then◌else◌, Option, Some, None}
 use Rattle.lapdm_link.proofs.Lemmas.{cons_option, Frame, Message, Role, Mobile, Network, Sapi, Zero, Three, Call, SendsUi, other}
 use Rattle.lapdm_link.proofs.Lemmas.{World, LogLine, Asked, Notified, Notice, is_same_sapi, is_on, each_way, Claims, AckedAtMostDelivered}
-use Rattle.lapdm_link.proofs.Lemmas.{HasNoticesInOrder, delivery_by_link, counts_by_link, order_by_link, Channel, IsPlaced, nat_tests, drop, sapi_number}
+use Rattle.lapdm_link.proofs.Lemmas.{HasNoticesInOrder, delivery_by_link, counts_by_link, order_by_link, Channel, IsPlaced}
+use Rattle.lapdm_link.proofs.Lemmas.{nat_tests, drop, sapi_number}
 use Rattle.lapdm_link.specs.Claims.{log_lines_of_sapi}
 use Rattle.lapdm_link.specs.Queues.{queue_of, without_oldest_item as without_oldest, IsOldestSentOrNone}
 use Rattle.std.specs.Prelude.{IfSome}

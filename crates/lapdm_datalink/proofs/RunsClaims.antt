@@ -102,8 +102,8 @@ contains-back [] x h = h
 contains-back (l ∷ ls) x h =
     by (λ later. (let c = contains-back ls x later in (suc c.0, omega (arith, c.1), c.2))) (is_seen l) h
   where
-    by : (Contains (seen ls) x → Contains (l ∷ ls) x) → (b : Bool) → Contains (cons_option (if b then Some l else None) (seen ls)) x →
-        Contains (l ∷ ls) x
+    by : (Contains (seen ls) x → Contains (l ∷ ls) x) → (b : Bool) →
+        Contains (cons_option (if b then Some l else None) (seen ls)) x → Contains (l ∷ ls) x
     by later true (zero, low, e) = (zero, omega arith, e)
     by later true (suc i, low, e) = later (i, omega (arith, low), e)
     by later false h = later h

@@ -7,7 +7,7 @@ use Rattle.lapdm_end.specs.lapdm_window.declared.Reason.TheVariants as R
 use Rattle.lapdm_end.specs.lapdm_window.Ends.{Role, Mobile, Network}
 use Rattle.lapdm_end.specs.lapdm_window.Calls.{Opens, OpensWithoutInfo, Sends, SendsUi, Closes}
 use Rattle.lapdm_link.specs.Queues.{queue_of}
-use Rattle.lapdm_link.specs.Claims.{Asked, Notified}
+use Rattle.lapdm_link.specs.Claims.{LogLine, Asked, Notified, Claims}
 use Rattle.lapdm_datalink.specs.Links.{first_frame}
 use Rattle.lapdm_datalink.specs.Runs.{RunState, RunEvent, Calls, Slot, UnitSlot, Arrives, initial_run, after_event, run_log}
 
