@@ -1,3 +1,9 @@
 mod Lemmas
 mod Answering
 mod RunsWorked
+mod RunsClaims
+mod RunsIdle
+mod RunsWorlds
+mod RunsQueues
+mod RunsLinks
+mod Runs

@@ -1,16 +1,15 @@
--- A worked run: the mobile opens SAPI 0 and sends a message, and the first I frame is lost.
-use Rattle.std.proofs.Common.{◌≡◌, refl, ℕ, List, [], ◌∷◌, Option, Some, None}
+-- Worked runs: a lost I frame, UI frames, and a link that is opened twice, for which the claims fail.
+use Rattle.std.proofs.Common.{arith, ◌++◌, ◌≡◌, refl, List, [], ◌∷◌, None}
 use Rattle.lapdm_frame.specs.declared.Channel.TheVariants.{Sdcch}
-use Rattle.lapdm_frame.specs.Content.{Frame}
-use Rattle.lapdm_end.specs.lapdm_window.declared.Sapi.{Sapi}
-use Rattle.lapdm_end.specs.lapdm_window.declared.Sapi.TheVariants.{Zero}
+use Rattle.lapdm_end.specs.lapdm_window.declared.Sapi.TheVariants.{Zero, Three}
 use Rattle.lapdm_end.specs.lapdm_window.declared.Notice.TheVariants as N
+use Rattle.lapdm_end.specs.lapdm_window.declared.Reason.TheVariants as R
 use Rattle.lapdm_end.specs.lapdm_window.Ends.{Role, Mobile, Network}
-use Rattle.lapdm_end.specs.lapdm_window.Calls.{Opens, Sends}
+use Rattle.lapdm_end.specs.lapdm_window.Calls.{Opens, OpensWithoutInfo, Sends, SendsUi, Closes}
 use Rattle.lapdm_link.specs.Queues.{queue_of}
-use Rattle.lapdm_link.specs.Claims.{LogLine, Asked, Notified}
+use Rattle.lapdm_link.specs.Claims.{LogLine, Asked, Notified, Claims}
 use Rattle.lapdm_datalink.specs.Links.{first_frame}
-use Rattle.lapdm_datalink.specs.Runs.{RunState, RunEvent, Calls, Slot, Arrives, initial_run, after_event, run_log}
+use Rattle.lapdm_datalink.specs.Runs.{RunState, RunEvent, Calls, Slot, UnitSlot, Arrives, initial_run, after_event, run_log}
 
 -- an event, or the arrival of the oldest frame in transit
 data Move : Type 0 where
@@ -28,13 +27,43 @@ played (move ∷ moves) r = event_of move r ∷ played moves (after_event (event
 abbrev start : RunState
 start = initial_run Sdcch (λ role sapi. 2)
 
-abbrev moves : List Move
-moves = Happens (Calls Mobile Zero (Opens (1 ∷ []))) ∷ Happens (Slot Mobile) ∷ Comes Mobile
-    ∷ Happens (Slot Network) ∷ Comes Network ∷ Happens (Calls Mobile Zero (Sends (5 ∷ []))) ∷ Happens (Slot Mobile)
-    ∷ Happens (Arrives Mobile None) ∷ Happens (Slot Mobile) ∷ Happens (Slot Mobile) ∷ Comes Mobile
-    ∷ Happens (Slot Network) ∷ Comes Network ∷ []
+abbrev notified : List Move → List LogLine
+notified moves = run_log (played moves start) start
 
-repeated : run_log (played moves start) start ≡ Asked Mobile Zero (Opens (1 ∷ [])) ∷ Notified Network Zero (N.Opened (1 ∷ []))
-    ∷ Notified Mobile Zero (N.Opened (1 ∷ [])) ∷ Asked Mobile Zero (Sends (5 ∷ []))
+-- one frame of each side goes over the air
+abbrev exchange : List Move
+exchange = Happens (Slot Mobile) ∷ Comes Mobile ∷ Happens (Slot Network) ∷ Comes Network ∷ []
+
+abbrev opening : List Move
+opening = Happens (Calls Mobile Zero (Opens (1 ∷ []))) ∷ exchange
+
+abbrev opened : List LogLine
+opened = Asked Mobile Zero (Opens (1 ∷ [])) ∷ Notified Network Zero (N.Opened (1 ∷ []))
+    ∷ Notified Mobile Zero (N.Opened (1 ∷ [])) ∷ []
+
+-- ---- the first I frame is lost: T200 of two slots expires, and the frame is repeated
+
+repeated : notified (opening ++ Happens (Calls Mobile Zero (Sends (5 ∷ []))) ∷ Happens (Slot Mobile)
+    ∷ Happens (Arrives Mobile None) ∷ Happens (Slot Mobile) ∷ exchange) ≡ opened ++ Asked Mobile Zero (Sends (5 ∷ []))
     ∷ Notified Network Zero (N.Got (5 ∷ [])) ∷ Notified Mobile Zero (N.Acked 1) ∷ []
 repeated = refl
+
+-- ---- a UI frame in a free slot
+
+unit : notified (Happens (UnitSlot Mobile Zero (4 ∷ [])) ∷ Comes Mobile ∷ []) ≡ Asked Mobile Zero (SendsUi (4 ∷ []))
+    ∷ Notified Network Zero (N.Unit (4 ∷ [])) ∷ []
+unit = refl
+
+-- ---- SAPI 3 is opened again after its release: the links are established twice
+
+abbrev opened_twice : List Move
+opened_twice = opening ++ Happens (Calls Mobile Three OpensWithoutInfo) ∷ exchange ++ Happens (Calls Mobile Three Closes) ∷ exchange
+    ++ Happens (Calls Mobile Three OpensWithoutInfo) ∷ Happens (Slot Mobile) ∷ Comes Mobile ∷ []
+
+twice : notified opened_twice ≡ opened ++ Asked Mobile Three OpensWithoutInfo ∷ Notified Network Three (N.Opened [])
+    ∷ Notified Mobile Three (N.Opened []) ∷ Asked Mobile Three Closes ∷ Notified Network Three (N.Closed R.Released)
+    ∷ Notified Mobile Three (N.Closed R.Released) ∷ Asked Mobile Three OpensWithoutInfo ∷ Notified Network Three (N.Opened []) ∷ []
+twice = refl
+
+twice_breaks : Claims (notified opened_twice) → ⊥
+twice_breaks h = omega (arith, h.established_once Network Three)

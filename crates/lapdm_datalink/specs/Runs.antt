@@ -7,7 +7,6 @@ use Rattle.lapdm_frame.specs.Content.{Frame}
 use Rattle.lapdm_end.specs.lapdm_window.segmenting.Segments.{Message}
 use Rattle.lapdm_end.specs.lapdm_window.declared.Sapi.{Sapi}
 use Rattle.lapdm_end.specs.lapdm_window.declared.Sapi.TheVariants.{Zero, Three}
-use Rattle.lapdm_end.specs.lapdm_window.declared.Notice.{Notice}
 use Rattle.lapdm_end.specs.lapdm_window.Ends.{Role, Mobile, Network}
 use Rattle.lapdm_end.specs.lapdm_window.Calls.{Call, Opens, OpensWithoutInfo, Sends, SendsUi, Closes, IsCallAllowedFor, refusal_of}
 use Rattle.lapdm_link.specs.Queues.{Queues, empty_queues, queue_of, with_items_appended, without_oldest_item, IsOldestSentOrNone}
@@ -77,8 +76,9 @@ abbrev pub IsPossible : RunEvent → RunState → Type 0
 IsPossible (Calls role sapi call) r =
     IsLayer3Call call × IsCallAllowedFor role sapi call × (refusal_of call (link_at role sapi r).endpoint ≡ None)
 IsPossible (Slot role) r = Unit {0}
-IsPossible (UnitSlot role sapi m) r = ((data_link_outcome (data_link_of role r)).frame ≡ None)
-    × (refusal_of (SendsUi m) (link_at role sapi r).endpoint ≡ None)
+IsPossible (UnitSlot role sapi m) r =
+    let o = data_link_outcome (data_link_of role r) in
+    (o.frame ≡ None) × (refusal_of (SendsUi m) (link_with_sapi sapi o.new_state).endpoint ≡ None)
 IsPossible (Arrives sender arrived) r = IsOldestSentOrNone arrived (queue_of sender r.air)
     × OpensNoClosedLink arrived (data_link_of (other sender) r)
 IsPossible (HasMain role established) r = Unit {0}
@@ -91,18 +91,25 @@ with_frames_sent role fs r = record r { air = with_items_appended role fs r.air 
 abbrev pub after_slot_of : Role → List Frame → RunState → RunState
 after_slot_of role fs r = with_frames_sent role fs (with_data_link role (data_link_outcome (data_link_of role r)).new_state r)
 
--- the run after this frame, if any, arrives at this side
+-- the data link after this frame, if any, arrives at it
+abbrev pub after_arrival_if_any : Option Frame → DataLinkState → DataLinkState
+after_arrival_if_any None s = s
+after_arrival_if_any (Some f) s = after_arrival f s
+
+-- the run after the oldest frame from the other side arrives at this side, or is lost
 abbrev pub after_arrival_at : Role → Option Frame → RunState → RunState
-after_arrival_at role None r = r
-after_arrival_at role (Some f) r = with_data_link role (after_arrival f (data_link_of role r)) r
+after_arrival_at role arrived r =
+    let s = after_arrival_if_any arrived (data_link_of role r) in
+    record (with_data_link role s r) { air = without_oldest_item (other role) r.air }
 
 -- the run after an event
 abbrev pub after_event : RunEvent → RunState → RunState
 after_event (Calls role sapi call) r =
     with_data_link role (with_link sapi (after_call call (link_at role sapi r)) (data_link_of role r)) r
 after_event (Slot role) r = after_slot_of role (cons_option (data_link_outcome (data_link_of role r)).frame []) r
-after_event (UnitSlot role sapi m) r = after_slot_of role (ui_frame m (link_at role sapi r).endpoint ∷ []) r
-after_event (Arrives sender arrived) r = after_arrival_at (other sender) arrived (record r { air = without_oldest_item sender r.air })
+after_event (UnitSlot role sapi m) r =
+    after_slot_of role (ui_frame m (link_with_sapi sapi (data_link_outcome (data_link_of role r)).new_state).endpoint ∷ []) r
+after_event (Arrives sender arrived) r = after_arrival_at (other sender) arrived r
 after_event (HasMain role established) r = with_data_link role (having_main established (data_link_of role r)) r
 
 -- the log lines of a slot: the links that are given up in it

@@ -1,10 +1,14 @@
-//! Laws of one link, slot by slot. The body of a law is empty: call it to use its contract in a proof.
+//! Laws of one link, slot by slot, and of runs of two data links. The body of a law is empty: call it to use its contract in a proof.
 
-ghost use Rattle.std.specs.Prelude.{◌≡◌, ◌⊎◌, ◌||◌, ℕ, Bool, true, false, nat_eq, Some, None};
+ghost use Rattle.std.specs.Prelude.{◌≡◌, ◌⊎◌, ◌||◌, ℕ, Bool, List, true, false, nat_eq, Some, None};
+ghost use Rattle.lapdm_frame.specs.declared.Channel.{Channel};
 ghost use Rattle.lapdm_end.specs.lapdm_window.declared.State.TheVariants.{Open, Closed};
 ghost use Rattle.lapdm_end.specs.lapdm_window.segmenting.Segments.{Segment};
-ghost use Rattle.lapdm_end.specs.lapdm_window.Ends.{vr};
+ghost use Rattle.lapdm_end.specs.lapdm_window.declared.Sapi.{Sapi};
+ghost use Rattle.lapdm_end.specs.lapdm_window.Ends.{Role, vr};
+ghost use Rattle.lapdm_link.specs.Claims.{Claims, AckedAtMostDelivered, HasNoticesInOrder};
 ghost use Rattle.lapdm_datalink.specs.Links.{LinkState, after_slot, slot_outcome, sabm_goes_first};
+ghost use Rattle.lapdm_datalink.specs.Runs.{RunEvent, initial_run, IsRun, run_log};
 ghost use Rattle.lapdm_datalink.specs.Slots.{IsStepOfEndpoint, nr_of, took};
 
 /// Law: in a slot, the endpoint of a link does nothing, repeats the frame that awaits an answer without counting it, or handles the expiry
@@ -30,4 +34,19 @@ pub fn law_i_frame_is_answered_in_the_next_slot()
         → (nat_eq ns (vr l.endpoint) || poll) ≡ true
         → (nr_of (slot_outcome (after_slot (took ns nr poll segment l))).frame ≡ Some (vr (took ns nr poll segment l).endpoint))
         ⊎ ((slot_outcome (after_slot (took ns nr poll segment l))).link.endpoint.state ≡ Closed) }
+{}
+
+/// Law: in a run of two data links on one channel, in which frames arrive in order, late or not at all, and each link is opened at most
+/// once, each side delivers a prefix of the messages that the other accepted for sending, and reports a message as acknowledged only after
+/// the other side has delivered it. Each link is closed at most once, and messages are delivered and acknowledged only while it is open.
+pub fn law_data_links_deliver_in_order()
+    ensures delivery { (channel : Channel) (t200 : Role → Sapi → ℕ) (events : List RunEvent) →
+        IsRun events (initial_run channel t200)
+        → Claims (run_log events (initial_run channel t200)) }
+    ensures acked_at_most_delivered { (channel : Channel) (t200 : Role → Sapi → ℕ) (events : List RunEvent) →
+        IsRun events (initial_run channel t200)
+        → AckedAtMostDelivered (run_log events (initial_run channel t200)) }
+    ensures order { (channel : Channel) (t200 : Role → Sapi → ℕ) (events : List RunEvent) →
+        IsRun events (initial_run channel t200)
+        → HasNoticesInOrder (run_log events (initial_run channel t200)) }
 {}

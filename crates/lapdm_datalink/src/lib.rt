@@ -10,8 +10,8 @@ mod parts;
 
 pub use data_links::{DataLink, Slot};
 pub use laws::{
-    law_answer_waits_for_one_slot, law_i_frame_is_answered_in_the_next_slot,
-    law_slot_is_a_step_of_the_endpoint,
+    law_answer_waits_for_one_slot, law_data_links_deliver_in_order,
+    law_i_frame_is_answered_in_the_next_slot, law_slot_is_a_step_of_the_endpoint,
 };
 pub use links::{Link, LinkSlot};
 pub use parts::{DataLinkView, LinkView};
