@@ -1,3 +1,4 @@
-mod Lemmas
+pub mod Lemmas
 mod Answering
+mod Returned
 mod RunsWorked
