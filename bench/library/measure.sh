@@ -1,10 +1,12 @@
 #!/usr/bin/env bash
-# The calls of an end of a link from C, and the library's other calls beside libosmocoding's, in turns in one run.
+# The calls of an end of a link and of a data link from C, and the library's other calls beside libosmocoding's, in turns in one run.
 cd "$(dirname "${BASH_SOURCE[0]}")/../.." || exit 1
 work=$(mktemp -d) || exit 1
 trap 'rm -rf "$work"' EXIT
 (cd crates/um_c && rt lib >/dev/null) || exit 1
 cc -std=gnu99 -O2 -Ibindings/c bench/library/ends.c crates/um_c/out/libum_c.a -o "$work/ends" || exit 1
 "$work/ends"
+cc -std=gnu99 -O2 -Ibindings/c bench/library/datalinks.c crates/um_c/out/libum_c.a -o "$work/datalinks" || exit 1
+"$work/datalinks"
 cc -std=gnu99 -O2 -Ibindings/c bench/library/bench.c crates/um_c/out/libum_c.a -o "$work/bench" -losmocoding -losmocore || exit 1
 "$work/bench" "$@"

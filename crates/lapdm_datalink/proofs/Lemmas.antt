@@ -2,7 +2,7 @@
 use Rattle.std.proofs.Common.{◌≡◌, ◌≢◌, ◌≤◌, ◌∙◌, refl, sym, arith, subst, ap, ℕ, Bool, true, false, List, []}
 use Rattle.std.proofs.Common.{◌∷◌, map, length, get_or}
 use Rattle.std.proofs.Common.{All, if◌then◌else◌}
-use Rattle.std.proofs.Common.{Option, Some, None, Result, Ok, Err, OnOk}
+use Rattle.std.proofs.Common.{Option, Some, None, Result, Ok, Err, OnOk, OnErr}
 use Rattle.std.specs.Result.{result_err}
 use Rattle.std.specs.Option.{option_map}
 use Rattle.std.specs.Prelude.{IfSome}
@@ -13,7 +13,8 @@ use Rattle.lapdm_frame.specs.Content.{Frame}
 use Rattle.lapdm_frame.specs.Frames.{FrameFits, octets_of}
 use Rattle.lapdm_frame.specs.Readings.{IsOnlyEncodedFrame}
 use Rattle.lapdm_end.specs.lapdm_window.declared.effects.Effects.{Effects}
-use Rattle.lapdm_end.specs.lapdm_window.Ends.{EndpointState, Outcome, awaits_answer, IsValidEndpoint}
+use Rattle.lapdm_end.specs.lapdm_window.Ends.{EndpointState, Outcome, awaits_answer, IsValidEndpoint, Role}
+use Rattle.lapdm_end.specs.Addresses.{spec_role_of}
 use Rattle.lapdm_end.specs.lapdm_window.Calls.{Call, T200Expires, refusal_of, call_outcome, IsCallAllowedForEndpoint}
 use Rattle.lapdm_link.specs.Worlds.{rej_replaced_by_rr}
 use Rattle.lapdm_end.specs.lapdm_window.Steps.{HasEffects}
@@ -31,8 +32,11 @@ use Rattle.lapdm_end.specs.lapdm_window.declared.Sapi.TheVariants.{Zero, Three}
 use Rattle.lapdm_datalink.specs.Links.{afresh, for_call, for_frame, after_call, after_frame, ignores, received_outcome, slot_outcome}
 use Rattle.lapdm_datalink.specs.Links.{after_slot}
 use Rattle.lapdm_end.specs.lapdm_window.declared.Sapi.{Sapi}
-use Rattle.lapdm_datalink.specs.Abstraction.{Represents, IsAnswer}
-use Rattle.lapdm_datalink.specs.Parts.{LinkValues, ValuesRepresent, SomeLinkHasValues, IsAnswerBlockIfAny}
+use Rattle.lapdm_datalink.specs.Abstraction.{Represents, MayWait, MayBeReturned}
+use Rattle.lapdm_datalink.specs.Parts.{LinkValues, ValuesRepresent, SomeLinkHasValues, IsAnswerBlock, HasAnswerBlockIfAny}
+use Rattle.lapdm_datalink.specs.Parts.{DataLinkValues, RepresentDataLink}
+use Rattle.lapdm_end.proofs.Lemmas.{one_values}
+use Rattle.lapdm_datalink.proofs.Returned.{Returns, may_be_returned}
 use Rattle.lapdm_end.specs.Parts.{EndpointValues}
 use Rattle.lapdm_end.specs.Parts as P
 
@@ -47,9 +51,9 @@ pub kept_due : (m : Link) (f : Frame) (l : LinkState) → is_awaiting_kind f.con
 kept_due m f l awaits h = grind arith
 
 pub kept_answer : (m : Link) (f : Frame) (l : LinkState) (block : List ℕ) → is_awaiting_kind f.content ≡ false →
-    FrameFits l.endpoint.channel f → block ≡ octets_of l.endpoint.channel f → Represents m l →
+    MayBeReturned l.endpoint f → block ≡ octets_of l.endpoint.channel f → Represents m l →
     Represents (record m { answer = Some block }) (with_frame f l)
-kept_answer m f l block awaits fits is h = grind arith
+kept_answer m f l block awaits may is h = grind (arith, may.1 awaits)
 
 -- the endpoint of a link is not changed by what is kept
 endpoint_with_frame : (f : Frame) (l : LinkState) → (with_frame f l).endpoint ≡ l.endpoint
@@ -57,18 +61,18 @@ endpoint_with_frame f l = grind arith
 
 -- link `n` is link `m` after it kept this block
 abbrev pub HasKept : (m n : Link) (block : List ℕ) → Type 0
-HasKept m n block = (f : Frame) (l : LinkState) → FrameFits l.endpoint.channel f → block ≡ octets_of l.endpoint.channel f →
+HasKept m n block = (f : Frame) (l : LinkState) → MayBeReturned l.endpoint f → block ≡ octets_of l.endpoint.channel f →
     Represents m l → Represents n (with_frame f l)
 
 abbrev pub HasKeptAll : (m n : Link) (blocks : List (List ℕ)) → Type 0
-HasKeptAll m n blocks = (fs : List Frame) (l : LinkState) → All (FrameFits l.endpoint.channel) fs →
+HasKeptAll m n blocks = (fs : List Frame) (l : LinkState) → All (MayBeReturned l.endpoint) fs →
     blocks ≡ map (octets_of l.endpoint.channel) fs → Represents m l → Represents n (with_frames fs l)
 
 pub kept_one : (m n : Link) (blocks : List (List ℕ)) → length blocks ≡ 1 → HasKept m n (get_or blocks 0 []) →
     HasKeptAll m n blocks
 kept_one m n blocks one kept [] l fits is h = absurd (omega (arith, ap length is))
 kept_one m n blocks one kept (f ∷ []) l fits is h =
-    kept f l (All-head (FrameFits l.endpoint.channel) f [] fits) (ap (λ (bs : List (List ℕ)). get_or bs 0 []) is) h
+    kept f l (All-head (MayBeReturned l.endpoint) f [] fits) (ap (λ (bs : List (List ℕ)). get_or bs 0 []) is) h
 kept_one m n blocks one kept (f ∷ g ∷ fs) l fits is h = absurd (omega (arith, ap length is))
 
 pub kept_two : (m k n : Link) (blocks : List (List ℕ)) → length blocks ≢ 0 → length blocks ≢ 1 → length blocks ≤ 2 →
@@ -76,10 +80,10 @@ pub kept_two : (m k n : Link) (blocks : List (List ℕ)) → length blocks ≢ 0
 kept_two m k n blocks some two most first second [] l fits is h = absurd (some (ap length is))
 kept_two m k n blocks some two most first second (f ∷ []) l fits is h = absurd (two (ap length is))
 kept_two m k n blocks some two most first second (f ∷ g ∷ []) l fits is h =
-    let tail = All-tail (FrameFits l.endpoint.channel) f (g ∷ []) fits in
-    second g (with_frame f l) (rw (endpoint_with_frame f l) (All-head (FrameFits l.endpoint.channel) g [] tail))
+    let tail = All-tail (MayBeReturned l.endpoint) f (g ∷ []) fits in
+    second g (with_frame f l) (rw (endpoint_with_frame f l) (All-head (MayBeReturned l.endpoint) g [] tail))
     (rw (endpoint_with_frame f l) (ap (λ (bs : List (List ℕ)). get_or bs 1 []) is))
-    (first f l (All-head (FrameFits l.endpoint.channel) f (g ∷ []) fits) (ap (λ (bs : List (List ℕ)). get_or bs 0 []) is) h)
+    (first f l (All-head (MayBeReturned l.endpoint) f (g ∷ []) fits) (ap (λ (bs : List (List ℕ)). get_or bs 0 []) is) h)
 kept_two m k n blocks some two most first second (f ∷ g ∷ e ∷ fs) l fits is h = absurd (omega (arith, ap length is))
 
 -- the Rust link still represents the link after its endpoint steps
@@ -89,18 +93,19 @@ endpoint_replaced m e l o k h does = record {
   endpoint = does;
   t200 = h.t200;
   answer = rw k.channel h.answer;
-  is_answer = rw k.channel h.is_answer;
+  is_answer = rw (k.role, k.sapi, k.channel) h.is_answer;
   is_sent = h.is_sent;
   clock = h.clock;
 }
 
 -- the Rust link represents the outcome of its endpoint once it has kept the frames of this outcome
 pub outcome_kept : (m n : Link) (e : Endpoint) (effects : Effects) (l : LinkState) (o : Outcome) → Keeps l.endpoint o →
-    Represents m l →
+    Returns l.endpoint o → Represents m l →
     E.Represents e o.new_state × HasEffects effects l.endpoint.channel o →
     HasKeptAll (record m { endpoint = e }) n effects.frames → Represents n (with_outcome o l)
-outcome_kept m n e effects l o k h does kept =
-    kept o.frames (record l { endpoint = o.new_state }) (rw k.channel k.frames) (rw k.channel does.1.frames)
+outcome_kept m n e effects l o k r h does kept =
+    kept o.frames (record l { endpoint = o.new_state }) (rw (k.role, k.sapi, k.channel) (may_be_returned k r))
+    (rw k.channel does.1.frames)
     (endpoint_replaced m e l o k h does.0)
 
 -- a frame still fits once it counts as an RR
@@ -157,34 +162,41 @@ endpoint_values x l h = record {
 pub some_endpoint : (x : LinkValues) → SomeLinkHasValues x → P.SomeEndpointHasValues x.endpoint
 some_endpoint x h = (h.0.endpoint, endpoint_values x h.0 h.1)
 
--- the channel of the values is that of the link that they represent
-channel_of_values : (x : LinkValues) (l : LinkState) → ValuesRepresent x l → l.endpoint.channel ≡ x.endpoint.window.channel
-channel_of_values x l h =
-    sym h.represents.endpoint.variables.channel ∙ ap (λ (y : LinkValues). y.endpoint.window.channel) h.values_match
+-- the values have the role, the SAPI and the channel of the endpoint that they represent
+pub record HasAddressOf (x : EndpointValues) (e : EndpointState) : Type 0 where
+  pub role : spec_role_of x.role ≡ e.role
+  pub sapi : x.sapi ≡ e.sapi
+  pub channel : x.window.channel ≡ e.channel
 
-block_of_answer : (c : Channel) (a : Option Frame) (b : Option (List ℕ)) → b ≡ option_map (octets_of c) a →
-    IfSome a (IsAnswer c) →
-    IsAnswerBlockIfAny c b
-block_of_answer c None b is h = rw is tt
-block_of_answer c (Some f) b is h = rw is (f, h, refl)
+address_of_values : (x : EndpointValues) (e : EndpointState) → P.ValuesRepresent x e → HasAddressOf x e
+address_of_values x e h = record {
+  role = sym (ap (λ (y : EndpointValues). spec_role_of y.role) h.values_match) ∙ h.represents.address.role;
+  sapi = sym (ap (λ (y : EndpointValues). y.sapi) h.values_match) ∙ h.represents.address.sapi;
+  channel = sym (ap (λ (y : EndpointValues). y.window.channel) h.values_match) ∙ h.represents.variables.channel;
+}
 
-pub some_answer : (x : LinkValues) → SomeLinkHasValues x → IsAnswerBlockIfAny x.endpoint.window.channel x.answer
+block_of_answer : (role : Role) (sapi : Sapi) (c : Channel) (a : Option Frame) (b : Option (List ℕ)) →
+    b ≡ option_map (octets_of c) a →
+    IfSome a (MayWait role sapi c) → IfSome b (IsAnswerBlock role sapi c)
+block_of_answer role sapi c None b is h = rw is tt
+block_of_answer role sapi c (Some f) b is h = rw is (f, h, refl)
+
+pub some_answer : (x : LinkValues) → SomeLinkHasValues x → HasAnswerBlockIfAny x
 some_answer x h =
-    subst (λ (c : Channel). IsAnswerBlockIfAny c x.answer) (channel_of_values x h.0 h.1)
-    (block_of_answer h.0.endpoint.channel h.0.answer x.answer
+    let at = address_of_values x.endpoint h.0.endpoint (endpoint_values x h.0 h.1) in
+    rw (at.role, at.sapi, at.channel)
+    (block_of_answer h.0.endpoint.role h.0.endpoint.sapi h.0.endpoint.channel h.0.answer x.answer
     (sym (ap (λ (y : LinkValues). y.answer) h.1.values_match) ∙ h.1.represents.answer) h.1.represents.is_answer)
 
-answer_in_block : (c : Channel) (b : Option (List ℕ)) → IsAnswerBlockIfAny c b →
-    (a : Option Frame) × (b ≡ option_map (octets_of c) a) × IfSome a (IsAnswer c)
-answer_in_block c None h = (None, refl, tt)
-answer_in_block c (Some block) h = (Some h.0, ap Some h.2, h.1)
+answer_in_block : (role : Role) (sapi : Sapi) (c : Channel) (b : Option (List ℕ)) → IfSome b (IsAnswerBlock role sapi c) →
+    (a : Option Frame) × (b ≡ option_map (octets_of c) a) × IfSome a (MayWait role sapi c)
+answer_in_block role sapi c None h = (None, refl, tt)
+answer_in_block role sapi c (Some block) h = (Some h.0, ap Some h.2, h.1)
 
-pub some_link : (x : LinkValues) → P.SomeEndpointHasValues x.endpoint → IsAnswerBlockIfAny x.endpoint.window.channel x.answer →
-    SomeLinkHasValues x
+pub some_link : (x : LinkValues) → P.SomeEndpointHasValues x.endpoint → HasAnswerBlockIfAny x → SomeLinkHasValues x
 some_link x e h =
-    let channel : x.endpoint.window.channel ≡ e.0.channel =
-    sym (ap (λ (y : EndpointValues). y.window.channel) e.1.values_match) ∙ e.1.represents.variables.channel in
-    let a = answer_in_block e.0.channel x.answer (subst (λ (c : Channel). IsAnswerBlockIfAny c x.answer) channel h) in
+    let at = address_of_values x.endpoint e.0 e.1 in
+    let a = answer_in_block e.0.role e.0.sapi e.0.channel x.answer (rw (at.role, at.sapi, at.channel) at h) in
     let l : LinkState = record { endpoint = e.0; t200 = x.t200; answer = a.0; is_sent = x.is_sent; clock = x.clock } in
     let m : Link = record { endpoint = e.1.endpoint; t200 = x.t200; answer = x.answer; is_sent = x.is_sent; clock = x.clock } in (
       l,
@@ -212,6 +224,29 @@ link_with_values x e l h end = record {
   is_answer = h.represents.is_answer;
   is_sent = sym (ap (λ (y : LinkValues). y.is_sent) h.values_match) ∙ h.represents.is_sent;
   clock = sym (ap (λ (y : LinkValues). y.clock) h.values_match) ∙ h.represents.clock;
+}
+
+one_link_values : (x y : LinkValues) (l : LinkState) → ValuesRepresent x l → ValuesRepresent y l → x ≡ y
+one_link_values x y l h g =
+    let m = h.represents in
+    let n = g.represents in
+    sym h.values_match
+    ∙ (λ i. record {
+      endpoint = one_values h.link.endpoint g.link.endpoint l.endpoint m.endpoint n.endpoint i;
+      t200 = (m.t200 ∙ sym n.t200) i;
+      answer = (m.answer ∙ sym n.answer) i;
+      is_sent = (m.is_sent ∙ sym n.is_sent) i;
+      clock = (m.clock ∙ sym n.clock) i;
+    })
+    ∙ g.values_match
+
+-- a data link has one state as plain data
+pub one_data_link_values : (x y : DataLinkValues) (s : DataLinkState) → RepresentDataLink x s → RepresentDataLink y s → x ≡ y
+one_data_link_values x y s h g = λ i. record {
+  link0 = one_link_values x.link0 y.link0 s.link0 h.link0 g.link0 i;
+  link3 = one_link_values x.link3 y.link3 s.link3 h.link3 g.link3 i;
+  heard_sapi0 = (h.heard_sapi0 ∙ sym g.heard_sapi0) i;
+  is_main_established = (h.is_main_established ∙ sym g.is_main_established) i;
 }
 
 -- ## Addresses: No step changes the role, SAPI, channel or T200 of a link.
@@ -352,16 +387,21 @@ pub on_ok_known : {A E P Q : Type 0} (r : Result A E) → (result_err r ≡ None
 on_ok_known (Ok x) f h = f refl h
 on_ok_known (Err reason) f h = h
 
+-- a call whose refusal is none is not refused
+pub never_err : {A E : Type 0} (P : Type 0) (r : Result A E) → result_err r ≡ None → OnErr r P
+never_err P (Ok x) h = tt
+never_err P (Err reason) h = absurd cc
+
 -- ## Owing: What a link does in a slot, by the answer that it owes.
 
 owes_none : (c : Channel) (a : Option Frame) → None ≡ option_map (octets_of c) a → a ≡ None
 owes_none c None h = refl
 owes_none c (Some f) h = absurd cc
 
-owes_one : (c : Channel) (a : Option Frame) (block : List ℕ) → Some block ≡ option_map (octets_of c) a → IfSome a (IsAnswer c) →
-    (f : Frame) × (a ≡ Some f) × (block ≡ octets_of c f) × FrameFits c f
-owes_one c None block h g = absurd cc
-owes_one c (Some f) block h g = (f, refl, cc, g.fits)
+owes_one : (role : Role) (sapi : Sapi) (c : Channel) (a : Option Frame) (block : List ℕ) → Some block ≡ option_map (octets_of c) a →
+    IfSome a (MayWait role sapi c) → (f : Frame) × (a ≡ Some f) × (block ≡ octets_of c f) × FrameFits c f
+owes_one role sapi c None block h g = absurd cc
+owes_one role sapi c (Some f) block h g = (f, refl, cc, g.0)
 
 pub slot_owing_none : (m : Link) (l : LinkState) → Represents m l → m.answer ≡ None → slot_outcome l ≡ sends_due_frame l
 slot_owing_none m l h none = rw (owes_none l.endpoint.channel l.answer (sym none ∙ h.answer)) refl
@@ -371,5 +411,5 @@ pub slot_keeping_back : (m : Link) (l : LinkState) (block : List ℕ) (kept : Bo
     kept ≡ keeps_back f l) →
     kept ≡ true → slot_outcome l ≡ sends_due_frame l
 slot_keeping_back m l block kept h some is true_now =
-    let o = owes_one l.endpoint.channel l.answer block (sym some ∙ h.answer) h.is_answer in
+    let o = owes_one l.endpoint.role l.endpoint.sapi l.endpoint.channel l.answer block (sym some ∙ h.answer) h.is_answer in
     rw (o.1, sym (is o.0 l o.3 o.2 h) ∙ true_now) refl

@@ -1,5 +1,6 @@
-mod Lemmas
+pub mod Lemmas
 mod Answering
+mod Returned
 mod RunsWorked
 mod RunsClaims
 mod RunsIdle

@@ -13,7 +13,8 @@ use Rattle.lapdm_end.specs.lapdm_window.segmenting.Segments.{Message}
 use Rattle.lapdm_end.specs.lapdm_window.Ends.{EndpointState, Outcome, initial_endpoint, awaits_answer, command_frame}
 use Rattle.lapdm_end.specs.lapdm_window.Rules.{is_open}
 use Rattle.lapdm_end.specs.lapdm_window.Tables.{frame_outcome, is_command}
-use Rattle.lapdm_end.specs.lapdm_window.Calls.{Call, OpensWithoutInfo, awaited_frame, t200_expiry, call_outcome}
+use Rattle.lapdm_end.specs.lapdm_window.Calls.{Call, Opens, OpensWithoutInfo, Sends, Closes, awaited_frame}
+use Rattle.lapdm_end.specs.lapdm_window.Calls.{t200_expiry, call_outcome}
 use Rattle.lapdm_link.specs.Worlds.{rej_replaced_by_rr}
 
 -- the state of a link
@@ -94,6 +95,14 @@ abbrev pub for_frame : Frame → LinkState → LinkState
 for_frame f l = if is_reopened_by_frame f l then afresh l else l
 
 -- ---- calls and received frames
+
+-- the calls of layer 3 that a link carries out: it opens, sends over or closes the link
+abbrev pub IsLinkCall : Call → Type 0
+IsLinkCall (Opens info) = Unit {0}
+IsLinkCall OpensWithoutInfo = Unit {0}
+IsLinkCall (Sends m) = Unit {0}
+IsLinkCall Closes = Unit {0}
+IsLinkCall other = ⊥
 
 -- the link after it carries out a call of layer 3
 abbrev pub after_call : Call → LinkState → LinkState

@@ -8,13 +8,15 @@ use Rattle.lapdm_frame.specs.Content.{Frame}
 use Rattle.lapdm_frame.specs.Frames.{octets_of}
 use Rattle.lapdm_end.specs.Parts.{EndpointValues}
 use Rattle.lapdm_end.specs.Parts as E
+use Rattle.lapdm_end.specs.lapdm_window.declared.Sapi.{Sapi}
+use Rattle.lapdm_end.specs.lapdm_window.Ends.{Role}
 use Rattle.lapdm_datalink.specs.declared.links.Link.{Link}
 use Rattle.lapdm_datalink.specs.declared.parts.LinkView.{LinkView}
 use Rattle.lapdm_datalink.specs.declared.data_links.DataLink.{DataLink}
 use Rattle.lapdm_datalink.specs.declared.parts.DataLinkView.{DataLinkView}
 use Rattle.lapdm_datalink.specs.Links.{LinkState}
 use Rattle.lapdm_datalink.specs.DataLinks.{DataLinkState, IsDataLink}
-use Rattle.lapdm_datalink.specs.Abstraction.{Represents, IsAnswer, role_of, sapi_of, channel_of}
+use Rattle.lapdm_datalink.specs.Abstraction.{Represents, MayWait, role_of, sapi_of, channel_of}
 use Rattle.lapdm_end.specs.Addresses.{spec_role_of}
 
 -- the state of a link as plain data; the answer is a block of 23 octets
@@ -98,10 +100,10 @@ pub record RepresentDataLink (x : DataLinkValues) (s : DataLinkState) : Type 0 w
 abbrev pub RepresentSomeDataLink : DataLinkValues → Type 0
 RepresentSomeDataLink x = (s : DataLinkState) × RepresentDataLink x s
 
--- the block is the coding of an answer that may wait on this channel
-abbrev pub IsAnswerBlock : (channel : Channel) (block : List ℕ) → Type 0
-IsAnswerBlock channel block = (f : Frame) × IsAnswer channel f × (block ≡ octets_of channel f)
+-- the block is the coding of an answer of a link with this role, SAPI and channel
+abbrev pub IsAnswerBlock : (role : Role) (sapi : Sapi) (channel : Channel) (block : List ℕ) → Type 0
+IsAnswerBlock role sapi channel block = (f : Frame) × MayWait role sapi channel f × (block ≡ octets_of channel f)
 
--- so is the answer owed, if there is one
-abbrev pub IsAnswerBlockIfAny : (channel : Channel) (answer : Option (List ℕ)) → Type 0
-IsAnswerBlockIfAny channel answer = IfSome answer (IsAnswerBlock channel)
+-- so is the answer in these values, if there is one
+abbrev pub HasAnswerBlockIfAny : LinkValues → Type 0
+HasAnswerBlockIfAny x = IfSome x.answer (IsAnswerBlock (spec_role_of x.endpoint.role) x.endpoint.sapi x.endpoint.window.channel)

@@ -1,6 +1,6 @@
 //! A data link: both links of one side of a channel, slot by slot.
 
-ghost use Rattle.std.specs.Prelude.{◌≡◌, ◌≢◌, Option, Some, None, IfSome, IfNone, IfOk, OnOk, OnErr};
+ghost use Rattle.std.specs.Prelude.{◌≡◌, ◌≢◌, false, [], Option, Some, None, IfSome, IfNone, IfOk, OnOk, OnErr};
 ghost use Rattle.std.specs.Option.{option_map};
 ghost use Rattle.std.specs.Result.{result_err};
 ghost use Rattle.lapdm_frame.specs.Content.{frame_of_view};
@@ -8,7 +8,9 @@ ghost use Rattle.lapdm_frame.specs.Frames.{FrameFits, octets_of};
 ghost use Rattle.lapdm_end.specs.lapdm_window.Calls.{endpoint_call_of, IsCallAllowedFor, SendsUi, refusal_of};
 ghost use Rattle.lapdm_end.specs.lapdm_window.declared.Sapi.TheVariants as P;
 ghost use Rattle.lapdm_end.specs.Addresses.{spec_role_of};
-ghost use Rattle.lapdm_datalink.specs.Links.{afresh, for_call, after_call, after_frame, frame_notices, ui_frame};
+ghost use Rattle.lapdm_end.specs.lapdm_window.Ends.{initial_endpoint};
+ghost use Rattle.lapdm_datalink.specs.Links.{link_with, afresh, IsLinkCall, for_call, after_call, after_frame, frame_notices, ui_frame};
+ghost use Rattle.lapdm_datalink.specs.Abstraction as L;
 ghost use Rattle.lapdm_datalink.specs.DataLinks.{
   DataLinkState,
   initial_data_link,
@@ -58,10 +60,15 @@ pub struct Slot {
 impl DataLink {
     ghost use Rattle.lapdm_datalink.specs.Sides.{Represents, link_of, other, channel_of, role_of};
 
-    /// Creates a data link with both links in Idle, and T200 of each in slots.
+    /// Creates a data link with both links in Idle, and T200 of each in slots. With a T200 of 0 it represents none, since a frame would be
+    /// repeated in the slot after it.
     pub fn new_on(role: Role, channel: Channel, t200: u8, t200_sapi3: u8) -> DataLink
         ensures represents { t200 ≢ 0 → t200_sapi3 ≢ 0
             → Represents result (initial_data_link (spec_role_of role) channel t200 t200_sapi3) }
+        ensures link0 { L.Represents result.link0 (link_with (initial_endpoint (spec_role_of role) P.Zero channel) t200) }
+        ensures link3 { L.Represents result.link3 (link_with (initial_endpoint (spec_role_of role) P.Three channel) t200_sapi3) }
+        ensures heard { result.heard_sapi0 ≡ false }
+        ensures main { result.is_main_established ≡ false }
         ensures role { role_of result ≡ spec_role_of role }
         ensures channel { channel_of result ≡ channel }
     {
@@ -73,17 +80,16 @@ impl DataLink {
         }
     }
 
-    /// Carries out a call of layer 3 to the link with this SAPI. A link of SAPI 3 that is closed starts afresh first if the call opens it.
-    /// A
-    /// refused call changes nothing.
+    /// Carries out a call of layer 3 that opens, sends over or closes the link with this SAPI. A link of SAPI 3 that is closed starts
+    /// afresh first if the call opens it. A refused call changes nothing.
     pub fn call(&mut self, sapi: Sapi, call: &Call<'_>) -> Result<(), Refused>
-        requires { IsCallAllowedFor (role_of self.old) sapi (endpoint_call_of call.now) }
+        requires allowed { IsCallAllowedFor (role_of self.old) sapi (endpoint_call_of call.now) }
+        requires of_link { IsLinkCall (endpoint_call_of call.now) }
         ensures refusal { (s : DataLinkState) → Represents self.old s → result_err result
             ≡ refusal_of (endpoint_call_of call.now) (for_call (endpoint_call_of call.now) (link_with_sapi sapi s)).endpoint }
         ensures done { OnOk result ((s : DataLinkState) → Represents self.old s
             → Represents self.new (with_link sapi (after_call (endpoint_call_of call.now) (link_with_sapi sapi s)) s)) }
-        ensures refused { OnErr result ((s : DataLinkState) → Represents self.old s
-            → Represents self.new (with_link sapi (for_call (endpoint_call_of call.now) (link_with_sapi sapi s)) s)) }
+        ensures refused { OnErr result (self.new ≡ self.old) }
         ensures others { link_of (other sapi) self.new ≡ link_of (other sapi) self.old }
         ensures role { role_of self.new ≡ role_of self.old }
         ensures channel { channel_of self.new ≡ channel_of self.old }
@@ -95,12 +101,11 @@ impl DataLink {
     }
 
     /// Encodes a UI frame with this SAPI, for a slot that is free.
-    pub fn unit(&mut self, sapi: Sapi, message: &[u8]) -> Result<[u8; BLOCK_OCTETS], Refused>
-        ensures refusal { (s : DataLinkState) → Represents self.old s
+    pub fn unit(&self, sapi: Sapi, message: &[u8]) -> Result<[u8; BLOCK_OCTETS], Refused>
+        ensures refusal { (s : DataLinkState) → Represents self.now s
             → result_err result ≡ refusal_of (SendsUi message.now) (link_with_sapi sapi s).endpoint }
-        ensures block { IfOk result (λ block. (s : DataLinkState) → Represents self.old s
-            → block ≡ octets_of (channel_of self.old) (ui_frame message.now (link_with_sapi sapi s).endpoint)) }
-        ensures unchanged { self.new ≡ self.old }
+        ensures block { IfOk result (λ block. (s : DataLinkState) → Represents self.now s
+            → block ≡ octets_of (channel_of self.now) (ui_frame message.now (link_with_sapi sapi s).endpoint)) }
     {
         match sapi {
             Sapi::Zero => self.link0.unit(message),
@@ -165,9 +170,8 @@ impl DataLink {
         None
     }
 
-    /// Processes a received frame, and replaces the notices in `effects` by those of the link that takes it. Returns the SAPI of that
-    /// link, or
-    /// `None` if the frame is dropped.
+    /// Processes a received frame, and replaces the notices in `effects` by those of the link that takes it; it gets no frames. Returns the
+    /// SAPI of that link, or `None` if the frame is dropped.
     pub fn take(&mut self, frame: &FrameView<'_>, effects: &mut Effects) -> Option<Sapi>
         requires { FrameFits (channel_of self.old) (frame_of_view frame.now) }
         ensures sapi { (s : DataLinkState) → Represents self.old s → result ≡ sapi_for_frame (frame_of_view frame.now) s }
@@ -175,6 +179,7 @@ impl DataLink {
             → Represents self.new (after_arrival (frame_of_view frame.now) s) }
         ensures notices { (s : DataLinkState) → Represents self.old s
             → effects.new.notices ≡ notices_of_taking result (frame_of_view frame.now) s }
+        ensures frames { effects.new.frames ≡ [] }
         ensures others { IfSome result (λ sapi. link_of (other sapi) self.new ≡ link_of (other sapi) self.old) }
         ensures dropped0 { IfNone result (link_of P.Zero self.new ≡ link_of P.Zero self.old) }
         ensures dropped3 { IfNone result (link_of P.Three self.new ≡ link_of P.Three self.old) }
@@ -192,7 +197,8 @@ impl DataLink {
 
     // Keeps in mind whether a received frame took the slot of an answer on SAPI 3.
     fn hear(&mut self, frame: &FrameView<'_>)
-        ensures represents { (s : DataLinkState) → Represents self.old s → Represents self.new (having_heard (frame_of_view frame.now) s) }
+        ensures represents { (s : DataLinkState) → Represents self.old s
+            → Represents self.new (having_heard (frame_of_view frame.now) s) }
         ensures link0 { link_of P.Zero self.new ≡ link_of P.Zero self.old }
         ensures link3 { link_of P.Three self.new ≡ link_of P.Three self.old }
     {
@@ -208,6 +214,7 @@ impl DataLink {
             → Represents self.new (with_link sapi (after_frame (frame_of_view frame.now) (link_with_sapi sapi s)) s) }
         ensures notices { (s : DataLinkState) → Represents self.old s
             → effects.new.notices ≡ frame_notices (frame_of_view frame.now) (link_with_sapi sapi s) }
+        ensures frames { effects.new.frames ≡ [] }
         ensures others { link_of (other sapi) self.new ≡ link_of (other sapi) self.old }
         ensures role { role_of self.new ≡ role_of self.old }
         ensures channel { channel_of self.new ≡ channel_of self.old }

@@ -12,8 +12,7 @@ ghost use Rattle.lapdm_datalink.specs.Runs.{RunEvent, initial_run, IsRun, run_lo
 ghost use Rattle.lapdm_datalink.specs.Slots.{IsStepOfEndpoint, nr_of, took};
 
 /// Law: in a slot, the endpoint of a link does nothing, repeats the frame that awaits an answer without counting it, or handles the expiry
-/// of
-/// T200. What goes out is the answer owed, or the frame of that call.
+/// of T200. What goes out is the answer owed, or the frame of that call.
 #[tactic(auto, using(crate::proofs::Answering::step_of_endpoint))]
 pub fn law_slot_is_a_step_of_the_endpoint()
     ensures { (l : LinkState) → IsStepOfEndpoint l (slot_outcome l) }
@@ -26,8 +25,7 @@ pub fn law_answer_waits_for_one_slot()
 {}
 
 /// Law: if an open link that owes nothing takes an I frame that is in sequence or polls, the next slot that the link has carries an N(R)
-/// equal
-/// to V(R), or the link is given up in it.
+/// equal to V(R), or the link is given up in it.
 #[tactic(auto, using(crate::proofs::Answering::answers_i_frame))]
 pub fn law_i_frame_is_answered_in_the_next_slot()
     ensures { (l : LinkState) → l.endpoint.state ≡ Open → l.answer ≡ None → (ns nr : ℕ) (poll : Bool) (segment : Segment)

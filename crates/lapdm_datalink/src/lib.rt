@@ -1,6 +1,5 @@
 //! A data link: one side of a channel, mobile or network, with its loop. It decides what goes into each slot, without a queue or a timer:
-//! the
-//! frame that awaits an answer is made in its slot, and T200 counts slots. No call allocates memory.
+//! the frame that awaits an answer is made in its slot, and T200 counts slots. No call allocates memory.
 #![tactic(auto)]
 
 mod data_links;

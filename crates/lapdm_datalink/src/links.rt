@@ -7,7 +7,8 @@ ghost use Rattle.std.specs.Option.{option_map};
 ghost use Rattle.std.specs.Result.{result_err};
 ghost use Rattle.lapdm_frame.specs.Content.{Frame, content_of_body, frame_of_view};
 ghost use Rattle.lapdm_frame.specs.Frames.{FrameFits, octets_of};
-ghost use Rattle.lapdm_end.specs.lapdm_window.Calls.{endpoint_call_of, IsCallAllowedFor, SendsUi, refusal_of, call_outcome};
+ghost use Rattle.lapdm_end.specs.lapdm_window.Calls.{endpoint_call_of, IsCallAllowedFor, OpensWithoutInfo, SendsUi};
+ghost use Rattle.lapdm_end.specs.lapdm_window.Calls.{refusal_of, call_outcome};
 ghost use Rattle.lapdm_end.specs.lapdm_window.Ends.{initial_endpoint, awaits_answer};
 ghost use Rattle.lapdm_end.specs.lapdm_window.declared.Sapi.TheVariants as P;
 ghost use Rattle.lapdm_link.specs.Worlds.{rej_replaced_by_rr};
@@ -20,7 +21,9 @@ ghost use Rattle.lapdm_datalink.specs.Links.{
   with_frame,
   with_frames,
   with_outcome,
+  IsLinkCall,
   for_call,
+  is_reopened_by_call,
   for_frame,
   is_reopened_by_frame,
   after_call,
@@ -40,7 +43,7 @@ ghost use Rattle.lapdm_datalink.specs.Links.{
   sends_due_frame,
   slot_outcome,
 };
-ghost use Rattle.lapdm_datalink.specs.Abstraction.{channel_of, role_of, sapi_of, Represents, IsAnswer, notices_if};
+ghost use Rattle.lapdm_datalink.specs.Abstraction.{channel_of, role_of, sapi_of, Represents, MayBeReturned, notices_if};
 
 use lapdm_end::{Call, Channel, Effects, Endpoint, Refused, Role, Sapi, State};
 use lapdm_frame::{BLOCK_OCTETS, Body, FrameView, read_on};
@@ -130,6 +133,8 @@ impl Link {
     /// Starts the link afresh: with a new endpoint, which owes nothing and has sent nothing.
     pub fn restart(&mut self)
         ensures represents { (l : LinkState) → Represents self.old l → Represents self.new (afresh l) }
+        ensures fresh { Represents self.new
+            (link_with (initial_endpoint (role_of self.old) (sapi_of self.old) (channel_of self.old)) self.old.t200) }
         ensures role { role_of self.new ≡ role_of self.old }
         ensures sapi { sapi_of self.new ≡ sapi_of self.old }
         ensures channel { channel_of self.new ≡ channel_of self.old }
@@ -142,39 +147,42 @@ impl Link {
         self.clock = 0;
     }
 
-    /// Carries out a call of layer 3. A link that is closed starts afresh first if the call opens it. A refused call changes nothing.
+    /// Carries out a call of layer 3 that opens, sends over or closes the link. A link that is closed starts afresh first if the call opens
+    /// it. A refused call changes nothing.
     pub fn call(&mut self, call: &Call<'_>) -> Result<(), Refused>
-        requires { IsCallAllowedFor (role_of self.old) (sapi_of self.old) (endpoint_call_of call.now) }
+        requires allowed { IsCallAllowedFor (role_of self.old) (sapi_of self.old) (endpoint_call_of call.now) }
+        requires of_link { IsLinkCall (endpoint_call_of call.now) }
         ensures refusal { (l : LinkState) → Represents self.old l
             → result_err result ≡ refusal_of (endpoint_call_of call.now) (for_call (endpoint_call_of call.now) l).endpoint }
         ensures done { OnOk result ((l : LinkState) → Represents self.old l
             → Represents self.new (after_call (endpoint_call_of call.now) l)) }
-        ensures refused { OnErr result ((l : LinkState) → Represents self.old l
-            → Represents self.new (for_call (endpoint_call_of call.now) l)) }
+        ensures refused { OnErr result (self.new ≡ self.old) }
         ensures role { role_of self.new ≡ role_of self.old }
         ensures sapi { sapi_of self.new ≡ sapi_of self.old }
         ensures channel { channel_of self.new ≡ channel_of self.old }
     {
-        self.restart_if_reopened_by_call(call);
+        if self.is_reopened_by_call(call) {
+            self.restart();
+            return self.call_endpoint(call);
+        }
         self.call_endpoint(call)
     }
 
-    fn restart_if_reopened_by_call(&mut self, call: &Call<'_>)
-        ensures represents { (l : LinkState) → Represents self.old l → Represents self.new (for_call (endpoint_call_of call.now) l) }
-        ensures role { role_of self.new ≡ role_of self.old }
-        ensures sapi { sapi_of self.new ≡ sapi_of self.old }
-        ensures channel { channel_of self.new ≡ channel_of self.old }
+    // Returns whether the link is closed and this call opens it again.
+    fn is_reopened_by_call(&self, call: &Call<'_>) -> bool
+        ensures reopened { (l : LinkState) → Represents self.now l → result ≡ is_reopened_by_call (endpoint_call_of call.now) l }
+        ensures opens { IsTrue result → endpoint_call_of call.now ≡ OpensWithoutInfo }
     {
-        if let Call::OpenBare = *call {
-            if self.endpoint.state() == State::Closed {
-                self.restart();
-            }
+        match *call {
+            Call::OpenBare => self.endpoint.state() == State::Closed,
+            _ => false,
         }
     }
 
     // Passes a call to the endpoint, and keeps the frames that it returns.
     fn call_endpoint(&mut self, call: &Call<'_>) -> Result<(), Refused>
-        requires { IsCallAllowedFor (role_of self.old) (sapi_of self.old) (endpoint_call_of call.now) }
+        requires allowed { IsCallAllowedFor (role_of self.old) (sapi_of self.old) (endpoint_call_of call.now) }
+        requires of_link { IsLinkCall (endpoint_call_of call.now) }
         ensures refusal { (l : LinkState) → Represents self.old l
             → result_err result ≡ refusal_of (endpoint_call_of call.now) l.endpoint }
         ensures done { OnOk result ((l : LinkState) → Represents self.old l
@@ -196,7 +204,7 @@ impl Link {
 
     // Keeps of a frame that the endpoint returned what the slots need: an answer, or that the frame that awaits one is due.
     fn keep(&mut self, block: &[u8; BLOCK_OCTETS])
-        ensures kept { (f : Frame) (l : LinkState) → FrameFits l.endpoint.channel f → block.now ≡ octets_of l.endpoint.channel f
+        ensures kept { (f : Frame) (l : LinkState) → MayBeReturned l.endpoint f → block.now ≡ octets_of l.endpoint.channel f
             → Represents self.old l → Represents self.new (with_frame f l) }
         ensures role { role_of self.new ≡ role_of self.old }
         ensures sapi { sapi_of self.new ≡ sapi_of self.old }
@@ -216,7 +224,7 @@ impl Link {
     // Keeps at most two frames that the endpoint returned.
     fn keep_all(&mut self, blocks: &[[u8; BLOCK_OCTETS]])
         requires { length blocks.now ≤ 2 }
-        ensures kept { (fs : List Frame) (l : LinkState) → All (FrameFits l.endpoint.channel) fs
+        ensures kept { (fs : List Frame) (l : LinkState) → All (MayBeReturned l.endpoint) fs
             → blocks.now ≡ map (octets_of l.endpoint.channel) fs → Represents self.old l → Represents self.new (with_frames fs l) }
         ensures role { role_of self.new ≡ role_of self.old }
         ensures sapi { sapi_of self.new ≡ sapi_of self.old }
@@ -258,12 +266,13 @@ impl Link {
         info.is_empty() && frame.cr == (self.endpoint.role() == Role::Mobile)
     }
 
-    /// Processes a received frame of this SAPI, and writes the notices that the link reports to `effects`.
+    /// Processes a received frame of this SAPI, and writes the notices that the link reports to `effects`, without frames.
     pub fn take(&mut self, frame: &FrameView<'_>, effects: &mut Effects)
         requires { FrameFits (channel_of self.old) (frame_of_view frame.now) }
         ensures done { (l : LinkState) → Represents self.old l → Represents self.new (after_frame (frame_of_view frame.now) l) }
         ensures notices { (l : LinkState) → Represents self.old l
             → effects.new.notices ≡ frame_notices (frame_of_view frame.now) l }
+        ensures frames { effects.new.frames ≡ [] }
         ensures role { role_of self.new ≡ role_of self.old }
         ensures sapi { sapi_of self.new ≡ sapi_of self.old }
         ensures channel { channel_of self.new ≡ channel_of self.old }
@@ -294,6 +303,7 @@ impl Link {
             → Represents self.new (with_outcome (received_outcome (frame_of_view frame.now) l) l) }
         ensures notices { (l : LinkState) → Represents self.old l
             → effects.new.notices ≡ (received_outcome (frame_of_view frame.now) l).notices }
+        ensures frames { effects.new.frames ≡ [] }
         ensures role { role_of self.new ≡ role_of self.old }
         ensures sapi { sapi_of self.new ≡ sapi_of self.old }
         ensures channel { channel_of self.new ≡ channel_of self.old }
@@ -305,14 +315,14 @@ impl Link {
         };
         self.endpoint.take_frame_into(&heard, effects);
         self.keep_all(effects.frames.as_slice());
+        effects.frames.clear();
     }
 
     /// Encodes a UI frame, for a slot that is free.
-    pub fn unit(&mut self, message: &[u8]) -> Result<[u8; BLOCK_OCTETS], Refused>
-        ensures refusal { (l : LinkState) → Represents self.old l → result_err result ≡ refusal_of (SendsUi message.now) l.endpoint }
-        ensures block { IfOk result (λ block. (l : LinkState) → Represents self.old l
-            → block ≡ octets_of (channel_of self.old) (ui_frame message.now l.endpoint)) }
-        ensures unchanged { self.new ≡ self.old }
+    pub fn unit(&self, message: &[u8]) -> Result<[u8; BLOCK_OCTETS], Refused>
+        ensures refusal { (l : LinkState) → Represents self.now l → result_err result ≡ refusal_of (SendsUi message.now) l.endpoint }
+        ensures block { IfOk result (λ block. (l : LinkState) → Represents self.now l
+            → block ≡ octets_of (channel_of self.now) (ui_frame message.now l.endpoint)) }
     {
         self.endpoint.ui_block(message)
     }

@@ -1,19 +1,20 @@
 //! Exports the state of a link as plain data, and restores a link from it.
 
 ghost use Rattle.std.specs.Prelude.{◌≡◌, ◌↔◌, false, IsTrue, IsSome, IfSome};
+ghost use Rattle.lapdm_frame.specs.Content.{content_of_body, frame_of_view};
 ghost use Rattle.lapdm_end.specs.Addresses.{spec_role_of};
 ghost use Rattle.lapdm_datalink.specs.Links.{LinkState};
 ghost use Rattle.lapdm_datalink.specs.DataLinks.{DataLinkState, IsDataLink, having_main};
 ghost use Rattle.lapdm_datalink.specs.Abstraction as L;
-ghost use Rattle.lapdm_datalink.specs.Abstraction.{Represents, role_of, sapi_of, channel_of as link_channel};
+ghost use Rattle.lapdm_datalink.specs.Abstraction.{Represents, IsAnswer, is_answer_kind, role_of, sapi_of, channel_of as link_channel};
 ghost use Rattle.lapdm_datalink.specs.Parts.{values_of, values_of_parts, ValuesRepresent};
-ghost use Rattle.lapdm_datalink.specs.Parts.{IsAnswerBlock, IsAnswerBlockIfAny, IsAtSameAddress, CanBeRestored, IsWritable};
+ghost use Rattle.lapdm_datalink.specs.Parts.{IsAnswerBlock, HasAnswerBlockIfAny, IsAtSameAddress, CanBeRestored, IsWritable};
 ghost use Rattle.lapdm_datalink.specs.Parts.{data_link_values_of, data_link_values_of_parts, RepresentDataLink, RepresentSomeDataLink};
 
 use crate::data_links::DataLink;
-use crate::links::{Link, is_awaiting_kind};
+use crate::links::Link;
 use lapdm_end::{Channel, EndpointView, Role, Sapi};
-use lapdm_frame::{BLOCK_OCTETS, read_on, write_on};
+use lapdm_frame::{BLOCK_OCTETS, Body, FrameView, read_on, write_on};
 
 /// The state of a link as plain data.
 #[derive(Clone, Copy, Debug)]
@@ -42,14 +43,34 @@ pub struct DataLinkView<'a> {
     pub is_main_established: bool,
 }
 
-// Returns whether the block is the coding of an answer.
-fn is_answer_block(block: &[u8; BLOCK_OCTETS], channel: Channel) -> bool
-    ensures { IsTrue result ↔ IsAnswerBlock channel block.now }
+fn is_answer_kind(body: &Body<'_>) -> bool
+    ensures { result ≡ is_answer_kind (content_of_body body.now) }
+{
+    match *body {
+        Body::Ua { .. } | Body::Dm { .. } | Body::Rr { .. } | Body::Rej { .. } => true,
+        _ => false,
+    }
+}
+
+// Returns whether the frame is an answer of a link with this role and SAPI.
+fn is_answer(frame: &FrameView<'_>, role: Role, sapi: Sapi) -> bool
+    ensures { IsTrue result ↔ IsAnswer (spec_role_of role) sapi (frame_of_view frame.now) }
+{
+    let number = match sapi {
+        Sapi::Zero => 0,
+        Sapi::Three => 3,
+    };
+    is_answer_kind(&frame.body) && frame.sapi == number && frame.cr == (role == Role::Mobile)
+}
+
+// Returns whether the block is the coding of an answer of a link with this role, SAPI and channel.
+fn is_answer_block(block: &[u8; BLOCK_OCTETS], role: Role, sapi: Sapi, channel: Channel) -> bool
+    ensures { IsTrue result ↔ IsAnswerBlock (spec_role_of role) sapi channel block.now }
 {
     match read_on(block, channel) {
         Err(_) => false,
         Ok(frame) => {
-            if is_awaiting_kind(&frame.body) {
+            if !is_answer(&frame, role, sapi) {
                 return false;
             }
             write_on(&frame, channel) == *block
@@ -57,12 +78,17 @@ fn is_answer_block(block: &[u8; BLOCK_OCTETS], channel: Channel) -> bool
     }
 }
 
-fn is_answer_block_if_any(answer: &Option<[u8; BLOCK_OCTETS]>, channel: Channel) -> bool
-    ensures { IsTrue result ↔ IsAnswerBlockIfAny channel answer.now }
+fn has_answer_block_if_any(parts: &LinkView<'_>) -> bool
+    ensures { IsTrue result ↔ HasAnswerBlockIfAny (values_of_parts parts.now) }
 {
-    match answer {
+    match &parts.answer {
         None => true,
-        Some(block) => is_answer_block(block, channel),
+        Some(block) => is_answer_block(
+            block,
+            parts.endpoint.role,
+            parts.endpoint.sapi,
+            parts.endpoint.window.channel,
+        ),
     }
 }
 
@@ -111,7 +137,7 @@ impl Link {
         if !self.has_address_of(parts) {
             return false;
         }
-        if !is_answer_block_if_any(&parts.answer, parts.endpoint.window.channel) {
+        if !has_answer_block_if_any(parts) {
             return false;
         }
         if !self.endpoint.restore(&parts.endpoint) {
@@ -158,6 +184,38 @@ impl DataLink {
         self.link3.t200 != 0
     }
 
+    // Makes this a data link with this role and channel.
+    fn move_to(&mut self, role: Role, channel: Channel)
+        ensures role { data_link_role self.new ≡ spec_role_of role }
+        ensures channel { channel_of self.new ≡ channel }
+    {
+        if is_same_role(role, self.role()) && channel == self.channel() {
+            return;
+        }
+        *self = DataLink::new_on(role, channel, 1, 1);
+    }
+
+    /// Restores a data link from its state. Returns false if no data link can have this state; this data link then has to be restored
+    /// again.
+    pub fn restore(&mut self, parts: &DataLinkView<'_>) -> bool
+        ensures same { IsTrue result → data_link_values_of self.new ≡ data_link_values_of_parts parts.now }
+        ensures represents { IsTrue result
+            → (s : DataLinkState) → RepresentDataLink (data_link_values_of_parts parts.now) s → DataLinkRepresents self.new s }
+        ensures valid { IsTrue result ↔ RepresentSomeDataLink (data_link_values_of_parts parts.now) }
+    {
+        let end = &parts.link0.endpoint;
+        self.move_to(end.role, end.window.channel);
+        if !self.restore_link(Sapi::Zero, &parts.link0) {
+            return false;
+        }
+        if !self.restore_link(Sapi::Three, &parts.link3) {
+            return false;
+        }
+        self.heard_sapi0 = parts.heard_sapi0;
+        self.is_main_established = parts.is_main_established;
+        self.is_data_link()
+    }
+
     /// Returns the data link with this state, or `None` if no data link can have it.
     pub fn from_parts(parts: &DataLinkView<'_>) -> Option<DataLink>
         ensures same { IfSome result (λ m. data_link_values_of m ≡ data_link_values_of_parts parts.now) }
@@ -165,24 +223,13 @@ impl DataLink {
             (λ m. (s : DataLinkState) → RepresentDataLink (data_link_values_of_parts parts.now) s → DataLinkRepresents m s) }
         ensures valid { IsSome result ↔ RepresentSomeDataLink (data_link_values_of_parts parts.now) }
     {
-        let mut held = DataLink::new_on(
-            parts.link0.endpoint.role,
-            parts.link0.endpoint.window.channel,
-            0,
-            0,
-        );
-        if !held.restore_link(Sapi::Zero, &parts.link0) {
-            return None;
+        let end = &parts.link0.endpoint;
+        let mut held = DataLink::new_on(end.role, end.window.channel, 1, 1);
+        if held.restore(parts) {
+            Some(held)
+        } else {
+            None
         }
-        if !held.restore_link(Sapi::Three, &parts.link3) {
-            return None;
-        }
-        if !held.is_data_link() {
-            return None;
-        }
-        held.heard_sapi0 = parts.heard_sapi0;
-        held.is_main_established = parts.is_main_established;
-        Some(held)
     }
 
     /// Says whether the link of SAPI 0 on the main channel is established.

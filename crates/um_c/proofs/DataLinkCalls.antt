@@ -21,14 +21,16 @@ use Rattle.lapdm_datalink.specs.Links.{LinkState, for_call, after_call, ui_frame
 use Rattle.lapdm_datalink.specs.DataLinks.{DataLinkState, link_with_sapi, with_link, after_arrival, sapi_for_frame, arrival_notices}
 use Rattle.lapdm_datalink.specs.DataLinks.{data_link_outcome}
 use Rattle.lapdm_datalink.specs.Abstraction.{notices_if}
-use Rattle.lapdm_datalink.specs.Parts.{LinkValues, DataLinkValues, RepresentDataLink, data_link_values_of}
+use Rattle.lapdm_datalink.specs.Parts.{LinkValues, DataLinkValues, RepresentDataLink, RepresentSomeDataLink, data_link_values_of}
 use Rattle.lapdm_datalink.specs.Sides as D
+use Rattle.lapdm_datalink.proofs.Lemmas.{one_data_link_values}
 use Rattle.um_c.specs.declared.datalinks.CDataLink.{CDataLink}
 use Rattle.um_c.specs.States.{sapi_of, sapi_number}
 use Rattle.um_c.specs.EndCalls.{call_refusal_number}
 use Rattle.um_c.specs.Effects.{c_notice, blank_notice}
 use Rattle.um_c.specs.DataLinkCalls.{answer_from, link_values_from, data_link_values_from, RepresentsDataLink, RepresentsSomeDataLink}
-use Rattle.um_c.specs.DataLinkCalls.{owed_number, answer_octets, c_timed_end, c_data_link, c_report, reports_of, reports_if_taken}
+use Rattle.um_c.specs.DataLinkCalls.{IsWrittenFor, owed_number, answer_octets, c_timed_end, c_data_link, c_report, reports_of}
+use Rattle.um_c.specs.DataLinkCalls.{reports_if_taken}
 use Rattle.um_c.specs.DataLinkCalls.{DataLinkAnswersCall, DataLinkChangesLink, DataLinkChanges, DataLinkReceivesBlock, DataLinkFillsSlot}
 use Rattle.um_c.specs.DataLinkCalls.{DataLinkEncodesUnit, with_layer1, slot_answer, slot_frame}
 use Rattle.um_c.specs.declared.datalinks.CReport.{CReport}
@@ -56,18 +58,26 @@ data_link-c_struct m =
 -- a struct that was written from a Rust data link represents what that represents
 pub written : (m : DataLink) (s : DataLinkState) (after : CDataLink) → D.Represents m s →
     after ≡ c_data_link (data_link_values_of m) →
-    RepresentsDataLink after s
+    IsWrittenFor s after
 written m s after h is = record {
-  values = data_link_values_of m;
-  decoded = ap data_link_values_from is ∙ data_link-c_struct m;
   represents = record {
-    valid = h.valid;
-    link0 = record { link = m.link0; values_match = refl; represents = h.link0 };
-    link3 = record { link = m.link3; values_match = refl; represents = h.link3 };
-    heard_sapi0 = h.heard_sapi0;
-    is_main_established = h.is_main_established;
+    values = data_link_values_of m;
+    decoded = ap data_link_values_from is ∙ data_link-c_struct m;
+    represents = record {
+      valid = h.valid;
+      link0 = record { link = m.link0; values_match = refl; represents = h.link0 };
+      link3 = record { link = m.link3; values_match = refl; represents = h.link3 };
+      heard_sapi0 = h.heard_sapi0;
+      is_main_established = h.is_main_established;
+    };
   };
+  canonical = is;
 }
+
+-- structs that were written for the same data link are equal
+pub one_struct : (a b : CDataLink) (s : DataLinkState) → IsWrittenFor s a → IsWrittenFor s b → a ≡ b
+one_struct a b s h g =
+    h.canonical ∙ ap c_data_link (one_data_link_values _ _ s h.represents.represents g.represents.represents) ∙ sym g.canonical
 
 -- the values in the struct represent what the struct represents
 pub decoded : (c : CDataLink) (x : DataLinkValues) (s : DataLinkState) → data_link_values_from c ≡ Some x → RepresentsDataLink c s →
@@ -76,6 +86,14 @@ decoded c x s is h = subst (λ (y : DataLinkValues). RepresentDataLink y s) (sam
   where
     same : {a b : DataLinkValues} → Some a ≡ Some b → a ≡ b
     same e = cc
+
+-- the struct represents a data link exactly if its values do
+pub some_data_link : (c : CDataLink) (x : DataLinkValues) → data_link_values_from c ≡ Some x →
+    (RepresentSomeDataLink x → RepresentsSomeDataLink c) × (RepresentsSomeDataLink c → RepresentSomeDataLink x)
+some_data_link c x is = (
+  λ h. (h.0, record { values = x; decoded = is; represents = h.1 }),
+  λ h. (h.0, decoded c x h.0 is h.1),
+)
 
 -- ## Reports
 
@@ -97,6 +115,52 @@ report_is sapi (a ∷ b ∷ c ∷ d ∷ ns) r h notices sapis count = absurd (om
 pub record IsRead (c : CDataLink) (m : DataLink) : Type 0 where
   pub represents : (s : DataLinkState) → RepresentsDataLink c s → D.Represents m s
   pub some : RepresentsSomeDataLink c
+
+-- a struct that represents no data link: the call returns 7 and writes nothing
+module _ (c : CDataLink) (no : RepresentsSomeDataLink c → ⊥) where
+  pub answers_call_by_7 : (sapi : ℕ) (call : Call) → DataLinkAnswersCall sapi call 7 c c
+  answers_call_by_7 sapi call = record {
+    carried_out = λ s h p e a none. absurd (no (s, h));
+    refused = λ s h p e a reason refuses. absurd (no (s, h));
+    unsupported_call = λ s h p e never. absurd (no (s, h));
+    no_such_sapi = λ some none. absurd (no some);
+    invalid_struct = λ none. refl;
+    unchanged = λ other. refl;
+  }
+
+  pub changes_link_by_7 : (sapi : ℕ) (change : LinkState → LinkState) → DataLinkChangesLink sapi change 7 c c
+  changes_link_by_7 sapi change = record {
+    carried_out = λ s h p e. absurd (no (s, h));
+    no_such_sapi = λ some none. absurd (no some);
+    invalid_struct = λ none. refl;
+    unchanged = λ other. refl;
+  }
+
+  pub changes_by_7 : (change : DataLinkState → DataLinkState) → DataLinkChanges change 7 c c
+  changes_by_7 change = record {
+    carried_out = λ s h. absurd (no (s, h));
+    invalid_struct = λ none. refl;
+    unchanged = λ other. refl;
+  }
+
+  pub receives_by_7 : (octets : List ℕ) (r : CReport) → DataLinkReceivesBlock octets 7 c c r r
+  receives_by_7 octets r = record {
+    carried_out = λ s h f only. absurd (no (s, h));
+    reported = λ s h f only. absurd (no (s, h));
+    invalid_frame = λ s h reason refused. absurd (no (s, h));
+    invalid_struct = λ none. refl;
+    unchanged = λ other. (refl, refl);
+  }
+
+  pub fills_slot_by_7 : (layer1 block : List ℕ) (r : CReport) → DataLinkFillsSlot layer1 7 c c block block r r
+  fills_slot_by_7 layer1 block r = record {
+    written = λ s h. absurd (no (s, h));
+    answer_is = λ s h. absurd (no (s, h));
+    block_is = λ s h. absurd (no (s, h));
+    reported = λ s h. absurd (no (s, h));
+    invalid_struct = λ none. refl;
+    unchanged = λ seven. (refl, refl, refl);
+  }
 
 same_sapi : (sapi : ℕ) (p q : Sapi) → Some p ≡ sapi_of sapi → Some q ≡ sapi_of sapi → q ≡ p
 same_sapi sapi p q h g = some_same (g ∙ sym h)
@@ -138,7 +202,7 @@ module _ {c : CDataLink} {m : DataLink} (sapi : ℕ) (p : Sapi) (is : Some p ≡
     answers_ok n after wrote refusal allowed does = record {
       carried_out = λ s h q e a none. record {
         answer_is_0 = refl;
-        represents = rw (same_sapi sapi p q is e) (written n _ after (does s (read.represents s h)) wrote);
+        written = rw (same_sapi sapi p q is e) (written n _ after (does s (read.represents s h)) wrote);
       };
       refused = λ s h q e a other refuses. (let f = refusal s (read.represents s h) in
           absurd (none_some other (f ∙ (rw (same_sapi sapi p q is e) at refuses))));
@@ -170,7 +234,7 @@ module _ {c : CDataLink} {m : DataLink} (sapi : ℕ) (p : Sapi) (is : Some p ≡
   changes_link n after change wrote does = record {
     carried_out = λ s h q e. record {
       answer_is_0 = refl;
-      represents = rw (same_sapi sapi p q is e) (written n _ after (does s (read.represents s h)) wrote);
+      written = rw (same_sapi sapi p q is e) (written n _ after (does s (read.represents s h)) wrote);
     };
     no_such_sapi = λ some none. absurd (known none);
     invalid_struct = λ none. absurd (none read.some);
@@ -182,7 +246,7 @@ module _ {c : CDataLink} {m : DataLink} (read : IsRead c m) where
       after ≡ c_data_link (data_link_values_of n) →
       ((s : DataLinkState) → D.Represents m s → D.Represents n (change s)) → DataLinkChanges change 0 c after
   changes n after change wrote does = record {
-    carried_out = λ s h. record { answer_is_0 = refl; represents = written n _ after (does s (read.represents s h)) wrote };
+    carried_out = λ s h. record { answer_is_0 = refl; written = written n _ after (does s (read.represents s h)) wrote };
     invalid_struct = λ none. absurd (none read.some);
     unchanged = λ other. absurd (other refl);
   }
@@ -209,7 +273,7 @@ module _ {c : CDataLink} {m : DataLink} (read : IsRead c m) where
       λ s h. rw (on s (read.represents s h)) at frame in
       record {
         carried_out = λ s h g only. rw ((known s h).unique g only.frame)
-            (record { answer_is_0 = refl; represents = written n _ after (does s (read.represents s h)) wrote });
+            (record { answer_is_0 = refl; written = written n _ after (does s (read.represents s h)) wrote });
         reported = λ s h g only. rw ((known s h).unique g only.frame) (reports s (read.represents s h));
         invalid_frame = λ s h reason refusal. absurd (refusal.no_frame f (known s h).frame);
         invalid_struct = λ none. absurd (none read.some);
@@ -252,7 +316,7 @@ module _ {c : CDataLink} {m : DataLink} (read : IsRead c m) where
       λ s h. sends s (k s h)
       ∙ ap (λ (x : Channel). option_map (octets_of x) (data_link_outcome s).frame) (k s h).link0.endpoint.address.channel in
       record {
-        represents = λ s h. written n _ after (does s (k s h)) wrote;
+        written = λ s h. written n _ after (does s (k s h)) wrote;
         answer_is = λ s h. answer_is ∙ ap (λ (x : Option (List ℕ)). if is_none x then 10 else 0) (se s h)
             ∙ slot_answer-is s.link0.endpoint.channel (data_link_outcome s).frame;
         block_is = λ s h. block_is ∙ (λ i. with_layer1 (ch s h i) layer1 (

@@ -102,6 +102,11 @@ c_data_link x = record {
   main = bit_of_bool x.is_main_established;
 }
 
+-- the struct was written for the data link `s`: it represents `s`, with zeros in all unused octets
+pub record IsWrittenFor (s : DataLinkState) (after : CDataLink) : Type 0 where
+  pub represents : RepresentsDataLink after s
+  pub canonical : after ≡ c_data_link represents.values
+
 -- ---- reports
 
 -- the struct of these notices, each with its SAPI, in order, with zeros in the unused array elements
@@ -122,17 +127,17 @@ reports_if_taken (Some sapi) ns = reports_of sapi ns
 
 -- ---- the calls
 
--- the call succeeds, and `after` represents this data link
+-- the call succeeds, and `after` is written for this data link
 pub record Succeeds (s : DataLinkState) (answer : ℕ) (after : CDataLink) : Type 0 where
   pub answer_is_0 : answer ≡ 0
-  pub represents : RepresentsDataLink after s
+  pub written : IsWrittenFor s after
 
--- if role, channel and both T200 are valid, the call returns true, and `after` represents a new data link; otherwise it returns false and
--- writes nothing
+-- if role, channel and both T200 are valid, the call returns true, and `after` is written for a new data link; otherwise it returns false
+-- and writes nothing
 abbrev pub WritesDataLinkIfValid : (role : Option Side) (channel : Option Channel) (t200 t200_sapi3 : ℕ) (are_set : Bool) (answer : Bool)
     (before after : CDataLink) → Type 0
 WritesDataLinkIfValid (Some role) (Some channel) t t3 true answer before after =
-    (answer ≡ true) × RepresentsDataLink after (initial_data_link (A.spec_role_of role) channel t t3)
+    (answer ≡ true) × IsWrittenFor (initial_data_link (A.spec_role_of role) channel t t3) after
 WritesDataLinkIfValid role channel t t3 are_set answer before after = (answer ≡ false) × (after ≡ before)
 
 -- a call of layer 3 to the link of this SAPI is carried out or refused; the call returns 8 if no link has this SAPI or the link does not
@@ -166,8 +171,7 @@ pub record DataLinkChanges (change : DataLinkState → DataLinkState) (answer : 
   pub unchanged : answer ≢ 0 → after ≡ before
 
 -- the data link receives the frame that the block encodes; the call returns 9 if the block encodes no frame, and 7 if `before` represents
--- no
--- data link; unless it returns 0, it writes nothing
+-- no data link; unless it returns 0, it writes nothing
 pub record DataLinkReceivesBlock (octets : List ℕ) (answer : ℕ) (before after : CDataLink) (report_old report : CReport) : Type 0 where
   pub carried_out : (s : DataLinkState) → RepresentsDataLink before s → (f : Frame) →
       IsOnlyEncodedFrame s.link0.endpoint.channel f octets →
@@ -199,7 +203,7 @@ slot_frame role (Some f) = f
 pub record DataLinkFillsSlot (layer1 : List ℕ) (answer : ℕ) (before after : CDataLink) (block_old block : List ℕ)
     (report_old report : CReport) : Type 0
   where
-    pub represents : (s : DataLinkState) → RepresentsDataLink before s → RepresentsDataLink after (data_link_outcome s).new_state
+    pub written : (s : DataLinkState) → RepresentsDataLink before s → IsWrittenFor (data_link_outcome s).new_state after
     pub answer_is : (s : DataLinkState) → RepresentsDataLink before s → answer ≡ slot_answer (data_link_outcome s).frame
     pub block_is : (s : DataLinkState) → RepresentsDataLink before s → block ≡ with_layer1 s.link0.endpoint.channel layer1
         (octets_of s.link0.endpoint.channel (slot_frame s.link0.endpoint.role (data_link_outcome s).frame))

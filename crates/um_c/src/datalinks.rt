@@ -15,10 +15,11 @@ ghost use Rattle.um_air.specs.lapdm_window.Ends.{command_cr};
 ghost use Rattle.um_air.specs.lapdm_window.Calls.{endpoint_call_of, IsCallAllowedFor, IsCallAllowedForEndpoint, Opens, OpensWithoutInfo};
 ghost use Rattle.um_air.specs.lapdm_window.Calls.{Sends, Closes};
 ghost use Rattle.lapdm_end.specs.Addresses.{spec_role_of};
-ghost use Rattle.lapdm_datalink.specs.Links.{afresh};
+ghost use Rattle.lapdm_datalink.specs.Links.{afresh, IsLinkCall};
 ghost use Rattle.lapdm_datalink.specs.DataLinks.{DataLinkState, link_with_sapi, having_main};
 ghost use Rattle.lapdm_datalink.specs.Parts.{values_of_parts, IsWritable, data_link_values_of, data_link_values_of_parts};
 ghost use Rattle.lapdm_datalink.specs.Sides.{role_of as data_link_role, Represents};
+ghost use Rattle.um_c.specs.declared.datalinks.CDataLink.{CDataLink as Struct};
 ghost use Rattle.um_c.specs.Plain.{channel_of, is_nonzero};
 ghost use Rattle.um_c.specs.States.{role_of, sapi_number};
 ghost use Rattle.um_c.specs.Effects.{c_notice, blank_notice};
@@ -27,6 +28,7 @@ ghost use Rattle.um_c.specs.DataLinkCalls.{
   link_values_from,
   data_link_values_from,
   RepresentsDataLink,
+  IsWrittenFor,
   RepresentsSomeDataLink,
   c_timed_end,
   c_data_link,
@@ -93,6 +95,11 @@ pub struct CReport {
     pub notice_count: u8,
 }
 
+/// Law: two structs that calls wrote for the same data link are equal, octet by octet.
+pub fn law_equal_data_links_have_equal_structs()
+    ensures { (a b : Struct) (s : DataLinkState) → IsWrittenFor s a → IsWrittenFor s b → a ≡ b }
+{}
+
 fn answer_of(c_struct: &CTimedEnd) -> Option<[u8; BLOCK_OCTETS]>
     ensures { result ≡ answer_from c_struct.now.owed c_struct.now.answer }
 {
@@ -130,13 +137,31 @@ fn data_link_view_of(data_link: &CDataLink) -> Option<DataLinkView<'_>>
     })
 }
 
-/// Returns the data link that the struct represents, or `None` if it represents none.
-fn read_data_link(data_link: &CDataLink) -> Option<DataLink>
-    ensures represents { IfSome result (λ m. (s : DataLinkState) → RepresentsDataLink data_link.now s → Represents m s) }
-    ensures valid { IsSome result ↔ RepresentsSomeDataLink data_link.now }
+/// Creates a placeholder, which is then overwritten with the state in the struct. It has the role and channel of the struct, if they are
+/// valid, so that nothing else is created.
+fn placeholder_for(data_link: &CDataLink) -> DataLink {
+    let end = &data_link.link0.end;
+    let role = match role_of(end.role) {
+        Some(role) => role,
+        None => Role::Mobile,
+    };
+    let channel = match channel_of(end.channel) {
+        Some(channel) => channel,
+        None => Channel::Sdcch,
+    };
+    DataLink::new_on(role, channel, 1, 1)
+}
+
+/// Reads the state into `held` and returns true if it represents a data link; otherwise returns false.
+fn read_data_link(data_link: &CDataLink, held: &mut DataLink) -> bool
+    ensures represents { IsTrue result → (s : DataLinkState) → RepresentsDataLink data_link.now s → Represents held.new s }
+    ensures valid { IsTrue result ↔ RepresentsSomeDataLink data_link.now }
+    ensures invalid { result ≡ false → RepresentsSomeDataLink data_link.now → ⊥ }
 {
-    let parts = data_link_view_of(data_link)?;
-    DataLink::from_parts(&parts)
+    match data_link_view_of(data_link) {
+        Some(parts) => held.restore(&parts),
+        None => false,
+    }
 }
 
 /// Writes the state of a link.
@@ -172,8 +197,7 @@ fn write_data_link(held: &DataLink, data_link: &mut CDataLink)
 }
 
 /// Writes the state of a new data link, with T200 of SAPI 0 and of SAPI 3 in slots. Returns false, and writes nothing, if the role or
-/// channel
-/// is invalid or a T200 is 0.
+/// channel is invalid or a T200 is 0.
 #[unsafe(no_mangle)]
 pub extern "C" fn um_datalink_new(
     data_link: &mut CDataLink,
@@ -207,12 +231,12 @@ pub extern "C" fn um_datalink_new(
 pub extern "C" fn um_datalink_valid(data_link: &CDataLink) -> bool
     ensures { IsTrue result ↔ RepresentsSomeDataLink data_link.now }
 {
-    read_data_link(data_link).is_some()
+    let mut held = placeholder_for(data_link);
+    read_data_link(data_link, &mut held)
 }
 
 /// Returns whether the link of this SAPI supports the call: only a mobile establishes the link of SAPI 0, with information in its SABM;
-/// either
-/// side establishes that of SAPI 3, without information.
+/// either side establishes that of SAPI 3, without information.
 fn link_supports_call(held: &DataLink, sapi: Sapi, call: &Call<'_>) -> bool
     ensures exists { IsTrue result → IsCallAllowedFor (data_link_role held.now) sapi (endpoint_call_of call.now) }
     ensures allowed { IsTrue result → (s : DataLinkState) → Represents held.now s
@@ -240,11 +264,13 @@ fn link_supports_call(held: &DataLink, sapi: Sapi, call: &Call<'_>) -> bool
 
 /// Carries out a call of layer 3 to the link of this SAPI. Returns 0, or an error number.
 fn call_data_link(data_link: &mut CDataLink, sapi: u8, call: &Call<'_>) -> u8
+    requires { IsLinkCall (endpoint_call_of call.now) }
     ensures { DataLinkAnswersCall sapi (endpoint_call_of call.now) result data_link.old data_link.new }
 {
-    let Some(mut held) = read_data_link(data_link) else {
+    let mut held = placeholder_for(data_link);
+    if !read_data_link(data_link, &mut held) {
         return INVALID_ENDPOINT;
-    };
+    }
     let Some(sapi) = sapi_of(sapi) else {
         return CALL_NOT_SUPPORTED;
     };
@@ -301,9 +327,10 @@ pub extern "C" fn um_datalink_close(data_link: &mut CDataLink, sapi: u8) -> u8
 pub extern "C" fn um_datalink_close_local(data_link: &mut CDataLink, sapi: u8) -> u8
     ensures { DataLinkChangesLink sapi afresh result data_link.old data_link.new }
 {
-    let Some(mut held) = read_data_link(data_link) else {
+    let mut held = placeholder_for(data_link);
+    if !read_data_link(data_link, &mut held) {
         return INVALID_ENDPOINT;
-    };
+    }
     let Some(sapi) = sapi_of(sapi) else {
         return CALL_NOT_SUPPORTED;
     };
@@ -317,9 +344,10 @@ pub extern "C" fn um_datalink_close_local(data_link: &mut CDataLink, sapi: u8) -
 pub extern "C" fn um_datalink_main(data_link: &mut CDataLink, established: bool) -> u8
     ensures { DataLinkChanges (having_main established) result data_link.old data_link.new }
 {
-    let Some(mut held) = read_data_link(data_link) else {
+    let mut held = placeholder_for(data_link);
+    if !read_data_link(data_link, &mut held) {
         return INVALID_ENDPOINT;
-    };
+    }
     held.set_main_established(established);
     write_data_link(&held, data_link);
     0
@@ -335,9 +363,10 @@ pub extern "C" fn um_datalink_take(
     ensures { DataLinkReceivesBlock octets.now result data_link.old data_link.new report.old report.new }
 {
     let mut effects = Effects::new();
-    let Some(mut held) = read_data_link(data_link) else {
+    let mut held = placeholder_for(data_link);
+    if !read_data_link(data_link, &mut held) {
         return INVALID_ENDPOINT;
-    };
+    }
     let Ok(frame) = read_on(octets, held.channel()) else {
         return INVALID_FRAME;
     };
@@ -411,9 +440,10 @@ pub extern "C" fn um_datalink_unit(
 ) -> u8
     ensures { DataLinkEncodesUnit sapi (octets_in_buffer message.now) layer1.now result data_link.now block.old block.new }
 {
-    let Some(mut held) = read_data_link(data_link) else {
+    let mut held = placeholder_for(data_link);
+    if !read_data_link(data_link, &mut held) {
         return INVALID_ENDPOINT;
-    };
+    }
     let Some(sapi) = sapi_of(sapi) else {
         return CALL_NOT_SUPPORTED;
     };
@@ -436,9 +466,10 @@ pub extern "C" fn um_datalink_next(
 ) -> u8
     ensures { DataLinkFillsSlot layer1.now result data_link.old data_link.new block.old block.new report.old report.new }
 {
-    let Some(mut held) = read_data_link(data_link) else {
+    let mut held = placeholder_for(data_link);
+    if !read_data_link(data_link, &mut held) {
         return INVALID_ENDPOINT;
-    };
+    }
     let slot = held.next();
     let written = slot_block(slot.block, held.role(), held.channel());
     *block = with_layer1(held.channel(), layer1, written);

@@ -11,11 +11,11 @@ returns-then-not-restore-clause-valid c = (
       (some_endpoint (values_of_parts c.args.parts.now) h.1))),
 )
 
-pub returns-then-not-is_answer_block_if_any-clause-valid : goal.returns-then-not-is_answer_block_if_any-clause-valid
-returns-then-not-is_answer_block_if_any-clause-valid c = (
+pub returns-then-not-has_answer_block_if_any-clause-valid : goal.returns-then-not-has_answer_block_if_any-clause-valid
+returns-then-not-has_answer_block_if_any-clause-valid c = (
   λ s. absurd (false≢true s),
-  λ h. absurd (false≢true (sym c.if-not-is_answer_block_if_any.true
-      ∙ c.is_answer_block_if_any.ensures.1 (some_answer (values_of_parts c.args.parts.now) h.1))),
+  λ h. absurd (false≢true (sym c.if-not-has_answer_block_if_any.true
+      ∙ c.has_answer_block_if_any.ensures.1 (some_answer (values_of_parts c.args.parts.now) h.1))),
 )
 
 pub returns-clause-valid : goal.returns-clause-valid
@@ -24,7 +24,7 @@ returns-clause-valid c =
       λ s. (
         c.has_address_of.ensures.0 c.if-not-has_address_of.false,
         some_link x (c.restore.ensures.valid.0 c.if-not-restore.false)
-            (c.is_answer_block_if_any.ensures.0 c.if-not-is_answer_block_if_any.false),
+            (c.has_answer_block_if_any.ensures.0 c.if-not-has_answer_block_if_any.false),
       ),
       λ h. refl,
     )
