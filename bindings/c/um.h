@@ -508,7 +508,7 @@ typedef struct um_timed_end {
 typedef struct um_datalink {
 	um_timed_end link0; /* SAPI 0 */
 	um_timed_end link3; /* SAPI 3 */
-	uint8_t heard0;     /* whether the last frame taken since um_datalink_next was of SAPI 0 and not UI; any value but 0 means yes */
+	uint8_t heard0;     /* whether a frame of SAPI 0 other than UI was taken since um_datalink_next; any value but 0 means yes */
 	uint8_t main;       /* what um_datalink_main said last; any value but 0 means yes */
 } um_datalink;
 
