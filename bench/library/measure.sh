@@ -8,5 +8,16 @@ cc -std=gnu99 -O2 -Ibindings/c bench/library/ends.c crates/um_c/out/libum_c.a -o
 "$work/ends"
 cc -std=gnu99 -O2 -Ibindings/c bench/library/datalinks.c crates/um_c/out/libum_c.a -o "$work/datalinks" || exit 1
 "$work/datalinks"
+cc -std=gnu99 -O2 -Ibindings/c bench/library/slots.c crates/um_c/out/libum_c.a -o "$work/slots" || exit 1
+"$work/slots"
+# instructions CALL BLOCKS: of slots.c, with all that it does besides
+instructions() {
+  valgrind --tool=callgrind --callgrind-out-file=/dev/null "$work/slots" "$1" "$2" 2>&1 | sed -n 's/.*refs: *//p' | tr -d ,
+}
+if command -v valgrind >"$work/where"; then
+  for call in 0 1 2; do
+    echo "call $call of slots.c: $((($(instructions $call 1500) - $(instructions $call 500)) / 1000)) instructions a block"
+  done
+fi
 cc -std=gnu99 -O2 -Ibindings/c bench/library/bench.c crates/um_c/out/libum_c.a -o "$work/bench" -losmocoding -losmocore || exit 1
 "$work/bench" "$@"

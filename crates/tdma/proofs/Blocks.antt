@@ -1,20 +1,21 @@
 -- No frame carries bursts of two rows, and the bursts of a block have one place.
 use Rattle.bit_blocks.proofs.Lemmas.{at_passes_below, both_true, passes_below}
-use Rattle.std.proofs.Common.{Bool, Contains, Option, None, Some, [], ap, arith, eqb, false, ltb, not, refl, subst, sym, true}
+use Rattle.std.proofs.Common.{Bool, Contains, List, Option, None, Some, [], ap, arith, eqb, false, ltb, not, refl, subst, sym, true}
 use Rattle.std.proofs.Common.{ℕ, cond, inl, inr, ◌%◌, ◌&&◌, ◌*◌, ◌+◌, ◌-◌, ◌/◌, ◌<◌, ◌∙◌, ◌≡◌}
-use Rattle.std.proofs.Common.{◌≢◌, ◌⊎◌, ◌||◌}
+use Rattle.std.proofs.Common.{◌≢◌, ◌∷◌, ◌⊎◌, ◌||◌}
 use Rattle.std.specs.List.{list_all}
 use Rattle.std.proofs.lemmas.Bool.Decides.{Decides-eqb, Decides-ltb, Decides-or, nat_tests}
-use Rattle.std.proofs.lemmas.List.Elements.{All-cons, All-contains, All-nil}
+use Rattle.std.proofs.lemmas.List.Elements.{All-cons, All-contains, All-nil, Contains-append_left, Contains-append_right, Contains-push}
 use Rattle.std.proofs.lemmas.Bool.{cases_lt}
 use Rattle.tdma.specs.declared.channels.Channel.TheVariants.{Sacch}
 use Rattle.std.proofs.lemmas.List.Sums.{AllPass-from_list_all}
-use Rattle.tdma.specs.Channels.{Mapping, burst_spacing, carries, frames_since, mappings, place_at, place_of, position_of}
+use Rattle.tdma.specs.Channels.{Mapping, burst_spacing, carries, frames_since, mappings, place_at, place_of, position_among, position_of}
 use Rattle.tdma.specs.declared.TheConstants.{HYPERFRAME}
 use Rattle.tdma.specs.declared.channels.Combination.{Combination}
 use Rattle.tdma.specs.declared.channels.Combination.TheVariants.{BcchCcch, BcchCcchSdcch4, Sdcch8, TchF}
 use Rattle.tdma.specs.declared.channels.Direction.{Direction}
 use Rattle.tdma.specs.declared.channels.Direction.TheVariants.{Downlink, Uplink}
+use Rattle.tdma.specs.declared.places.Place.{Place}
 use Rattle.tdma.specs.declared.schedule.Position.{Position}
 use Rattle.tdma.proofs.Cycles.{position_at_remainder, repeats, same_since}
 use Rattle.tdma.proofs.Tables.{is_same, same_positions}
@@ -133,6 +134,50 @@ alone_anywhere BcchCcchSdcch4 d t f row = alone_in_slot BcchCcchSdcch4 d t f row
 alone_anywhere Sdcch8 d t f row = alone_in_slot Sdcch8 d t f row (λ e. cc)
 alone_anywhere TchF d t f row = traffic_alone d t f row
 
+-- ## First: the first frame of a frame's block.
+
+-- the frame carries this burst of a row
+record IsBurstOfRow (spacing : ℕ) (rows : List Mapping) (frame : ℕ) (position : Position) : Type 0 where
+  row : Mapping
+  among : Contains rows row
+  carried : carries spacing row frame ≡ true
+  burst : position ≡ burst_of_row spacing row frame
+
+in_first_row : (b : Bool) (q p : Position) (rest : Option Position) → cond b (Some q) rest ≡ Some p →
+    ((b ≡ true) × (p ≡ q)) ⊎ (rest ≡ Some p)
+in_first_row true q p rest found = inl (refl, cc)
+in_first_row false q p rest found = inr found
+
+row_of_position : (s : ℕ) (rows : List Mapping) (f : ℕ) (p : Position) → position_among s rows f ≡ Some p →
+    IsBurstOfRow s rows f p
+row_of_position s [] f p found = absurd cc
+row_of_position s (m ∷ ms) f p found =
+    elim (in_first_row (carries s m f) (burst_of_row s m f) p (position_among s ms f) found) [
+      | inl here ↦ record {
+        row = m;
+        among = Contains-append_left (m ∷ []) ms m (Contains-push [] m);
+        carried = here.0;
+        burst = here.1;
+      }
+      | inr later ↦
+          let rest = row_of_position s ms f p later in
+          record {
+            row = rest.row;
+            among = Contains-append_right (m ∷ []) ms rest.row rest.among;
+            carried = rest.carried;
+            burst = rest.burst;
+          }
+    ]
+
+placed_at : (s f : ℕ) (found : Option Position) (p : Place) → place_at s f found ≡ Some p →
+    (found ≡ Some p.position) × (p.first ≡ (f + HYPERFRAME - s * p.position.burst) % HYPERFRAME)
+placed_at s f None p e = absurd cc
+placed_at s f (Some q) p e =
+    let made : Place = record { first = (f + HYPERFRAME - s * q.burst) % HYPERFRAME; position = q } in
+    let same : made ≡ p = cc in
+    subst (λ (x : Place). (Some q ≡ Some x.position) × (x.first ≡ (f + HYPERFRAME - s * x.position.burst) % HYPERFRAME)) same
+    (refl, refl)
+
 -- ## InOrder: the bursts of a row come in order after its first frame.
 
 since_first : (r start n b : ℕ) → (r ≡ 51) ⊎ (r ≡ 102) → start < r → b < 4 →
@@ -167,6 +212,99 @@ place_of_burst s f first b p row is burst back = cc
 carries_burst : (s f b : ℕ) (row : Mapping) → b < row.bursts → frames_since row f % s ≡ 0 → frames_since row f / s ≡ b →
     carries s row f ≡ true
 carries_burst s f b row lt whole burst = grind (arith, nat_tests)
+
+-- the frame of a row's burst, less the frames since the first burst, is a frame of the first burst
+since_at_first : (r start f : ℕ) → (r ≡ 51) ⊎ ((r ≡ 102) ⊎ (r ≡ 104)) → start < r →
+    (((f + HYPERFRAME - (f % r + r - start) % r) % HYPERFRAME) % r + r - start) % r ≡ 0
+since_at_first r start f (inl h) within = rw h (since_at_first_51 start f (omega arith))
+  where
+    since_at_first_51 : (start f : ℕ) → start < 51 →
+        (((f + HYPERFRAME - (f % 51 + 51 - start) % 51) % HYPERFRAME) % 51 + 51 - start) % 51 ≡ 0
+    since_at_first_51 start f within = omega arith
+since_at_first r start f (inr (inl h)) within = rw h (since_at_first_102 start f (omega arith))
+  where
+    since_at_first_102 : (start f : ℕ) → start < 102 →
+        (((f + HYPERFRAME - (f % 102 + 102 - start) % 102) % HYPERFRAME) % 102 + 102 - start) % 102 ≡ 0
+    since_at_first_102 start f within = omega arith
+since_at_first r start f (inr (inr h)) within = rw h (since_at_first_104 start f (omega arith))
+  where
+    since_at_first_104 : (start f : ℕ) → start < 104 →
+        (((f + HYPERFRAME - (f % 104 + 104 - start) % 104) % HYPERFRAME) % 104 + 104 - start) % 104 ≡ 0
+    since_at_first_104 start f within = omega arith
+
+-- the row repeats in a hyperframe, and begins within its length
+record IsPeriodic (row : Mapping) : Type 0 where
+  length : (row.repeat_length ≡ 51) ⊎ ((row.repeat_length ≡ 102) ⊎ (row.repeat_length ≡ 104))
+  start : row.first < row.repeat_length
+
+periodic_in_slot : (c : Combination) (d : Direction) (timeslot : ℕ) (row : Mapping) → c ≢ TchF →
+    Contains (mappings c d timeslot) row → IsPeriodic row
+periodic_in_slot c d t row h among =
+    let there = subst (λ ms. Contains ms row) (mappings_same c d t h) among in
+    let short : Bool = ltb row.bursts 5 in
+    let starts : Bool = ltb row.first row.repeat_length in
+    let one = both_true (repeats row) (starts && short) (row_is_row c d row h there) in
+    let length = (Decides-or (eqb row.repeat_length 51) (eqb row.repeat_length 102) (Decides-eqb row.repeat_length 51)
+    (Decides-eqb row.repeat_length 102)).0 one.0 in
+    record {
+      length = elim length [ inl e ↦ inl e | inr e ↦ inr (inl e) ];
+      start = (Decides-ltb row.first row.repeat_length).0 (both_true starts short one.1).0;
+    }
+
+periodic_in_traffic : (d : Direction) (timeslot : ℕ) (row : Mapping) → timeslot < 8 → Contains (mappings TchF d timeslot) row →
+    IsPeriodic row
+periodic_in_traffic d t row slot among =
+    All-contains IsPeriodic (mappings TchF d t) row
+    (All-cons IsPeriodic _ [] (record { length = inr (inr refl); start = omega arith }) (All-nil IsPeriodic)) among
+
+-- the row of which the frame `f` has burst `b` has its first burst in the frame `first`
+first_of_row : (c : Combination) (d : Direction) (timeslot f first : ℕ) (p : Position) (row : Mapping) → IsPeriodic row →
+    Contains (mappings c d timeslot) row → carries (burst_spacing c) row f ≡ true →
+    burst_spacing c * (frames_since row f / burst_spacing c) ≡ frames_since row f → 0 % burst_spacing c ≡ 0 →
+    0 / burst_spacing c ≡ 0 → p ≡ burst_of_row (burst_spacing c) row f →
+    first ≡ (f + HYPERFRAME - burst_spacing c * p.burst) % HYPERFRAME →
+    place_of c d timeslot first ≡ Some (record { first = first; position = record p { burst = 0 } })
+first_of_row c d t f first p row periodic among carried whole none zeroth burst is_first =
+    let s : ℕ = burst_spacing c in
+    let back : s * p.burst ≡ frames_since row f = ap (λ (q : Position). s * q.burst) burst ∙ whole in
+    let since : frames_since row first ≡ 0 =
+    ap (frames_since row) (is_first ∙ ap (λ n. (f + HYPERFRAME - n) % HYPERFRAME) back)
+    ∙ since_at_first row.repeat_length row.first f periodic.length periodic.start in
+    let some : 0 < row.bursts = grind (arith, nat_tests) in
+    let zero_burst : frames_since row first / s ≡ 0 = ap (λ n. n / s) since ∙ zeroth in
+    let carried' : carries s row first ≡ true =
+    carries_burst s first 0 row some (ap (λ n. n % s) since ∙ none) zero_burst in
+    let placed = place_of_burst s first first 0 (position_of c d t first) row (alone_anywhere c d t first row among carried') zero_burst
+    (omega arith) in
+    placed
+    ∙ ap (λ (q : Position). Some (let made : Place = record { first = first; position = record q { burst = 0 } } in made)) (sym burst)
+
+-- the first frame of a frame's block has the place of the block's first burst
+pub first_of_block : (c : Combination) (d : Direction) (timeslot f : ℕ) (p : Place) → timeslot < 8 →
+    place_of c d timeslot f ≡ Some p →
+    place_of c d timeslot p.first ≡ Some (record { first = p.first; position = record p.position { burst = 0 } })
+first_of_block c d t f p slot found =
+    let at_frame = placed_at (burst_spacing c) f (position_of c d t f) p found in
+    let its = row_of_position (burst_spacing c) (mappings c d t) f p.position at_frame.0 in
+    by_combination c d t f p slot its at_frame.1
+  where
+    by_combination : (c : Combination) (d : Direction) (timeslot f : ℕ) (p : Place) → timeslot < 8 →
+        IsBurstOfRow (burst_spacing c) (mappings c d timeslot) f p.position →
+        p.first ≡ (f + HYPERFRAME - burst_spacing c * p.position.burst) % HYPERFRAME →
+        place_of c d timeslot p.first ≡ Some (record { first = p.first; position = record p.position { burst = 0 } })
+    by_combination BcchCcch d t f p slot its first =
+        first_of_row BcchCcch d t f p.first p.position its.row (periodic_in_slot BcchCcch d t its.row (λ e. cc) its.among) its.among
+        its.carried (omega arith) refl refl its.burst first
+    by_combination BcchCcchSdcch4 d t f p slot its first =
+        first_of_row BcchCcchSdcch4 d t f p.first p.position its.row (periodic_in_slot BcchCcchSdcch4 d t its.row (λ e. cc) its.among)
+        its.among its.carried (omega arith) refl refl its.burst first
+    by_combination Sdcch8 d t f p slot its first =
+        first_of_row Sdcch8 d t f p.first p.position its.row (periodic_in_slot Sdcch8 d t its.row (λ e. cc) its.among) its.among
+        its.carried (omega arith) refl refl its.burst first
+    by_combination TchF d t f p slot its first =
+        let whole : frames_since its.row f % 26 ≡ 0 = grind (arith, nat_tests, its.carried) in
+        first_of_row TchF d t f p.first p.position its.row (periodic_in_traffic d t its.row slot its.among) its.among its.carried
+        (omega arith) refl refl its.burst first
 
 pub placed_in_slot : (c : Combination) (d : Direction) (timeslot n b : ℕ) (row : Mapping) → c ≢ TchF →
     Contains (mappings c d timeslot) row → b < row.bursts →

@@ -5,6 +5,7 @@ ghost use Rattle.tdma.specs.Channels.{Mapping, mappings, burst_spacing, carries,
 
 use crate::HYPERFRAME;
 use crate::channels::{Combination, Direction};
+use crate::places::Place;
 use crate::sync::SchInfo;
 
 /// Law: the 25 bits of a synchronisation burst determine its base station identity code and its frame number.
@@ -18,6 +19,13 @@ pub fn law_blocks_share_no_frame()
         Contains (mappings c d timeslot) row → carries (burst_spacing c) row frame ≡ true →
         position_of c d timeslot frame ≡
         Some (record { channel = row.channel; subchannel = row.subchannel; burst = frames_since row frame / burst_spacing c }) }
+{}
+
+/// Law: the first frame of a frame's block has the place of the first burst of that block.
+pub fn law_first_frame_begins_block()
+    ensures { (c : Combination) (d : Direction) (timeslot frame : ℕ) (place : Place) → timeslot < 8 →
+        place_of c d timeslot frame ≡ Some place →
+        place_of c d timeslot place.first ≡ Some (record { first = place.first; position = record place.position { burst = 0 } }) }
 {}
 
 /// Law: in each repetition of the tables each block of a row has its bursts, in order, and they have one place.

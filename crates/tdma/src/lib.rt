@@ -13,7 +13,8 @@ mod sync;
 pub use channels::{Channel, Combination, Direction};
 pub use frames::{FrameTime, frame_of_time, time_of_frame};
 pub use laws::{
-    law_blocks_share_no_frame, law_four_bursts_are_of_one_block, law_sch_bits_determine_frame,
+    law_blocks_share_no_frame, law_first_frame_begins_block, law_four_bursts_are_of_one_block,
+    law_sch_bits_determine_frame,
 };
 pub use numbers::{bits_of_bsic, bits_of_ra, bsic_of_bits, ra_of_bits};
 pub use places::{Place, next_block, place_of_frame};

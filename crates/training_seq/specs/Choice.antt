@@ -1,5 +1,6 @@
 -- Detection, by correlation, of the training sequence of four received bursts (this project's own rule).
-use Rattle.std.specs.Prelude.{ℕ, ◌≡◌, ◌≢◌, ◌+◌, ◌<◌, ◌≤◌, ◌⊎◌, ℤ, ◌+ℤ◌, ◌<ℤ◌, List}
+use Rattle.std.specs.Prelude.{ℕ, ◌≡◌, ◌≢◌, ◌+◌, ◌<◌, ◌≤◌, ◌⊎◌, ℤ, ◌+ℤ◌, ◌<ℤ◌}
+use Rattle.std.specs.Prelude.{List, [], ◌∷◌}
 use Rattle.training_seq.specs.Sequences.{midamble}
 use Rattle.bit_blocks.specs.SoftValues.{likelihood, count_wrong_bits}
 
@@ -17,6 +18,12 @@ total_correlation a b c d tsc =
 -- the training sequence code, 0 to 7, has the greatest total correlation with four midambles; on a tie, it is the lowest such code
 abbrev pub IsBestCorrelatedTsc : (first_midamble second_midamble third_midamble fourth_midamble : List ℤ) (tsc : ℕ) → Type 0
 IsBestCorrelatedTsc a b c d tsc = IsFirstMaximum (total_correlation a b c d) 7 tsc
+
+-- for each of four midambles, the number of its 26 soft bits that disagree with a training sequence
+abbrev pub wrong_bits_of_midambles : (first_midamble second_midamble third_midamble fourth_midamble : List ℤ) (tsc : ℕ) → List ℕ
+wrong_bits_of_midambles a b c d tsc =
+    let bits = midamble tsc in
+    count_wrong_bits a bits ∷ count_wrong_bits b bits ∷ count_wrong_bits c bits ∷ count_wrong_bits d bits ∷ []
 
 -- the number of soft bits, of the 104 in four midambles, that disagree with a training sequence
 abbrev pub wrong_midamble_bits : (first_midamble second_midamble third_midamble fourth_midamble : List ℤ) (tsc : ℕ) → ℕ

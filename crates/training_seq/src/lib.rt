@@ -6,6 +6,6 @@ mod choice;
 mod correlation;
 mod sequences;
 
-pub use choice::best;
+pub use choice::{best, best_of_bursts};
 pub use correlation::correlate;
 pub use sequences::sequence;

@@ -42,12 +42,15 @@ IsListDecoderChoice CrcHolds data_of soft most rank u accepted =
     (NoCrcHolds CrcHolds soft most × IsMostLikely soft u × (rank ≡ 1))
     (λ x. IsFirstCrcMatch CrcHolds soft most rank u × (x ≡ data_of u))
 
+-- the same of a block, whose data are 23 octets
+abbrev pub IsBlockChoice : (soft : List ℤ) (max_words rank : ℕ) (word : List ℕ) (accepted : Option (List ℕ)) → Type 0
+IsBlockChoice soft most rank u accepted = IsListDecoderChoice BlockCrcHolds (λ v. octets_of (take 184 v)) soft most rank u accepted
+
 -- `decoded` is the report of a block, after a search through its `max_words` most likely words
 pub record IsListDecodedBlock (bursts : List (List ℤ)) (max_words : ℕ) (decoded : ListDecodedBlock) : Type 0 where
   pub soft : List ℤ
   pub deinterleaved : IsInterleaved soft (map coded_soft_bits bursts)
-  pub choice : IsListDecoderChoice BlockCrcHolds (λ u. octets_of (take 184 u)) soft max_words decoded.rank decoded.report.u
-      decoded.report.accepted
+  pub choice : IsBlockChoice soft max_words decoded.rank decoded.report.u decoded.report.accepted
   pub metric : decoded.report.metric ≡ likelihood soft (encoding decoded.report.u)
   pub tsc : IsReceivedTsc bursts decoded.report.tsc
   pub wrong_training : decoded.report.wrong_training ≡ wrong_training_bits bursts decoded.report.tsc

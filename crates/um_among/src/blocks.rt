@@ -1,12 +1,12 @@
 //! Receives blocks with a list decoder: takes the first of the most likely words whose CRC is correct.
-ghost use Rattle.std.specs.Prelude.{◌≡◌, ◌≢◌, ◌≤◌, ◌↔◌, ℕ, ℤ, All, IsNone, IsSome, List, map};
+ghost use Rattle.std.specs.Prelude.{◌≡◌, ◌≢◌, ◌≤◌, ◌↔◌, ℕ, ℤ, All, IsNone, IsSome, List, map, None};
 ghost use Rattle.um_block.specs.bit_blocks.SoftValues.{AllSoftBits};
-ghost use Rattle.um_block.specs.conv_code.Code.{IsEncoderInput};
-ghost use Rattle.um_block.specs.conv_code.Likelihood.{RanksAfter};
+ghost use Rattle.um_block.specs.conv_code.Code.{IsEncoderInput, encoding};
+ghost use Rattle.um_block.specs.conv_code.Likelihood.{IsMostLikely, RanksAfter, likelihood};
 ghost use Rattle.um_block.specs.interleave.Bursts.{IsInterleaved};
 ghost use Rattle.list_decode.specs.Ranking.{IsCandidate};
 ghost use Rattle.um_block.specs.Received.{IsReceivedBlock, coded_soft_bits};
-ghost use Rattle.um_among.specs.ListDecoding.{IsListDecodedBlock, NoCrcHolds};
+ghost use Rattle.um_among.specs.ListDecoding.{IsBlockChoice, IsListDecodedBlock, NoCrcHolds};
 ghost use Rattle.um_among.specs.ChannelCrcs.{BlockCrcHolds};
 
 use crate::crc::ChannelCrc;
@@ -56,21 +56,45 @@ pub fn receive_deinterleaved_among(
     ensures { IsListDecodedBlock bursts.now max_rank result }
 {
     let report = receive_deinterleaved(bursts, soft);
-    if report.accepted.is_some() {
-        return ListDecodedBlock { report, rank: 1 };
+    match report.accepted {
+        Some(_) => ListDecodedBlock { report, rank: 1 },
+        None => receive_later_among(soft, &report, max_rank),
     }
+}
+
+/// Receives a block as `receive_deinterleaved_among` does after `first`, the report of the most likely word, whose CRC is wrong.
+#[cold]
+pub fn receive_later_among(
+    soft: &[i8; CODED_BITS],
+    first: &Received,
+    max_rank: u32,
+) -> ListDecodedBlock
+    requires soft { AllSoftBits soft.now }
+    requires at_least { 1 ≤ max_rank }
+    requires at_most { max_rank ≤ MAX_RANK }
+    requires best { IsMostLikely soft.now first.now.u }
+    requires metric { first.now.metric ≡ likelihood soft.now (encoding first.now.u) }
+    requires fails { ¬ BlockCrcHolds first.now.u }
+    requires refused { first.now.accepted ≡ None }
+    ensures choice { IsBlockChoice soft.now max_rank result.rank result.report.u result.report.accepted }
+    ensures metric { result.report.metric ≡ likelihood soft.now (encoding result.report.u) }
+    ensures training { (result.report.tsc ≡ first.now.tsc) × (result.report.wrong_training ≡ first.now.wrong_training) }
+{
     let mut u = [0; ENCODER_INPUT_BITS];
-    u.copy_from_slice(report.u.as_slice());
-    let Some(found) = first_crc_match(&ChannelCrc::Block, soft, report.metric, max_rank, &mut u)
+    u.copy_from_slice(first.u.as_slice());
+    let Some(found) = first_crc_match(&ChannelCrc::Block, soft, first.metric, max_rank, &mut u)
     else {
-        return ListDecodedBlock { report, rank: 1 };
+        return ListDecodedBlock {
+            report: *first,
+            rank: 1,
+        };
     };
     ListDecodedBlock {
         report: Received {
             u: Bits::from_array(u),
             metric: found.metric,
-            tsc: report.tsc,
-            wrong_training: report.wrong_training,
+            tsc: first.tsc,
+            wrong_training: first.wrong_training,
             accepted: octets_if_crc_holds(&u),
         },
         rank: found.rank,

@@ -11,7 +11,7 @@ mod crc;
 mod reports;
 mod search;
 
-pub use blocks::{receive_block_among, receive_deinterleaved_among};
+pub use blocks::{receive_block_among, receive_deinterleaved_among, receive_later_among};
 pub use bursts::{receive_access_among, receive_sync_among};
 pub use list_decode::{MAX_RANK, margin};
 pub use reports::{ListDecodedAccess, ListDecodedBlock, ListDecodedSync};

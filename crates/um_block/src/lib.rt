@@ -21,7 +21,8 @@ pub use radio::{PlainRadio, Radio};
 pub use received::{Received, ReceivedAccess, ReceivedSync};
 pub use receiving::{
     access_bits_if_crc_holds, deinterleave_block, join_sync_halves, octets_if_crc_holds,
-    receive_access, receive_block, receive_deinterleaved, receive_sync, sync_bits_if_crc_holds,
+    receive_access, receive_block, receive_deinterleaved, receive_detected, receive_sync,
+    sync_bits_if_crc_holds,
 };
 pub use sending::{send_access, send_block, send_sync};
 pub use softening::{soften, soften_block};

@@ -3,7 +3,9 @@
 ghost use Rattle.std.specs.Prelude.{◌≡◌, ℕ, ◌≤◌, ◌++◌, ℤ, List, Some, length, map, take, All, MatchOption};
 ghost use Rattle.bit_blocks.specs.Bits.{AllBits};
 ghost use Rattle.bit_blocks.specs.Octets.{bits_of, octets_of};
-ghost use Rattle.bit_blocks.specs.SoftValues.{AllSoftBits};
+ghost use Rattle.bit_blocks.specs.SoftValues.{AllSoftBits, likelihood};
+ghost use Rattle.conv_code.specs.Code.{encoding};
+ghost use Rattle.conv_code.specs.Likelihood.{IsMostLikely};
 ghost use Rattle.fire_code.specs.Words.{IsXcchCodeword, IsRachCodeword, IsSchCodeword};
 ghost use Rattle.interleave.specs.Bursts.{IsInterleaved};
 ghost use Rattle.weight_bound.specs.Restoring.{IsCorrectable};
@@ -42,9 +44,23 @@ pub fn receive_deinterleaved(bursts: &[[i8; BURST_BITS]; 4], soft: &[i8; CODED_B
     requires deinterleaved { IsInterleaved soft.now (map coded_soft_bits bursts.now) }
     ensures { IsReceivedBlock bursts.now result }
 {
+    let (tsc, wrong_training) = detect_tsc(bursts);
+    receive_detected(soft, tsc, wrong_training)
+}
+
+/// Decodes the deinterleaved soft bits of a block whose training sequence code is detected, with so many wrong training bits.
+#[inline(always)]
+pub fn receive_detected(soft: &[i8; CODED_BITS], tsc: u8, wrong_training: u32) -> Received
+    requires { AllSoftBits soft.now }
+    ensures best { IsMostLikely soft.now result.u }
+    ensures metric { result.metric ≡ likelihood soft.now (encoding result.u) }
+    ensures training { (result.tsc ≡ tsc) × (result.wrong_training ≡ wrong_training) }
+    ensures accepted { MatchOption result.accepted
+        (¬ IsXcchCodeword (take 224 result.u))
+        (λ octets. IsXcchCodeword (take 224 result.u) × (octets ≡ octets_of (take BLOCK_BITS result.u))) }
+{
     let mut u = [0; ENCODER_INPUT_BITS];
     let metric = decode(soft, &mut u);
-    let (tsc, wrong_training) = detect_tsc(bursts);
     Received {
         u: Bits::from_array(u),
         metric,

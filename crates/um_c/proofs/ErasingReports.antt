@@ -13,6 +13,7 @@ use Rattle.um_c.specs.declared.blocks.BlockReport.{BlockReport}
 use Rattle.um_c.specs.declared.erasing.Erasure.{Erasure}
 use Rattle.um_c.specs.declared.slots.SlotBlock.{SlotBlock}
 use Rattle.um_erasing.proofs.Lemmas.{one_erasing}
+use Rattle.um_erasing.specs.Erasing.{IsErasingDecodedBlock, without_burst}
 use Rattle.um_erasing.specs.declared.blocks.ErasingDecodedBlock.{ErasingDecodedBlock}
 use Rattle.um_slot.specs.Slots.{TakesWith, softened, take_frame}
 use Rattle.um_slot.specs.declared.settings.Settings.{Settings}
@@ -50,6 +51,27 @@ one_erasing_report bursts most erasures rank rank' report report' erasure erasur
           (one_erased g.received.erased erasure.erased erasure'.erased erased g.erased)
           (h.wrong_training ∙ ap (λ (d : ErasingDecodedBlock). d.wrong_training) same ∙ sym g.wrong_training),
     )
+
+-- a block that was decoded without one burst
+pub erased_report : (bursts rest : List (List ℤ)) (most erasures index : ℕ) (received : ErasingDecodedBlock) (soft : List ℤ)
+    (report : BlockReport) → IsErasingDecodedBlock bursts most erasures received → received.erased ≡ Some index →
+    rest ≡ without_burst bursts index → IsInterleaved soft (map coded_soft_bits rest) →
+    ReportsBlock rest received.block.report report →
+    IsErasingReport bursts most erasures received.block.rank report
+    (record { erased = index; wrong_training = received.wrong_training })
+erased_report bursts rest most erasures index received soft report is_received is without deinterleaved reports =
+    let same : rest ≡ decoded_bursts bursts received.erased =
+    without ∙ ap (decoded_bursts bursts) (sym is) in
+    record {
+      received = received;
+      is_received = is_received;
+      soft = soft;
+      deinterleaved = subst (λ (b : List (List ℤ)). IsInterleaved soft (map coded_soft_bits b)) same deinterleaved;
+      reports_block = subst (λ (b : List (List ℤ)). ReportsBlock b received.block.report report) same reports;
+      same_rank = refl;
+      wrong_training = refl;
+      erased = subst (λ (e : Option ℕ). MatchOption e (index ≡ 4) (λ i. index ≡ i)) (sym is) refl;
+    }
 
 pub some_is : (finished : Option FinishedBlock) (f : FinishedBlock) → finished ≡ Some f → IsSome finished
 some_is None f e = absurd cc

@@ -1,15 +1,21 @@
 //! C functions that decode a block again without its least trusted bursts, and count wrong training bits.
-ghost use Rattle.std.specs.Prelude.{◌≡◌, ◌≤◌, ◌↔◌, All, IsTrue, false, ℕ, Option, MatchOption};
+ghost use Rattle.std.specs.Prelude.{◌≡◌, ◌≤◌, ◌↔◌, All, IsTrue, false, map, ℕ, Option, MatchOption, None};
 ghost use Rattle.um_block.specs.bit_blocks.SoftValues.{AllSoftBits};
-ghost use Rattle.um_block.specs.Received.{IsReceivedTsc};
+ghost use Rattle.um_block.specs.Received.{IsReceivedBlock, IsReceivedTsc, coded_soft_bits};
+ghost use Rattle.um_block.specs.interleave.Bursts.{IsInterleaved};
 ghost use Rattle.um_erasing.specs.Erasing.{wrong_training_of_bursts};
 ghost use Rattle.um_c.specs.SlotCalls.{IsErasingReport};
 
 use crate::blocks::{BlockReport, block_report_of};
 use crate::soft::are_soft_bursts;
 use um_among::MAX_RANK;
-use um_block::{BURST_BITS, deinterleave_block};
-use um_erasing::{detect_training, receive_deinterleaved_erasing, without_burst};
+use um_block::{BURST_BITS, CODED_BITS, deinterleave_block};
+use um_erasing::{
+    FirstReport, detect_training, receive_first, receive_later_erasing, without_burst,
+};
+
+/// The index of an erased burst if none was erased.
+const NO_BURST: u8 = 4;
 
 /// Which burst was erased, and the wrong training bits of each burst.
 #[repr(C)]
@@ -23,10 +29,10 @@ pub struct Erasure {
 
 /// The report on a block that was decoded with erasures.
 #[derive(Drop)]
-pub(crate) struct ErasingReport {
-    pub(crate) report: BlockReport,
-    pub(crate) rank: u32,
-    pub(crate) erasure: Erasure,
+struct ErasingReport {
+    report: BlockReport,
+    rank: u32,
+    erasure: Erasure,
 }
 
 /// Decodes the soft values of four bursts as `um_receive_block_among` does. If the CRC of no word holds, decodes them again with one burst
@@ -51,34 +57,73 @@ pub extern "C" fn um_receive_block_erasing(
     if most == 0 || most > MAX_RANK as u32 || erasures > 4 || !are_soft_bursts(bursts) {
         return false;
     }
-    let decoded = erasing_report_of(bursts, most, erasures);
-    *report = decoded.report;
-    *rank = decoded.rank;
-    *erasure = decoded.erasure;
+    write_erasing_report(bursts, most, erasures, report, rank, erasure);
     true
 }
 
-/// The report on the block that is decoded from four bursts with erasures.
-#[inline(always)]
-pub(crate) fn erasing_report_of(
+/// Writes the report on the block that is decoded from four bursts with erasures.
+pub(crate) fn write_erasing_report(
     bursts: &[[i8; BURST_BITS]; 4],
     most: u32,
     erasures: u8,
-) -> ErasingReport
+    report: &mut BlockReport,
+    rank: &mut u32,
+    erasure: &mut Erasure,
+)
     requires soft { All AllSoftBits bursts.now }
+    requires at_least { 1 ≤ most }
+    requires at_most { most ≤ MAX_RANK }
+    requires erasures { erasures ≤ 4 }
+    ensures { IsErasingReport bursts.now most erasures rank.new report.new erasure.new }
+{
+    let soft = deinterleave_block(bursts);
+    let first = receive_first(bursts, &soft);
+    match first.report.accepted {
+        Some(_) => {
+            *report = block_report_of(bursts, &soft, &first.report);
+            *rank = 1;
+            *erasure = Erasure {
+                erased: NO_BURST,
+                wrong_training: first.wrong_training,
+            };
+        }
+        None => {
+            let later = later_report_of(bursts, &soft, &first, most, erasures);
+            *report = later.report;
+            *rank = later.rank;
+            *erasure = later.erasure;
+        }
+    }
+}
+
+/// The report on a block whose most likely word has a wrong CRC.
+#[cold]
+fn later_report_of(
+    bursts: &[[i8; BURST_BITS]; 4],
+    soft: &[i8; CODED_BITS],
+    first: &FirstReport,
+    most: u32,
+    erasures: u8,
+) -> ErasingReport
+    requires bursts { All AllSoftBits bursts.now }
+    requires soft { AllSoftBits soft.now }
+    requires deinterleaved { IsInterleaved soft.now (map coded_soft_bits bursts.now) }
+    requires first { IsReceivedBlock bursts.now first.now.report }
+    requires refused { first.now.report.accepted ≡ None }
+    requires wrong { first.now.wrong_training ≡ wrong_training_of_bursts bursts.now first.now.report.tsc }
+    requires few { All (λ wrong. wrong ≤ 26) first.now.wrong_training }
     requires at_least { 1 ≤ most }
     requires at_most { most ≤ MAX_RANK }
     requires erasures { erasures ≤ 4 }
     ensures { IsErasingReport bursts.now most erasures result.rank result.report result.erasure }
 {
-    let soft = deinterleave_block(bursts);
-    let decoded = receive_deinterleaved_erasing(bursts, &soft, most, erasures);
+    let decoded = receive_later_erasing(bursts, soft, first, most, erasures);
     match decoded.erased {
         None => ErasingReport {
-            report: block_report_of(bursts, &soft, &decoded.block.report),
+            report: block_report_of(bursts, soft, &decoded.block.report),
             rank: decoded.block.rank,
             erasure: Erasure {
-                erased: 4,
+                erased: NO_BURST,
                 wrong_training: decoded.wrong_training,
             },
         },

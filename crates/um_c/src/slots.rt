@@ -5,7 +5,7 @@ ghost use Rattle.um_slot.specs.Slots.{new_slot, settings_of, softened};
 ghost use Rattle.um_c.specs.SlotCalls.{IsErasingReport, IsSlotBlock, SlotTakes, slot_refusal_number};
 
 use crate::blocks::BlockReport;
-use crate::erasing::{ErasingReport, Erasure, erasing_report_of};
+use crate::erasing::{Erasure, write_erasing_report};
 use crate::soft::{are_soft_bits, are_soft_bursts};
 use um_block::BURST_BITS;
 use um_slot::{FinishedBlock, Refusal, Slot, channel_number, softened};
@@ -131,40 +131,58 @@ fn write_block(
     requires erasures { erasures ≤ 4 }
     ensures { IsSlotBlock words erasures finished.now bursts.now block.new }
 {
-    let decoded = slot_report_of(u32::from(words), erasures, bursts);
-    block.report = decoded.report;
-    block.rank = decoded.rank;
-    block.erasure = decoded.erasure;
+    write_report(
+        u32::from(words),
+        erasures,
+        bursts,
+        &mut block.report,
+        &mut block.rank,
+        &mut block.erasure,
+    );
     block.first = finished.place.first;
     block.channel = channel_number(finished.place.position.channel);
     block.subchannel = finished.place.position.subchannel;
     block.heard = finished.heard;
 }
 
-/// The report on the block that is decoded from the bursts of a receiver.
+/// Writes the report on the block that is decoded from the bursts of a receiver.
 #[tactic(auto, using(crate::proofs::ErasingReports::softened_bursts))]
-fn slot_report_of(words: u32, erasures: u8, bursts: &[[i8; BURST_BITS]; 4]) -> ErasingReport
+fn write_report(
+    words: u32,
+    erasures: u8,
+    bursts: &[[i8; BURST_BITS]; 4],
+    report: &mut BlockReport,
+    rank: &mut u32,
+    erasure: &mut Erasure,
+)
     requires at_least { 1 ≤ words }
     requires at_most { words ≤ 64 }
     requires erasures { erasures ≤ 4 }
-    ensures { IsErasingReport (map (map softened) bursts.now) words erasures result.rank result.report result.erasure }
+    ensures { IsErasingReport (map (map softened) bursts.now) words erasures rank.new report.new erasure.new }
 {
     if are_soft_bursts(bursts) {
-        erasing_report_of(bursts, words, erasures)
+        write_erasing_report(bursts, words, erasures, report, rank, erasure);
     } else {
-        softened_report_of(words, erasures, bursts)
+        write_softened_report(words, erasures, bursts, report, rank, erasure);
     }
 }
 
 /// The same of bursts with a value of -128, which only a caller can have put into a receiver.
 #[cold]
-fn softened_report_of(words: u32, erasures: u8, bursts: &[[i8; BURST_BITS]; 4]) -> ErasingReport
+fn write_softened_report(
+    words: u32,
+    erasures: u8,
+    bursts: &[[i8; BURST_BITS]; 4],
+    report: &mut BlockReport,
+    rank: &mut u32,
+    erasure: &mut Erasure,
+)
     requires at_least { 1 ≤ words }
     requires at_most { words ≤ 64 }
     requires erasures { erasures ≤ 4 }
-    ensures { IsErasingReport (map (map softened) bursts.now) words erasures result.rank result.report result.erasure }
+    ensures { IsErasingReport (map (map softened) bursts.now) words erasures rank.new report.new erasure.new }
 {
-    erasing_report_of(&softened(bursts), words, erasures)
+    write_erasing_report(&softened(bursts), words, erasures, report, rank, erasure);
 }
 
 fn slot_refusal_number(refusal: Refusal) -> u8

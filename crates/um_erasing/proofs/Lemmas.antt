@@ -1,10 +1,12 @@
 -- The report is unique; without erasures it is that of the list decoder.
 use Rattle.std.proofs.Common.{arith, List, None, Option, Some, ap, map, refl, set, subst, suc, sym, zero, ℕ, ℤ, ◌+◌, ◌-◌}
-use Rattle.std.proofs.Common.{◌∙◌, ◌≡◌, ◌≢◌}
+use Rattle.std.proofs.Common.{◌∙◌, ◌≡◌, ◌≢◌, ◌≤◌}
 use Rattle.std.specs.Prelude.{IsSome, MatchOption}
 use Rattle.um_among.specs.declared.reports.ListDecodedBlock.{ListDecodedBlock}
 use Rattle.um_among.specs.ListDecoding.{IsListDecodedBlock}
-use Rattle.um_among.proofs.Lemmas.{one_block_among}
+use Rattle.um_among.proofs.Lemmas.{block_at_once, one_block_among}
+use Rattle.um_block.specs.Received.{IsReceivedBlock}
+use Rattle.um_block.specs.declared.received.Received.{Received}
 use Rattle.um_erasing.specs.Erasing.{IsErasingDecodedBlock, IsErasingSearch, IsFoundOrFirst, index_of_greatest, without_burst}
 use Rattle.um_erasing.specs.Erasing.{wrong_training_of_bursts}
 use Rattle.um_erasing.specs.declared.blocks.ErasedBlock.{ErasedBlock}
@@ -148,6 +150,15 @@ first_accepted bursts most erasures first wrong decoded counted accepted = recor
       × IsFoundOrFirst first found first None)
       ((first ≡ first) × (let none : Option ℕ = None in none ≡ None)) accepted (refl, refl);
 }
+
+-- the same from the report of the most likely word
+pub accepted_at_once : (bursts : List (List ℤ)) (most erasures : ℕ) (r : Received) (wrong : List ℕ) → 1 ≤ most →
+    IsReceivedBlock bursts r → wrong ≡ wrong_training_of_bursts bursts r.tsc → IsSome r.accepted →
+    IsErasingDecodedBlock bursts most erasures
+    (record { block = record { report = r; rank = 1 }; erased = None; wrong_training = wrong })
+accepted_at_once bursts most erasures r wrong some received counted accepted =
+    first_accepted bursts most erasures (record { report = r; rank = 1 }) wrong (block_at_once bursts most r some received accepted)
+    counted accepted
 
 pub searched : (bursts : List (List ℤ)) (most erasures : ℕ) (first : ListDecodedBlock) (wrong distrust : List ℕ)
     (found : Option ErasedBlock)

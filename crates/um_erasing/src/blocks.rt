@@ -3,14 +3,15 @@ ghost use Rattle.std.specs.Prelude.{◌≡◌, ◌<◌, ◌≤◌, ◌+◌, All,
 ghost use Rattle.um_block.specs.bit_blocks.SoftValues.{AllSoftBits};
 ghost use Rattle.um_block.specs.conv_code.Code.{IsEncoderInput};
 ghost use Rattle.um_block.specs.interleave.Bursts.{IsInterleaved};
-ghost use Rattle.um_block.specs.Received.{coded_soft_bits};
+ghost use Rattle.um_block.specs.Received.{IsReceivedBlock, coded_soft_bits};
 ghost use Rattle.um_among.specs.ListDecoding.{IsListDecodedBlock};
 ghost use Rattle.um_erasing.specs.Erasing.{IsErasingDecodedBlock, IsErasingSearch, index_of_greatest, without_burst};
+ghost use Rattle.um_erasing.specs.Erasing.{wrong_training_of_bursts};
 
-use crate::training::wrong_training_of_bursts;
+use crate::training::{TrainingErrors, detect_training};
 use burst_map::BURST_BITS;
-use um_among::{ListDecodedBlock, MAX_RANK, receive_block_among, receive_deinterleaved_among};
-use um_block::{CODED_BITS, deinterleave_block};
+use um_among::{ListDecodedBlock, MAX_RANK, receive_block_among, receive_later_among};
+use um_block::{CODED_BITS, Received, deinterleave_block, receive_detected};
 
 /// The report of a block, which burst was erased for it, and how far each burst is to be trusted.
 #[derive(Clone, Copy, PartialEq, Eq, Debug)]
@@ -20,6 +21,15 @@ pub struct ErasingDecodedBlock {
     /// The burst that was erased, 0 to 3.
     pub erased: Option<u8>,
     /// For each burst as received, the number of soft bits, 0 to 26, that disagree with the training sequence of the block as received.
+    pub wrong_training: [u8; 4],
+}
+
+/// The report of the most likely word of a block, and how far each burst is to be trusted.
+#[derive(Clone, Copy, PartialEq, Eq, Debug)]
+pub struct FirstReport {
+    /// The report, as `receive_block` returns it.
+    pub report: Received,
+    /// For each burst, the number of soft bits, 0 to 26, that disagree with the training sequence of the block.
     pub wrong_training: [u8; 4],
 }
 
@@ -49,8 +59,7 @@ pub fn receive_block_erasing(
     receive_deinterleaved_erasing(bursts, &deinterleave_block(bursts), max_rank, erasures)
 }
 
-/// Receives a block as `receive_block_erasing` does, with its coded soft bits already deinterleaved into `soft`.
-pub fn receive_deinterleaved_erasing(
+fn receive_deinterleaved_erasing(
     bursts: &[[i8; BURST_BITS]; 4],
     soft: &[i8; CODED_BITS],
     max_rank: u32,
@@ -61,16 +70,69 @@ pub fn receive_deinterleaved_erasing(
     requires deinterleaved { IsInterleaved soft.now (map coded_soft_bits bursts.now) }
     requires at_least { 1 ≤ max_rank }
     requires at_most { max_rank ≤ MAX_RANK }
-    requires erasures { erasures ≤ 4 }
+    ensures received { IsErasingDecodedBlock bursts.now max_rank erasures result }
+{
+    let first = receive_first(bursts, soft);
+    match first.report.accepted {
+        Some(_) => ErasingDecodedBlock {
+            block: ListDecodedBlock {
+                report: first.report,
+                rank: 1,
+            },
+            erased: None,
+            wrong_training: first.wrong_training,
+        },
+        None => receive_later_erasing(bursts, soft, &first, max_rank, erasures),
+    }
+}
+
+/// Decodes a deinterleaved block to its most likely word, and counts the wrong training bits of each burst.
+#[inline(always)]
+pub fn receive_first(bursts: &[[i8; BURST_BITS]; 4], soft: &[i8; CODED_BITS]) -> FirstReport
+    requires soft { AllSoftBits soft.now }
+    requires deinterleaved { IsInterleaved soft.now (map coded_soft_bits bursts.now) }
+    ensures received { IsReceivedBlock bursts.now result.report }
+    ensures wrong { result.wrong_training ≡ wrong_training_of_bursts bursts.now result.report.tsc }
+    ensures few { All (λ wrong. wrong ≤ 26) result.wrong_training }
+{
+    let TrainingErrors { tsc, wrong } = detect_training(bursts);
+    let wrong_in_block = u32::from(wrong[0])
+        + u32::from(wrong[1])
+        + u32::from(wrong[2])
+        + u32::from(wrong[3]);
+    FirstReport {
+        report: receive_detected(soft, tsc, wrong_in_block),
+        wrong_training: wrong,
+    }
+}
+
+/// Receives a block as `receive_block_erasing` does after `first`, the report of the most likely word, whose CRC is wrong.
+#[cold]
+pub fn receive_later_erasing(
+    bursts: &[[i8; BURST_BITS]; 4],
+    soft: &[i8; CODED_BITS],
+    first: &FirstReport,
+    max_rank: u32,
+    erasures: u8,
+) -> ErasingDecodedBlock
+    requires bursts { All AllSoftBits bursts.now }
+    requires soft { AllSoftBits soft.now }
+    requires deinterleaved { IsInterleaved soft.now (map coded_soft_bits bursts.now) }
+    requires first { IsReceivedBlock bursts.now first.now.report }
+    requires refused { first.now.report.accepted ≡ None }
+    requires wrong { first.now.wrong_training ≡ wrong_training_of_bursts bursts.now first.now.report.tsc }
+    requires few { All (λ wrong. wrong ≤ 26) first.now.wrong_training }
+    requires at_least { 1 ≤ max_rank }
+    requires at_most { max_rank ≤ MAX_RANK }
     ensures received { IsErasingDecodedBlock bursts.now max_rank erasures result }
     ensures information { IsEncoderInput result.block.report.u }
     ensures erased { IfSome result.erased (λ index. index < 4) }
 {
-    let first = receive_deinterleaved_among(bursts, soft, max_rank);
-    let wrong_training = wrong_training_of_bursts(bursts, first.report.tsc);
-    if first.report.accepted.is_some() {
+    let block = receive_later_among(soft, &first.report, max_rank);
+    let wrong_training = first.wrong_training;
+    if block.report.accepted.is_some() {
         return ErasingDecodedBlock {
-            block: first,
+            block,
             erased: None,
             wrong_training,
         };
@@ -82,7 +144,7 @@ pub fn receive_deinterleaved_erasing(
             wrong_training,
         },
         None => ErasingDecodedBlock {
-            block: first,
+            block,
             erased: None,
             wrong_training,
         },
@@ -90,7 +152,6 @@ pub fn receive_deinterleaved_erasing(
 }
 
 /// Erases at most `count` bursts in turn, that with the greatest distrust first, until the block is accepted.
-#[cold]
 fn search(
     bursts: &[[i8; BURST_BITS]; 4],
     max_rank: u32,

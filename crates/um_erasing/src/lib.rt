@@ -5,7 +5,8 @@ mod blocks;
 mod training;
 
 pub use blocks::{
-    ErasingDecodedBlock, receive_block_erasing, receive_deinterleaved_erasing, without_burst,
+    ErasingDecodedBlock, FirstReport, receive_block_erasing, receive_first, receive_later_erasing,
+    without_burst,
 };
-pub use training::{TrainingErrors, detect_training, wrong_training_of_bursts};
+pub use training::{TrainingErrors, detect_training};
 pub use um_among::{ListDecodedBlock, MAX_RANK};

@@ -1,6 +1,6 @@
 -- A receiver of one time slot (this project's own): the bursts of each block are collected by their frame numbers, in ascending order.
 use Rattle.std.specs.Prelude.{ℕ, ◌≡◌, ◌+◌, ◌-◌, ◌%◌, ◌==◌, nat_lt, nat_le, min, if◌then◌else◌, Bool, true}
-use Rattle.std.specs.Prelude.{false, ◌&&◌}
+use Rattle.std.specs.Prelude.{false, ◌&&◌, IfSome}
 use Rattle.std.specs.Prelude.{ℤ, pos, negsuc, int_le, List, replicate, slice_set, Option, Some, None, MatchOption, Result, Ok, Err}
 use Rattle.tdma.specs.declared.TheConstants.{HYPERFRAME}
 use Rattle.tdma.specs.declared.channels.Combination.{Combination}
@@ -49,6 +49,14 @@ settings_if_valid s c d valid = None
 -- what a receiver is set to and which block it is collecting; nothing if its state is not valid
 abbrev pub settings_of : Slot → Option Settings
 settings_of s = settings_if_valid s (combination_of s.combination) (direction_of s.direction) (has_valid_numbers s)
+
+-- the numbers are in range, and stand for this combination and direction
+abbrev pub AreInRange : (slot : Slot) (combination : Combination) (direction : Direction) → Type 0
+AreInRange s c d = (combination_of s.combination ≡ Some c) × (direction_of s.direction ≡ Some d) × (has_valid_numbers s ≡ true)
+
+-- if it is a place, it is that of a frame
+abbrev pub IsPlaceOfSome : (combination : Combination) (direction : Direction) (timeslot : ℕ) (place : Option Place) → Type 0
+IsPlaceOfSome c d timeslot place = IfSome place (λ p. (frame : ℕ) × (block_of_frame c d timeslot frame ≡ Some p))
 
 -- a receiver that has taken no frame
 abbrev pub new_slot : (combination direction timeslot words erasures : ℕ) → Slot

@@ -26,19 +26,19 @@ impl Slot {
         ensures burst { (accepted : AcceptedFrame) → result ≡ Ok accepted →
             IfSome accepted.place (λ place. place.position.burst < 4) }
     {
-        let settings = match self.settings() {
-            Some(settings) => settings,
-            None => return Err(Refusal::Invalid),
+        let Some((combination, direction)) = self.combination_and_direction() else {
+            return Err(Refusal::Invalid);
         };
         if let Some(refusal) = self.frame_refusal(frame) {
-            return Err(refusal);
+            return match self.settings_beside(combination, direction, &None) {
+                Some(_) => Err(refusal),
+                None => Err(Refusal::Invalid),
+            };
         }
-        let place = block_of_frame(
-            settings.combination,
-            settings.direction,
-            self.timeslot,
-            frame,
-        );
+        let place = block_of_frame(combination, direction, self.timeslot, frame);
+        let Some(settings) = self.settings_beside(combination, direction, &place) else {
+            return Err(Refusal::Invalid);
+        };
         self.last = frame;
         let ended = self.end_collecting(&settings.collecting, &place);
         Ok(AcceptedFrame { ended, place })

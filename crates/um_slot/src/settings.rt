@@ -1,11 +1,12 @@
 //! The settings of a receiver, and the tests of its state and of a frame number.
-ghost use Rattle.std.specs.Prelude.{◌≡◌, ◌<◌, ◌≤◌, IfSome, IsSome};
+ghost use Rattle.std.specs.Prelude.{◌≡◌, ◌<◌, ◌≤◌, IfSome, IsSome, MatchOption, None};
 ghost use Rattle.tdma.specs.declared.TheConstants.{HYPERFRAME as FRAMES};
-ghost use Rattle.um_slot.specs.Slots.{block_of_frame, frame_refusal, has_valid_numbers, order_refusal, settings_of};
+ghost use Rattle.um_slot.specs.Slots.{AreInRange, IsPlaceOfSome, block_of_frame, frame_refusal, has_valid_numbers, order_refusal};
+ghost use Rattle.um_slot.specs.Slots.{settings_of};
 
 use crate::numbers::{combination_of, direction_of, is_channel_of_blocks};
 use crate::slots::{Refusal, Slot};
-use tdma::{Combination, Direction, HYPERFRAME, Place, place_of_frame};
+use tdma::{Combination, Direction, HYPERFRAME, Place, Position, place_of_frame};
 
 /// What a receiver is set to, and the block that it is collecting.
 #[derive(Clone, Copy, PartialEq, Eq, Debug)]
@@ -43,11 +44,35 @@ impl Slot {
         ensures timeslot { IsSome result → self.now.timeslot < 8 }
         ensures decoding { IsSome result → (1 ≤ self.now.words) × (self.now.words ≤ 64) × (self.now.erasures ≤ 4) }
     {
+        let (combination, direction) = self.combination_and_direction()?;
+        self.settings_beside(combination, direction, &None)
+    }
+
+    /// Returns the combination and the direction, or `None` if a number is out of range.
+    pub(crate) fn combination_and_direction(&self) -> Option<(Combination, Direction)>
+        ensures { MatchOption result (settings_of self.now ≡ None) (λ found. AreInRange self.now found.0 found.1) }
+    {
         let combination = combination_of(self.combination)?;
         let direction = direction_of(self.direction)?;
-        if !self.has_valid_numbers() {
-            return None;
+        if self.has_valid_numbers() {
+            Some((combination, direction))
+        } else {
+            None
         }
+    }
+
+    /// Returns what the receiver is set to. `place` is the place of any frame.
+    pub(crate) fn settings_beside(
+        &self,
+        combination: Combination,
+        direction: Direction,
+        place: &Option<Place>,
+    ) -> Option<Settings>
+        requires numbers { AreInRange self.now combination direction }
+        requires place { IsPlaceOfSome combination direction self.now.timeslot place.now }
+        ensures value { result ≡ settings_of self.now }
+        ensures numbers { IfSome result (λ settings. (settings.combination ≡ combination) × (settings.direction ≡ direction)) }
+    {
         if self.first == HYPERFRAME {
             return Some(Settings {
                 combination,
@@ -55,15 +80,42 @@ impl Slot {
                 collecting: None,
             });
         }
-        let place = block_of_frame(combination, direction, self.timeslot, self.first)?;
-        if place.position.burst != 0 {
+        let first = self.place_of_first(combination, direction, place)?;
+        if first.position.burst != 0 {
             return None;
         }
         Some(Settings {
             combination,
             direction,
-            collecting: Some(place),
+            collecting: Some(first),
         })
+    }
+
+    /// Returns the place of the first frame of the block that is being collected. If `place`, the place of any frame, is in this block, it
+    /// tells the first place too, so that no other frame is looked up.
+    fn place_of_first(
+        &self,
+        combination: Combination,
+        direction: Direction,
+        place: &Option<Place>,
+    ) -> Option<Place>
+        requires timeslot { self.now.timeslot < 8 }
+        requires first { self.now.first < FRAMES }
+        requires place { IsPlaceOfSome combination direction self.now.timeslot place.now }
+        ensures { result ≡ block_of_frame combination direction self.now.timeslot self.now.first }
+    {
+        if let Some(place) = place
+            && place.first == self.first
+        {
+            return Some(Place {
+                first: place.first,
+                position: Position {
+                    burst: 0,
+                    ..place.position
+                },
+            });
+        }
+        block_of_frame(combination, direction, self.timeslot, self.first)
     }
 
     fn has_valid_numbers(&self) -> bool

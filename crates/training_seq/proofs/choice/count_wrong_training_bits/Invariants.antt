@@ -1,14 +1,16 @@
 use Rattle.{
-  std.proofs.Common.{◌≡◌, ◌+◌, ◌*◌, ◌≤◌, drop},
+  std.proofs.Common.{◌≡◌, ◌+◌, ◌≤◌, ℕ, ℤ, List, drop},
   bit_blocks.specs.SoftValues.count_wrong_bits,
-  training_seq.specs.{Choice.wrong_midamble_bits, Sequences.midamble},
+  training_seq.specs.Sequences.midamble,
 }
 use Rattle.training_seq.proofs.choice.count_wrong_training_bits.Given as goal
 
--- the number of wrong soft bits counted so far, plus their number in the rest of the midambles, is their number in the whole midambles
+-- the number of wrong soft bits counted in a midamble before index `i`, plus their number in the rest, is their number in the whole
+abbrev pub AreCounted : (values : List ℤ) (bits : List ℕ) (i wrong : ℕ) → Type 0
+AreCounted values bits i wrong =
+    (wrong + count_wrong_bits (drop i values) (drop i bits) ≡ count_wrong_bits values bits) × (wrong ≤ i)
+
 abbrev pub invariant-loop-i : goal.invariant-loop-i
 invariant-loop-i l =
-    let bits = drop l.i (midamble l.tsc) in
-    (l.wrong + (count_wrong_bits (drop l.i l.a) bits + count_wrong_bits (drop l.i l.b) bits + count_wrong_bits (drop l.i l.c) bits
-    + count_wrong_bits (drop l.i l.d) bits) ≡ wrong_midamble_bits l.a l.b l.c l.d l.tsc)
-    × (l.wrong ≤ 4 * l.i)
+    let bits = midamble l.tsc in
+    AreCounted l.a bits l.i l.of_a × AreCounted l.b bits l.i l.of_b × AreCounted l.c bits l.i l.of_c × AreCounted l.d bits l.i l.of_d

@@ -7,7 +7,7 @@ use Rattle.{
   },
   bit_blocks.specs.SoftValues.likelihood,
 }
-use Rattle.training_seq.proofs.choice.best.Goals as goal
+use Rattle.training_seq.proofs.choice.best_of_bursts.Goals as goal
 
 correlation-four : (a b c d : List ℤ) (tsc : ℕ) → length a ≡ length b → length a ≡ length c → length a ≡ length d →
     tsc ≤ 7 → likelihood (vector_sum (vector_sum (vector_sum a b) c) d) (midamble tsc) ≡ total_correlation a b c d tsc
