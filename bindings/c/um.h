@@ -27,8 +27,9 @@
 #define UM_VERSION_MINOR 2
 #define UM_VERSION_PATCH 0
 
-/* UM_CALL marks a call whose answer must not be ignored: what it writes is not written if it refuses. In gcc and clang an enum that a
- * call returns has one octet, so that -Wswitch and debuggers know the answer; elsewhere the answer is a uint8_t. */
+/* UM_CALL marks a call whose answer must not be ignored: what it writes is not written if it refuses. The calls _new, which refuse only
+ * settings, lack the mark. In gcc and clang an enum that a call returns has one octet, so that -Wswitch and debuggers know the answer;
+ * elsewhere the answer is a uint8_t. */
 #if defined __GNUC__
 #define UM_NONNULL __attribute__((__nonnull__))
 #define UM_CALL __attribute__((__nonnull__, __warn_unused_result__))
@@ -517,7 +518,7 @@ typedef struct um_report {
  * struct is no data link; this comes first. UM_END_NO_CALL: the SAPI is neither 0 nor 3, or um_datalink_open at the network. */
 
 /* Initialises a data link, with T200 of SAPI 0 and of SAPI 3 in slots. False: no such role or channel, or a T200 of 0. */
-bool um_datalink_new(um_datalink *link, uint8_t role, uint8_t channel, uint8_t t200, uint8_t t200_sapi3) UM_CALL;
+bool um_datalink_new(um_datalink *link, uint8_t role, uint8_t channel, uint8_t t200, uint8_t t200_sapi3) UM_NONNULL;
 
 /* Whether the struct is a data link (one that was stored and read back, say). All other calls test it too. */
 bool um_datalink_valid(const um_datalink *link) UM_CALL;

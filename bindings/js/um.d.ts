@@ -78,12 +78,12 @@ export class Um {
    * Decodes four normal bursts as `receiveBlockAmong` does. If no word's CRC holds, decodes the block again with one burst set to zeros,
    * for each of at most `erasures` bursts (0 to 4) in turn, the one with the most wrong training bits first, until the CRC of a word holds.
    */
-  receiveBlockErasing(bursts: SoftBits, most: number, erasures: number): BlockReport & Erasure & { rank: number };
+  receiveBlockErasing(bursts: SoftBits, most: number, erasures: number): BlockReport & { rank: number; erasure: Erasure };
   /**
    * The training sequence of four normal bursts and the wrong training bits of each, without decoding them. The sum of the counts is the
    * block's `wrongTraining`.
    */
-  detectTraining(bursts: SoftBits): { tsc: number; wrongTrainingOfBursts: number[] };
+  detectTraining(bursts: SoftBits): { tsc: number; wrongTraining: number[] };
   /** Corrects a word of 224 bits, data and CRC, with an error burst of at most 12 bits. Null: no codeword is that near. */
   repair(word: Bits): Repair | null;
   /** Encodes the eight bits of RA, least significant first, into an access burst of 88 bits for a base station's identity code (six bits,

@@ -229,8 +229,8 @@ const isNode = () => Boolean(globalThis.process?.versions?.node);
 const fetched = async (url) => {
   const file = url instanceof URL ? url.protocol === "file:" : !/^[a-z][a-z0-9+.-]+:/i.test(url) || /^file:/i.test(url);
   if (!isNode() || !file) return fetch(url);
-  const { readFile } = await import("node:fs/promises");
-  // a bundle for browsers has no files
+  // a bundle for browsers has an empty module in its place (package.json)
+  const { readFile } = await import("./files.mjs");
   return readFile === undefined ? fetch(url) : readFile(typeof url === "string" && /^file:/i.test(url) ? new URL(url) : url);
 };
 
