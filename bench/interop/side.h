@@ -22,7 +22,7 @@ struct player {
 	void (*timers)(struct side *);
 	void (*end)(struct side *);
 };
-extern const struct player um_player;    /* um's endpoints, run as in bindings/c/examples/event_loop.c */
+extern const struct player um_player;    /* um's endpoints, run by loop.h */
 extern const struct player plain_player; /* um's endpoints with one queue and T200 counted from the call, which um.h warns against */
 extern const struct player osmo_player;  /* libosmogsm's entities */
 

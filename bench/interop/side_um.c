@@ -1,6 +1,5 @@
-/* um's endpoints as a side: run as in the example, and run with T200 counted from the call. */
-#define CHANNEL_ALONE
-#include "../../bindings/c/examples/event_loop.c"
+/* um's endpoints as a side: run by loop.h, and run with T200 counted from the call. */
+#include "loop.h"
 #include "side.h"
 #include <stdlib.h>
 

@@ -1,6 +1,5 @@
-/* An event loop for both links of a channel, SAPI 0 and SAPI 3, at one end: the transmit queues and T200.
- *
- *   cc -Ibindings/c bindings/c/examples/event_loop.c dist/x86_64-linux/libum.a -o event_loop && ./event_loop
+/* The caller of um's endpoints in these measurements: both links of a channel, SAPI 0 and SAPI 3, at one end, with transmit queues and
+ * T200 in TDMA frames. A program that uses the library has um_datalink for this, which counts slots and needs no queue.
  *
  * An endpoint has no timer, and a channel carries one block each way every 51 TDMA frames on SDCCH, every 102 on its SACCH. So the
  * caller keeps, for each link, a transmit queue and the time at which T200 expires:
@@ -20,8 +19,9 @@
  *     I frame is. A frame with F = 1 answers a poll and stays.
  *
  * To the peer, a frame dropped from the queue looks like a block lost on the air. Times are in TDMA frames of 60/13 ms. */
-#include "um_more.h"
-#include <stdio.h>
+#ifndef LOOP_H
+#define LOOP_H
+#include "um.h"
 #include <string.h>
 
 enum { LINKS = 2, ROOM = 16, LEAST_BLOCKS = 4 };
@@ -179,62 +179,4 @@ static void channel_timers(channel *c, long now)
 		}
 }
 
-#ifndef CHANNEL_ALONE
-
-/* A mobile and a network over a path that loses every seventh block: a message each way on SAPI 0, a short message on SAPI 3. */
-
-static void say(channel *c, int link, const um_notice *n)
-{
-	printf("%s SAPI %d: %s", (const char *)c->context, SAPIS[link], um_notice_name(n->kind));
-	if (n->kind == UM_GOT)
-		printf(" %d octets", n->message.count);
-	putchar('\n');
-}
-
-static void send(channel *c, int link, uint8_t octet, uint8_t count)
-{
-	um_message message = { .count = count };
-	um_effects done;
-	memset(message.octets, octet, count);
-	if (um_end_send(&c->ends[link], &message, &done) == UM_END_DONE)
-		channel_done(c, link, &done);
-}
-
-int main(void)
-{
-	channel mobile, network;
-	um_effects done;
-	um_message info = { .count = 2, .octets = { 5, 8 } };
-	int sent = 0, repeats = 0;
-
-	channel_new(&mobile, UM_MOBILE, UM_SDCCH, 204, say, "mobile");
-	channel_new(&network, UM_NETWORK, UM_SDCCH, 204, say, "network");
-	if (um_end_open(&mobile.ends[0], &info, &done) == UM_END_DONE)
-		channel_done(&mobile, 0, &done);
-	for (int place = 0; place < 80; place++) {
-		long now = place * mobile.block;
-		channel *sides[2] = { &mobile, &network };
-		uint8_t blocks[2][23];
-		if (place == 10 && um_end_open_bare(&network.ends[1], &done) == UM_END_DONE)
-			channel_done(&network, 1, &done);
-		if (place == 15) {
-			send(&mobile, 0, 0x11, 100);
-			send(&network, 0, 0x22, 200);
-			send(&network, 1, 0x33, 30);
-		}
-		for (int side = 0; side < 2; side++) {
-			channel_timers(sides[side], now);
-			if (channel_next(sides[side], now, blocks[side])) {
-				um_frame f = frame_of(sides[side], blocks[side]);
-				sent++;
-				repeats += starts_t200(&f) && f.kind == UM_I && f.pf;
-			}
-		}
-		for (int side = 0; side < 2; side++)
-			if ((2 * place + side) % 7 != 3)
-				channel_take(sides[!side], blocks[side]);
-	}
-	printf("%d blocks sent, %d of them repeats after T200\n", sent, repeats);
-	return 0;
-}
 #endif
