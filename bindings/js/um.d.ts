@@ -6,6 +6,8 @@ import type {
 
 export * from "./types.js";
 
+/** The version of the package. */
+export const VERSION: string;
 export const KINDS: readonly Kind[];
 export const CHANNELS: readonly Channel[];
 export const ROLES: readonly Role[];
@@ -62,6 +64,9 @@ export class Um {
   constructor(module: CompiledModule, instance?: object);
   /** The exports of the WebAssembly instance. Nothing tests the arguments of direct calls. */
   readonly exports: Readonly<Record<string, unknown>>;
+
+  /** The version of um.wasm, such as "0.2.0"; `load` takes only one with the first two numbers of VERSION. */
+  version(): string;
 
   /** Encodes a block of 23 octets into the 592 bits of four normal bursts, with training sequence 0 to 7. */
   sendBlock(octets: Octets, tsc: number): Uint8Array;
