@@ -3,6 +3,8 @@
  * Link with libum.a or libum.so.0 from dist/x86_64-linux or dist/aarch64-linux. `rt lib` in crates/um_c proves and builds the same
  * archive as out/libum_c.a. The library needs only memcpy, memmove and memset.
  *
+ * One header for all calls, so that there is one to include and to copy; um_more.h, um_soft.h and um_osmo.h stand beside it.
+ *
  * Conventions
  *   A hard bit is an octet, 0 or 1 (libosmocore's ubit_t). Arrays of bits are in transmission order. A soft bit is a signed octet,
  *   from -127 (certainly 1) to 127 (certainly 0); 0 means unknown (libosmocore's sbit_t). -128 is refused.
