@@ -1,8 +1,10 @@
 #!/usr/bin/python3
 """Writes grgsm.in and grgsm.out beside itself: 34 blocks as gr-gsm's receiver hands out their bursts at an Es/N0 of 4 dB, and what
-`um replay` says of each if it finds the word sent: from the bits sent, without decoding. Needs Debian's packages gr-gsm and gnuradio."""
+`um replay` says of each if it finds the word sent: from the bits sent, without decoding. grgsm.bursts has the bursts of time slots 0 and 1,
+a file of gr-gsm's burst_file_sink. Needs Debian's packages gr-gsm and gnuradio."""
 import os
 import sys
+import tempfile
 
 import numpy
 
@@ -21,7 +23,11 @@ def main():
     deviation = numpy.full(len(samples), 0.01)
     deviation[1000 + CYCLE * FRAME :] = numpy.sqrt(SAMPLES / 10**0.4)  # the first cycle is clean: there the receiver finds the cell
     samples = samples + noise(len(samples), deviation, draw)
-    bursts, messages, _ = received(samples, combined=False, ppm=0, awaited=blocks, quiet=5)
+    with tempfile.NamedTemporaryFile() as file:
+        bursts, messages, _ = received(samples, combined=False, ppm=0, awaited=blocks, quiet=5, file=file.name)
+        records = numpy.fromfile(file.name, numpy.uint8).reshape(-1, 174)
+    at = records[:, 18:22].astype(int) @ [1 << 24, 1 << 16, 1 << 8, 1] - FIRST - CYCLE
+    records[(records[:, 13] < 2) & (0 <= at) & (at < CYCLE // 2)].tofile(os.path.join(HERE, "grgsm.bursts"))
     keys = [key for key in blocks if key[0] < 3 and 0 <= key[1] - FIRST - CYCLE < CYCLE // 2]
     given = 0
     lines, out = open(os.path.join(HERE, "grgsm.in"), "w", encoding="ascii"), open(os.path.join(HERE, "grgsm.out"), "w", encoding="ascii")

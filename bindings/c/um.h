@@ -3,6 +3,8 @@
  * Link with libum.a or libum.so.0 from dist/x86_64-linux or dist/aarch64-linux. `rt lib` in crates/um_c proves and builds the same
  * archive as out/libum_c.a. The library needs only memcpy, memmove and memset.
  *
+ * One header for all calls, so that there is one to include and to copy; um_more.h, um_soft.h and um_osmo.h stand beside it.
+ *
  * Conventions
  *   A hard bit is an octet, 0 or 1 (libosmocore's ubit_t). Arrays of bits are in transmission order. A soft bit is a signed octet,
  *   from -127 (certainly 1) to 127 (certainly 0); 0 means unknown (libosmocore's sbit_t). -128 is refused.
@@ -28,8 +30,9 @@
 #define UM_VERSION_PATCH 0
 #define UM_VERSION_NUMBER (1000000 * UM_VERSION_MAJOR + 1000 * UM_VERSION_MINOR + UM_VERSION_PATCH)
 
-/* UM_CALL marks a call whose answer must not be ignored: what it writes is not written if it refuses. In gcc and clang an enum that a
- * call returns has one octet, so that -Wswitch and debuggers know the answer; elsewhere the answer is a uint8_t. */
+/* UM_CALL marks a call whose answer must not be ignored: what it writes is not written if it refuses. The calls _new, which refuse only
+ * settings, lack the mark. In gcc and clang an enum that a call returns has one octet, so that -Wswitch and debuggers know the answer;
+ * elsewhere the answer is a uint8_t. */
 #if defined __GNUC__
 #define UM_NONNULL __attribute__((__nonnull__))
 #define UM_CALL __attribute__((__nonnull__, __warn_unused_result__))
@@ -522,7 +525,7 @@ typedef struct um_report {
  * struct is no data link; this comes first. UM_END_NO_CALL: the SAPI is neither 0 nor 3, or um_datalink_open at the network. */
 
 /* Initialises a data link, with T200 of SAPI 0 and of SAPI 3 in slots. False: no such role or channel, or a T200 of 0. */
-bool um_datalink_new(um_datalink *link, uint8_t role, uint8_t channel, uint8_t t200, uint8_t t200_sapi3) UM_CALL;
+bool um_datalink_new(um_datalink *link, uint8_t role, uint8_t channel, uint8_t t200, uint8_t t200_sapi3) UM_NONNULL;
 
 /* Whether the struct is a data link (one that was stored and read back, say). All other calls test it too. */
 bool um_datalink_valid(const um_datalink *link) UM_CALL;

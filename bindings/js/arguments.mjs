@@ -46,13 +46,16 @@ const OCTET = { what: "octets", least: 0, most: 255, own: Uint8Array };
 const BIT = { what: "bits", least: 0, most: 1, own: null };
 const SOFT = { what: "soft bits", least: -127, most: 127, own: null };
 
+const wanted = (count, { what, least, most }) => `${count === undefined ? "" : `${count} `}${what}, integers from ${least} to ${most}`;
+
 // a list of `count` numbers, or of any count if it is undefined; returns the count
-const counted = (name, values, count, { what, least, most }) => {
-  const wanted = `${count === undefined ? "" : `${count} `}${what}, integers from ${least} to ${most}`;
-  if (!Array.isArray(values) && !isTyped(values)) throw new TypeError(`${name} is ${shown(values)}; expected an array of ${wanted}`);
+const counted = (name, values, count, form) => {
+  if (!Array.isArray(values) && !isTyped(values)) {
+    throw new TypeError(`${name} is ${shown(values)}; expected an array of ${wanted(count, form)}`);
+  }
   const length = lengthOf(values);
   if (length === 0 && isTyped(values) && isTransferred(values)) throw new TypeError(`${name} has no memory; it was transferred`);
-  if (count !== undefined && length !== count) throw new RangeError(`${name} has ${length} values; expected ${wanted}`);
+  if (count !== undefined && length !== count) throw new RangeError(`${name} has ${length} values; expected ${wanted(count, form)}`);
   return length;
 };
 
@@ -92,14 +95,30 @@ export const putFirstOctets = (memory, at, name, values, most) => {
   return count;
 };
 
-// `count` soft bits, as one list or as a list of bursts; -128 in an Int8Array is left for the library to refuse
-export const putSoft = (memory, at, name, values, count) => {
+// Writes soft bits as long as they are valid, and returns how many. Soft bits alone, in a loop that engines compile for lists of numbers.
+const putValid = (memory, at, values, count) => {
+  for (let i = 0; i < count; i++) {
+    const value = values[i];
+    if (typeof value !== "number" || value !== (value | 0) || value < -127 || value > 127) return i;
+    memory[at + i] = value;
+  }
+  return count;
+};
+
+const putBurst = (memory, at, nameOf, values, count) => {
   if (values instanceof Int8Array && typedLength.call(values) === count) {
     memory.set(values, at);
-  } else if (Array.isArray(values) && values.length === count / 148 && typeof values[0] !== "number") {
-    for (let i = 0; i < count / 148; i++) putSoft(memory, at + 148 * i, `${name}[${i}]`, values[i], 148);
+  } else if (!Array.isArray(values) || values.length !== count || putValid(memory, at, values, count) < count) {
+    putList(memory, at, nameOf(), values, count, SOFT);
+  }
+};
+
+// `count` soft bits, as one list or as a list of bursts; -128 in an Int8Array is left for the library to refuse
+export const putSoft = (memory, at, name, values, count) => {
+  if (Array.isArray(values) && values.length === count / 148 && typeof values[0] !== "number") {
+    for (let i = 0; i < count / 148; i++) putBurst(memory, at + 148 * i, () => `${name}[${i}]`, values[i], 148);
   } else {
-    putList(memory, at, name, values, count, SOFT);
+    putBurst(memory, at, () => name, values, count);
   }
 };
 

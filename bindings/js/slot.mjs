@@ -12,18 +12,18 @@ export const SLOT = 608;
 
 const erasureAt = (m, at) => ({
   erased: m.octets[at] === 4 ? null : m.octets[at],
-  wrongTrainingOfBursts: Array.from(m.octets.subarray(at + 1, at + 5)),
+  wrongTraining: Array.from(m.octets.subarray(at + 1, at + 5)),
 });
 
 export const receiveBlockErasing = (m, bursts, most, erasures) => {
   const numbers = [integer("most", most, 1, 64), integer("erasures", erasures, 0, 4)];
   m.receive("um_receive_block_erasing", "bursts", bursts, 592, ...numbers, m.OUTPUT, m.BESIDE, m.BESIDE + 8n);
-  return { ...m.blockReport(), rank: m.view.getUint32(m.beside, true), ...erasureAt(m, m.beside + 8) };
+  return { ...m.blockReport(), rank: m.view.getUint32(m.beside, true), erasure: erasureAt(m, m.beside + 8) };
 };
 
 export const detectTraining = (m, bursts) => {
   m.receive("um_detect_training", "bursts", bursts, 592, m.BESIDE, m.BESIDE + 8n);
-  return { tsc: m.octets[m.beside], wrongTrainingOfBursts: Array.from(m.octets.subarray(m.beside + 8, m.beside + 12)) };
+  return { tsc: m.octets[m.beside], wrongTraining: Array.from(m.octets.subarray(m.beside + 8, m.beside + 12)) };
 };
 
 export class Slot {
@@ -80,7 +80,7 @@ export class Slot {
       channel: LOGICAL_CHANNELS[m.octets[at]],
       subchannel: m.octets[at + 1],
       heard: m.octets[at + 2],
-      ...erasureAt(m, at + 3),
+      erasure: erasureAt(m, at + 3),
     };
   }
 

@@ -46,14 +46,15 @@ export interface BlockReport extends Report {
   /** The detected training sequence, 0 to 7. */
   tsc: number;
 }
+/** Which burst was erased, and how well the bursts fit the training sequence. */
 export interface Erasure {
   /** The burst that was set to zeros, 0 to 3; null if none was. */
   erased: number | null;
   /** Bit errors in the 26 training bits of each burst as received; 26 in a burst that never came. */
-  wrongTrainingOfBursts: number[];
+  wrongTraining: number[];
 }
 /** A block of a time slot. */
-export interface SlotBlock extends BlockReport, Erasure {
+export interface SlotBlock extends BlockReport {
   /** The rank of the word, 1 for the most likely one. */
   rank: number;
   /** The frame number of the first burst. */
@@ -63,6 +64,7 @@ export interface SlotBlock extends BlockReport, Erasure {
   subchannel: number;
   /** How many of the four bursts came. */
   heard: number;
+  erasure: Erasure;
 }
 /** What a synchronisation burst says. */
 export interface Sch {

@@ -6,6 +6,8 @@ import type {
 
 export * from "./types.js";
 
+/** The version of the package. */
+export const VERSION: string;
 export const KINDS: readonly Kind[];
 export const CHANNELS: readonly Channel[];
 export const ROLES: readonly Role[];
@@ -63,6 +65,9 @@ export class Um {
   /** The exports of the WebAssembly instance. Nothing tests the arguments of direct calls. */
   readonly exports: Readonly<Record<string, unknown>>;
 
+  /** The version of um.wasm, such as "0.2.0"; `load` takes only one with the first two numbers of VERSION. */
+  version(): string;
+
   /** Encodes a block of 23 octets into the 592 bits of four normal bursts, with training sequence 0 to 7. */
   sendBlock(octets: Octets, tsc: number): Uint8Array;
   /** Decodes four normal bursts by maximum likelihood. */
@@ -78,12 +83,12 @@ export class Um {
    * Decodes four normal bursts as `receiveBlockAmong` does. If no word's CRC holds, decodes the block again with one burst set to zeros,
    * for each of at most `erasures` bursts (0 to 4) in turn, the one with the most wrong training bits first, until the CRC of a word holds.
    */
-  receiveBlockErasing(bursts: SoftBits, most: number, erasures: number): BlockReport & Erasure & { rank: number };
+  receiveBlockErasing(bursts: SoftBits, most: number, erasures: number): BlockReport & { rank: number; erasure: Erasure };
   /**
    * The training sequence of four normal bursts and the wrong training bits of each, without decoding them. The sum of the counts is the
    * block's `wrongTraining`.
    */
-  detectTraining(bursts: SoftBits): { tsc: number; wrongTrainingOfBursts: number[] };
+  detectTraining(bursts: SoftBits): { tsc: number; wrongTraining: number[] };
   /** Corrects a word of 224 bits, data and CRC, with an error burst of at most 12 bits. Null: no codeword is that near. */
   repair(word: Bits): Repair | null;
   /** Encodes the eight bits of RA, least significant first, into an access burst of 88 bits for a base station's identity code (six bits,

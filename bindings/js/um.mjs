@@ -13,11 +13,11 @@ import { dataLinkFromBytes, newDataLink } from "./datalink.mjs";
 import { Machine } from "./machine.mjs";
 import { detectTraining, newSlot, receiveBlockErasing, slotFromBytes } from "./slot.mjs";
 import { frameOfTime, nextBlock, placeFrame, readBsic, readRa, readSch, timeOfFrame, writeBsic, writeRa, writeSch } from "./tdma.mjs";
-import { CHANNELS, KINDS, Refused, ROLES, SAPIS, UNREAD } from "./words.mjs";
+import { CHANNELS, KINDS, Refused, ROLES, SAPIS, UNREAD, VERSION } from "./words.mjs";
 
 export { softFromBits, softFromLlr, softFromSbits, softFromTrx } from "./arguments.mjs";
 export { CHANNELS, KINDS, NOTICES, REASONS, REFUSALS, Refused, ROLES, STATES, UNREAD } from "./words.mjs";
-export { COMBINATIONS, DIRECTIONS, LOGICAL_CHANNELS, SLOT_REFUSALS } from "./words.mjs";
+export { COMBINATIONS, DIRECTIONS, LOGICAL_CHANNELS, SLOT_REFUSALS, VERSION } from "./words.mjs";
 export { End, Side } from "./ends.mjs";
 export { DataLink } from "./datalink.mjs";
 export { Slot } from "./slot.mjs";
@@ -36,6 +36,10 @@ export class Um {
 
   get exports() {
     return this.#machine.exports;
+  }
+
+  version() {
+    return versionOf(this.exports);
   }
 
   sendBlock(octets, tsc) {
@@ -229,8 +233,8 @@ const isNode = () => Boolean(globalThis.process?.versions?.node);
 const fetched = async (url) => {
   const file = url instanceof URL ? url.protocol === "file:" : !/^[a-z][a-z0-9+.-]+:/i.test(url) || /^file:/i.test(url);
   if (!isNode() || !file) return fetch(url);
-  const { readFile } = await import("node:fs/promises");
-  // a bundle for browsers has no files
+  // a bundle for browsers has an empty module in its place (package.json)
+  const { readFile } = await import("./files.mjs");
   return readFile === undefined ? fetch(url) : readFile(typeof url === "string" && /^file:/i.test(url) ? new URL(url) : url);
 };
 
@@ -243,6 +247,12 @@ const beside = async () => {
     throw new Error("um.wasm is not beside um.mjs; in a checkout: cp dist/wasm/um.wasm bindings/js/", { cause });
   }
 };
+
+// a module made before there were versions has none
+const versionOf = ({ um_version: version }) =>
+  version === undefined ? "none" : [1000000, 1000, 1].map((unit) => Math.floor(version() / unit) % 1000).join(".");
+
+const minor = (version) => version.split(".", 2).join(".");
 
 const isOctets = (value) => ArrayBuffer.isView(value) || Object.prototype.toString.call(value).endsWith("ArrayBuffer]");
 
@@ -257,5 +267,10 @@ export const load = async (source) => {
     throw new TypeError(`source is ${shown(from)}; expected a URL, the octets of um.wasm, a Response or a WebAssembly.Module`);
   }
   const module = from instanceof WebAssembly.Module ? from : await WebAssembly.compile(from);
-  return new Um(module, await WebAssembly.instantiate(module));
+  const instance = await WebAssembly.instantiate(module);
+  const found = versionOf(instance.exports);
+  if (minor(found) !== minor(VERSION)) {
+    throw new Error(`um.wasm has version ${found}; expected ${VERSION}, as um.mjs; in a checkout: cp dist/wasm/um.wasm bindings/js/`);
+  }
+  return new Um(module, instance);
 };

@@ -1,5 +1,8 @@
 // words.mjs - the words of the package: frame kinds, states, notices and reasons, in the order of the numbers of um.h.
 
+// the version of the package; that of um.wasm has the same first two numbers
+export const VERSION = "0.2.0";
+
 export const KINDS = Object.freeze(["i", "rr", "rnr", "rej", "sabm", "dm", "ui", "disc", "ua"]);
 export const CHANNELS = Object.freeze(["sdcch", "sacch"]);
 export const SAPIS = Object.freeze([0, 3]);

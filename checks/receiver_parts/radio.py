@@ -71,10 +71,10 @@ class Kept(gr.basic_block):
         self.octets[octets[3] & 7, int.from_bytes(octets[8:12], "big")] = octets[16:]  # behind a GSMTAP header
 
 
-def received(samples, combined, ppm, awaited, quiet):
+def received(samples, combined, ppm, awaited, quiet, file=None):
     """What gr-gsm's receiver hands out if it is told by how much its oscillator is too fast: the bits of the bursts and the messages of its
     decoder, by slot and frame, and the samples behind its filter. It ends when the awaited messages are there, or none came for so many
-    seconds."""
+    seconds. gr-gsm writes the bursts to a file too if its name is given."""
 
     def handled():
         if all(key in said.octets and (key[0], key[1] + 3) in heard.octets for key in awaited):
@@ -86,6 +86,9 @@ def received(samples, combined, ppm, awaited, quiet):
     graph.connect(first, entry, receiver)
     graph.connect(entry, filtered)
     graph.msg_connect(receiver, "C0", heard, "in")
+    if file:
+        written = gsm.burst_file_sink(file)
+        graph.msg_connect(receiver, "C0", written, "in")
     common = gsm.gsm_bcch_ccch_sdcch4_demapper if combined else gsm.gsm_bcch_ccch_demapper
     for slot in range(8):
         chain = gsm.dummy_burst_filter(), gsm.gsm_sdcch8_demapper(slot) if slot else common(0), gsm.control_channels_decoder()

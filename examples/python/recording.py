@@ -11,7 +11,8 @@ import sys
 import numpy
 import um
 
-signal.signal(signal.SIGPIPE, signal.SIG_DFL)  # end quietly when the reader ends
+if hasattr(signal, "SIGPIPE"):
+    signal.signal(signal.SIGPIPE, signal.SIG_DFL)  # end quietly when the reader ends
 BURST, GAP, ROW, LEFT = 222, 6, 14, 36
 SURE = ("#dbe5ee", "#a9c1d6", "#6f97b9", "#2f6690")
 WRONG, LOST = "#d1495b", "#f2f2f2"
@@ -21,9 +22,14 @@ def read_recording(name):
     if not name.endswith(".npy"):
         values = numpy.fromfile(name, numpy.int8)
         if values.size % 592:
-            sys.exit(f"recording: {name} has {values.size} octets; expected a multiple of 592, the size of a block")
+            raise ValueError(f"{name} has {values.size} octets; expected a multiple of 592, the size of a block")
+        if values.size and values.min() >= 9 and values.max() <= 126:
+            raise ValueError(f"{name} is text; expected soft bits as int8, 592 octets for a block")
         return values.reshape(-1, 4, 148)
-    values = numpy.load(name)
+    try:
+        values = numpy.load(name)
+    except (EOFError, ValueError):
+        raise ValueError(f"{name} is no array; expected a .npy file of int8 or floats") from None
     return um.soft_from_llr(values) if values.dtype.kind == "f" else values
 
 

@@ -1,6 +1,6 @@
 // Tests that um.mjs refuses invalid arguments, with messages that state what was expected, and that it discards an instance that trapped.
 import assert from "node:assert/strict";
-import { Refused, softFromBits, softFromLlr, softFromSbits, softFromTrx, Um } from "../um.mjs";
+import { load, Refused, softFromBits, softFromLlr, softFromSbits, softFromTrx, Um, VERSION } from "../um.mjs";
 
 const zeros = (count) => new Array(count).fill(0);
 const change = (list, at, value) => list.map((old, i) => (i === at ? value : old));
@@ -184,6 +184,19 @@ const trap = (um) => {
   assert.throws(fine, /um_send_block trapped in WebAssembly .*; the instance was discarded/);
   assert.equal(fine(), 6);
   assert.notEqual(um.exports, before);
+};
+
+// a module whose um_version returns 1002003; its first eight octets are one without calls
+const OTHER = Uint8Array.of(
+  ...[0, 0x61, 0x73, 0x6d, 1, 0, 0, 0, 1, 5, 1, 0x60, 0, 1, 0x7f, 3, 2, 1, 0, 7, 14, 1, 10],
+  ...new TextEncoder().encode("um_version"),
+  ...[0, 0, 10, 8, 1, 6, 0, 0x41, 0x93, 0x94, 0x3d, 0x0b],
+);
+
+export const tryVersions = async (um) => {
+  assert.equal(um.version(), VERSION);
+  await assert.rejects(load(OTHER), { message: new RegExp(`^um.wasm has version 1.2.3; expected ${VERSION}, as um.mjs; in a checkout: cp`) });
+  await assert.rejects(load(OTHER.subarray(0, 8)), /^Error: um.wasm has version none; expected/);
 };
 
 export const tryArguments = (um) => {

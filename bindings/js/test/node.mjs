@@ -5,7 +5,7 @@ import { join } from "node:path";
 import { isMainThread, parentPort, Worker, workerData } from "node:worker_threads";
 import { load } from "../um.mjs";
 import { compare, times } from "./compare.mjs";
-import { tryArguments } from "./arguments.mjs";
+import { tryArguments, tryVersions } from "./arguments.mjs";
 import { tryDataLinks } from "./datalinks.mjs";
 import { tryHostile } from "./hostile.mjs";
 import { trySlots } from "./slots.mjs";
@@ -31,6 +31,7 @@ if (!isMainThread) {
   const wrong = [...found, ...inWorker].filter((part) => part.wrong);
   for (const part of wrong) console.log("js: node:", JSON.stringify(part));
   if (wrong.length === 0) console.log(`js: node ${process.versions.node}, also in a Worker: ${found.map((part) => part.name).join(", ")}`);
+  await tryVersions(um);
   console.log(`js: ${tryArguments(um)} invalid calls are refused, and an instance that trapped is discarded`);
   console.log(`js: ${tryHostile(um, 3000)} calls with hostile arguments are refused, or answered as what they stand for`);
   trySlots(um);

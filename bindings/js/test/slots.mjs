@@ -40,10 +40,9 @@ const slots = (um) => {
   for (const each of [slot, again]) {
     const block = each.take(3, burst(soft, 3));
     assert.deepEqual([...block.accepted], FILL);
-    const { first, channel, subchannel, heard, erased, rank, tsc } = block;
-    const wanted = { first: 0, channel: "sdcch", subchannel: 0, heard: 3, erased: null, rank: 1, tsc: 5 };
-    assert.deepEqual({ first, channel, subchannel, heard, erased, rank, tsc }, wanted);
-    assert.deepEqual(block.wrongTrainingOfBursts, [0, 0, 26, 0]);
+    const { first, channel, subchannel, heard, rank, tsc, erasure } = block;
+    const wanted = { first: 0, channel: "sdcch", subchannel: 0, heard: 3, rank: 1, tsc: 5, erasure: { erased: null, wrongTraining: [0, 0, 26, 0] } };
+    assert.deepEqual({ first, channel, subchannel, heard, rank, tsc, erasure }, wanted);
   }
   for (const [reason, frame] of [["doubled", 3], ["late", 2]]) {
     assert.throws(() => slot.take(frame, burst(soft, 0)), (error) => error instanceof Refused && error.reason === reason);
@@ -65,10 +64,10 @@ const slots = (um) => {
 const erasing = (um) => {
   const soft = softFromBits(um.sendBlock(FILL, 2)).map((value) => Math.sign(value) * 40);
   for (let i = 148; i < 296; i++) soft[i] = ((i * 97) % 255) - 127;
-  const { tsc, wrongTrainingOfBursts } = um.detectTraining(soft);
+  const { tsc, wrongTraining } = um.detectTraining(soft);
   const report = um.receiveBlockErasing(soft, 1, 4);
-  assert.deepEqual([tsc, report.tsc, report.wrongTrainingOfBursts], [2, 2, wrongTrainingOfBursts]);
-  assert.deepEqual([[...report.accepted], report.erased], [FILL, um.receiveBlock(soft).accepted ? null : 1]);
+  assert.deepEqual([tsc, report.tsc, report.erasure.wrongTraining], [2, 2, wrongTraining]);
+  assert.deepEqual([[...report.accepted], report.erasure.erased], [FILL, um.receiveBlock(soft).accepted ? null : 1]);
 };
 
 export const trySlots = (um) => {

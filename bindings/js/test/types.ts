@@ -25,6 +25,7 @@ const use = async (): Promise<void> => {
   side.send(3, [1]).frames.concat(side.take(bursts).frames, side.end(0).idle().frames);
   const block = um.slot("sdcch8", { words: 16, erasures: 4 }).take(3, new Int8Array(148));
   if (block?.accepted && block.channel === "sacch") facts.push(um.readFrame(block.accepted, block.channel).unread === "ea");
+  if (block) facts.push(block.erasure.erased === 1, block.erasure.wrongTraining.length === um.detectTraining(bursts).wrongTraining.length);
   facts.push(um.placeFrame("bcch_ccch", "uplink", 0, 7)?.channel === "rach", um.readSch([])?.bsic === 1);
   // @ts-expect-error no such combination
   um.slot("sdcch");

@@ -37,6 +37,25 @@ def session(draw, channel, loss, slots=4000):
 
 
 class DataLinks(Case):
+    def test_ui_frames_on_sacch_hold_no_timer(self):
+        """A lost frame of SAPI 3 is repeated although each idle block of the other side has a UI frame of SAPI 0."""
+        mobile, network = um.DataLink("mobile", um.SACCH), um.DataLink("network", um.SACCH)
+        mobile.main(True)
+        mobile.open_bare()
+        frames, told = [], []
+        for slot in range(30):
+            up, down = mobile.next(), network.next()
+            frame = um.read_frame(up.block, um.SACCH)
+            frames += [frame.kind] if frame.kind == "i" else []
+            told += mobile.take(network.unit(0, bytes(10)) if down.free else down.block)
+            # the first I frame is lost
+            told += network.take(mobile.unit(0, bytes(10)) if up.free else up.block) if frames != ["i"] or frame.kind != "i" else []
+            if slot == 10:
+                mobile.send(3, bytes(10))
+        kinds = [(sapi, notice.kind) for sapi, notice in told if notice.kind != "unit"]
+        self.assertEqual(kinds, [(3, "opened"), (3, "opened"), (3, "got"), (3, "acked")])
+        self.assertEqual(frames, ["i", "i"])
+
     def test_sessions(self):
         draw = random.Random(1)
         for channel in (um.SDCCH, um.SACCH):

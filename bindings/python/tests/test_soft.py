@@ -65,7 +65,15 @@ class SoftHelpers(Case):
         soft = um.soft_from_llr(numpy.array([[1.0, -1.0], [numpy.inf, 0.25]], numpy.float32), scale=127, positive=1)
         self.assertEqual(numpy.int8, soft.dtype)
         self.assertEqual([[-127, 127], [-127, -32]], soft.tolist())
+        # in floats of four octets these products would be 0.5 and become 0
+        singles = numpy.array([5.0, 0.71428573, 0.15151516], numpy.float32)
+        self.assertEqual([1, 1, 1], [int(um.soft_from_llr(singles, scale)[at]) for at, scale in enumerate((0.1000000001, 0.7, 3.3))])
+        large = numpy.arange(-70000.0, 70000, 7).astype(numpy.float32) / 64
+        self.assertEqual([round(max(-127, min(127, value / 8))) for value in large.tolist()], um.soft_from_llr(large, 0.125).tolist())
         self.assertRaises(ValueError, um.soft_from_llr, numpy.array([numpy.nan]))
+        large = numpy.zeros((2, 20000))
+        large[1, -1] = numpy.nan
+        self.refused(ValueError, ["values: NaN at (1, 19999)"], um.soft_from_llr, large)
         self.assertRaises(TypeError, um.soft_from_llr, numpy.array(["a"]))
         self.assertEqual([[127, -127]], um.soft_from_bits(numpy.array([[False, True]])).tolist())
         self.assertRaises(ValueError, um.soft_from_bits, numpy.array([2]))

@@ -31,6 +31,7 @@ ValueError or TypeError, and the message names the argument:
     ValueError: bursts: 3 bursts; expected 4
 
 With numpy, `receive_blocks` and other calls process many blocks, bursts, words or frames in one call."""
+from ._library import version
 from ._version import __version__
 from .blocks import (
     Margin, Repair, Report, margin_block, receive_access, receive_block, receive_block_among, receive_sync, repair, send_access,
@@ -58,5 +59,5 @@ __all__ = [
     "read_frame", "read_frames", "read_ra", "read_sch", "receive_access", "receive_accesses", "receive_block", "receive_block_among",
     "receive_block_erasing", "receive_blocks", "receive_blocks_among", "receive_sync", "receive_syncs", "repair", "repair_words",
     "send_access", "send_block", "send_blocks", "send_sync", "soft_from_bits", "soft_from_llr", "soft_from_sbits", "soft_from_trx",
-    "time_of_frame", "write_bsic", "write_frame", "write_ra", "write_sch",
+    "time_of_frame", "version", "write_bsic", "write_frame", "write_ra", "write_sch",
 ]

@@ -11,13 +11,19 @@ except ImportError:  # not built: the package is used from its sources, or there
     _in_c = None  # type: ignore[assignment]
 
 
+def _address(array: Any) -> int:
+    # a third of the time of array.ctypes.data
+    address: int = array.__array_interface__["data"][0]
+    return address
+
+
 class Rows(NamedTuple):
     """Memory with a row for each call: an array of one or more axes, whose first counts the calls."""
 
     array: Any
 
     def column(self) -> "tuple[int, int]":
-        return self.array.ctypes.data, self.array.strides[0]
+        return _address(self.array), self.array.strides[0]
 
     def arguments(self, count: int) -> Iterable[Any]:
         address, step = self.column()
@@ -30,7 +36,7 @@ class Numbers(NamedTuple):
     array: Any
 
     def column(self) -> "tuple[int, int]":
-        return self.array.ctypes.data, 0 if self.array.ndim == 0 else self.array.strides[0]
+        return _address(self.array), 0 if self.array.ndim == 0 else self.array.strides[0]
 
     def arguments(self, count: int) -> Iterable[Any]:
         values: Iterable[Any] = repeat(int(self.array)) if self.array.ndim == 0 else self.array.tolist()

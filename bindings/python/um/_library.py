@@ -4,6 +4,8 @@ import os
 import platform
 from typing import Any, Dict, List, Tuple
 
+from ._version import __version__
+
 # by the name of the system: the library, and what follows the processor in the name of its folder in dist/
 _SYSTEMS = {"Windows": ("um.dll", "windows"), "Darwin": ("libum.0.dylib", "macos")}
 _NAME, _SYSTEM = _SYSTEMS.get(platform.system(), ("libum.so.0", "linux"))
@@ -18,6 +20,7 @@ _MAKE = (
 
 _POINTER, _U8, _U32, _BOOL = ctypes.c_void_p, ctypes.c_uint8, ctypes.c_uint32, ctypes.c_bool
 _CALLS: Dict[str, Tuple[Any, Tuple[Any, ...]]] = {
+    "um_version": (_U32, ()),
     "um_send_block": (_BOOL, (_POINTER, _U8, _POINTER)),
     "um_receive_block": (_BOOL, (_POINTER, _POINTER)),
     "um_receive_block_among": (_BOOL, (_POINTER, _U32, _POINTER, _POINTER)),
@@ -86,10 +89,20 @@ def _places() -> List[str]:
 
 def _declared(place: str) -> ctypes.CDLL:
     library = ctypes.CDLL(place)
+    found = version_of(library)
+    # below 1.0 each minor version may lay out its structs otherwise
+    if found.split(".")[:2] != __version__.split(".")[:2]:
+        raise ImportError(f"the library has version {found}; expected {__version__}, as the package")
     for name, (result, arguments) in _CALLS.items():
         call = getattr(library, name)
         call.restype, call.argtypes = result, arguments
     return library
+
+
+def version_of(library: ctypes.CDLL) -> str:
+    """The version of a library, as VERSION has it."""
+    number = library.um_version()
+    return f"{number // 1000000}.{number // 1000 % 1000}.{number % 1000}"
 
 
 def _load() -> ctypes.CDLL:
@@ -97,9 +110,14 @@ def _load() -> ctypes.CDLL:
     for place in _places():
         try:
             return _declared(place)
-        except (OSError, AttributeError) as error:  # missing, or an older library that lacks a call
+        except (OSError, AttributeError, ImportError) as error:  # missing, or of another version
             tried.append(f"\n    {place}: {error}")
     raise ImportError("um: no " + _NAME + ". Tried:" + "".join(tried) + _MAKE)
 
 
 lib = _load()
+
+
+def version() -> str:
+    """The version of the library that the package runs, such as "0.2.0"; `__version__` is that of the package."""
+    return version_of(lib)

@@ -160,10 +160,11 @@ def _soft(name: str, bursts: Any, wanted: str, *shapes: Tuple[int, ...]) -> Any:
     soft, lead = _items(name, array, numpy.int8, wanted, *shapes)
     # few blocks of soft bits begin with a 0 or 1, so nearly none is looked at as a whole
     suspects = numpy.flatnonzero(soft[:, 0] & -2 == 0)
-    suspects = suspects[~(soft[suspects] & -2).any(axis=1)]
-    hard = suspects[soft[suspects].any(axis=1)]
-    if hard.size:
-        raise hard_bits(name + _place(int(hard[0]), lead))
+    if suspects.size:
+        suspects = suspects[~(soft[suspects] & -2).any(axis=1)]
+        hard = suspects[soft[suspects].any(axis=1)]
+        if hard.size:
+            raise hard_bits(name + _place(int(hard[0]), lead))
     return soft, lead
 
 

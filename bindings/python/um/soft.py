@@ -27,7 +27,7 @@ if TYPE_CHECKING:
     Row = array.array[int]
 
 # How many numbers soft_from_llr works on at a time: their floats stay in the cache.
-_AT_ONCE = 1 << 15
+_AT_ONCE = 1 << 14
 
 
 @overload
@@ -60,15 +60,16 @@ def soft_from_bits(bits: Any, sure: int = 127) -> Any:
     number("sure", sure, 1, 127)
     if not hasattr(bits, "dtype"):
         return _rows("bits", bits, "bits", lambda name, row: _soft_row(name, row, sure))
-    if bits.dtype.kind not in "bui" or bits.size and (bits.max() > 1 or bits.min() < 0):
+    kind, size = bits.dtype.kind, bits.dtype.itemsize
+    if kind not in "bui" or bits.size and (bits.max() > 1 or kind == "i" and bits.min() < 0):
         raise ValueError(f"bits: {name_of(bits)}; expected only 0 and 1")
     import numpy
 
-    soft = bits.astype(numpy.int8)
-    soft *= -2
-    soft += 1
-    soft *= numpy.int8(sure)
-    return soft
+    octets = bits.astype(numpy.int8) if size > 1 else numpy.asarray(bits).view(numpy.int8)
+    # sure - 2 * sure * bit, modulo 256
+    soft: Any = numpy.empty(octets.shape, numpy.int8)
+    numpy.multiply(octets, numpy.int8((128 - 2 * sure) % 256 - 128), out=soft)
+    return numpy.add(soft, numpy.int8(sure), out=soft)
 
 
 @overload
@@ -173,19 +174,24 @@ def _scaled_array(values: Any, factor: float) -> Any:
 
     if values.dtype.kind not in "fiu":
         raise TypeError(f"values: {name_of(values)}; expected floats or ints")
+    # Floats of four octets hold each product with a power of two; with others it would be rounded twice, and small integers would overflow.
+    is_exact = values.dtype.kind == "f" and values.dtype.itemsize <= 4 and math.frexp(abs(factor))[0] == 0.5 and 1e-30 < abs(factor) < 1e30
+    form: Any = numpy.float32 if is_exact else numpy.float64
     soft: Any = numpy.empty(values.shape, numpy.int8)
     given, made = values.reshape(-1), soft.reshape(-1)
-    # as floats of eight octets: small integers would overflow, and products of four octets would be rounded twice
-    work = numpy.empty(min(_AT_ONCE, given.size), numpy.float64)
-    for at in range(0, given.size, _AT_ONCE):
-        part = given[at : at + _AT_ONCE]
-        scaled = work[: part.size]
-        with numpy.errstate(over="ignore"):  # clipped below
-            numpy.multiply(part, factor, out=scaled, casting="unsafe")
-        numpy.rint(scaled, out=scaled)
-        numpy.clip(scaled, -127, 127, out=scaled)
-        if numpy.isnan(scaled.sum()):
-            where = numpy.unravel_index(at + int(numpy.isnan(scaled).argmax()), values.shape)
-            raise ValueError(f"values: NaN at {tuple(map(int, where))}; expected numbers")
-        made[at : at + _AT_ONCE] = scaled
+    work = numpy.empty(min(_AT_ONCE, given.size), form)
+    # arrays, because numpy.clip and scalars take five times as long
+    most = numpy.full(work.size, 127, form)
+    least = -most
+    with numpy.errstate(over="ignore", invalid="ignore"):  # clipped or refused below
+        for at in range(0, given.size, _AT_ONCE):
+            part = given[at : at + _AT_ONCE]
+            scaled = work[: part.size]
+            numpy.multiply(part, form(factor), out=scaled, dtype=form, casting="unsafe")
+            numpy.minimum(scaled, most[: part.size], out=scaled)
+            numpy.maximum(scaled, least[: part.size], out=scaled)
+            if numpy.isnan(scaled.max()):
+                where = numpy.unravel_index(at + int(numpy.isnan(scaled).argmax()), values.shape)
+                raise ValueError(f"values: NaN at {tuple(map(int, where))}; expected numbers")
+            made[at : at + _AT_ONCE] = numpy.rint(scaled, out=scaled)
     return soft

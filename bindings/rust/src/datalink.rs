@@ -1,6 +1,6 @@
 //! Data links.
 
-use crate::ends::{notice_of, Message, PlainNotice, NO_NOTICE};
+use crate::effects::{notice_of, Message, PlainNotice, NO_NOTICE};
 use crate::saved::{self, Reader, Writer, FIELDS};
 use crate::{Channel, End, Invalid, NotSaved, Notice, Refused, Role, Sapi, State};
 

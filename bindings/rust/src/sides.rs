@@ -1,6 +1,6 @@
 //! Both links of a channel.
 
-use crate::ends::{told, Message, NO_EFFECTS};
+use crate::effects::{told, Message, NO_EFFECTS};
 use crate::saved::{self, FIELDS};
 use crate::{Channel, Effects, End, NotSaved, Refused, Role, Sapi, SIDE_OCTETS};
 

@@ -21,6 +21,12 @@ fn hard_bits_are_refused() -> Result<(), Invalid> {
 }
 
 #[test]
+fn version_of_the_library() {
+    let (major, minor, patch) = um::version();
+    assert_eq!(format!("{major}.{minor}.{patch}"), env!("CARGO_PKG_VERSION"));
+}
+
+#[test]
 fn soft_bits() -> Result<(), Invalid> {
     assert_eq!(um::soft_from_bits(&[0, 1]), [127, -127]);
     assert_eq!(um::soft_from_sbits(&[-128, -127, 0, 127]), [-127, -127, 0, 127]);
