@@ -344,13 +344,13 @@ module _ {State : Type 0} {r : Rules State} {a : State} {Represents : State → 
   -- the run continues after the command answers a line, and the answer is added to the pending output
   pub line_answered : {Stands' : State → Type 0} {line : Bor (List ℕ)} {text : List ℕ} →
       IsNextLineCall reading mid left' (next.Line line) reading' →
-      ((b : State) → Represents b → (c : State) × (r.fault b line.now ≡ None) × r.Step b line.now text c × Stands' c) →
+      ((b : State) → Represents b → (c : State) × (r.step b line.now ≡ Ok (text, c)) × Stands' c) →
       IsRunUnderway r a Stands' reading' left left' taken taken' (gathered ++ text)
   line_answered {line = line} {text = text} n answers =
       let (came, step) = n.not_stopped u.not_stopped in
       let at = now step in
       let l = (answered_of step.outcome).1 in
-      let (state, none, answer, represents) = answers at.state u.represents in
+      let (state, answer, represents) = answers at.state u.represents in
       record {
         point = record {
           input_read = at.input_read;
@@ -362,7 +362,7 @@ module _ {State : Type 0} {r : Rules State} {a : State} {Represents : State → 
           line_count_matches_lines = omega (arith, l.line_count, at.line_count_matches_lines, length-append at.lines (line.now ∷ []));
           written = at.written;
           runs = Runs-append r a at.state state at.lines (line.now ∷ []) at.answers (text ∷ []) at.runs
-              (state, record { in_limit = l.in_limit; no_fault = none }, answer, refl);
+              (state, rw (le-ltb line_limit (length line.now) l.in_limit) answer, refl);
           reads_little_ahead = rw append-nil at (ReadsAtMostOneBufferAhead-more at.reads_little_ahead [] (line.now ∷ []) (text ∷ []));
         };
         represents = represents;
@@ -374,15 +374,19 @@ module _ {State : Type 0} {r : Rules State} {a : State} {Represents : State → 
   pub line_refused : {Stands' : State → Type 0} {line : Bor (List ℕ)} {text text' : List ℕ} {number : ℕ} {fault : LineFault} →
       IsNextLineCall reading mid left' (next.Line line) reading' → number ≡ reading'.line_count →
       text ≡ refused_text number fault →
-      ((b : State) → Represents b → (r.fault b line.now ≡ Some fault) × (text' ≡ []) × Stands' b) →
+      ((b : State) → Represents b → (r.step b line.now ≡ Err fault) × (text' ≡ []) × Stands' b) →
       IsRunEnding r a Stands' BadInput left left' taken taken' gathered text
-  line_refused {line = line} n number_is text_is answers =
+  line_refused {line = line} {fault = fault} n number_is text_is answers =
       let (came, step) = n.not_stopped u.not_stopped in
       let l = (answered_of step.outcome).1 in
       let (reason, _, represents) = answers u.point.state u.represents in
       ending step represents (λ rest at_end. (
-        _,
-        inl (line.now, line_judged (now step).reads n.valid line.now step.outcome rest at_end, inr (l.in_limit, reason)),
+        fault,
+        inl (
+          line.now,
+          line_judged (now step).reads n.valid line.now step.outcome rest at_end,
+          rw (le-ltb line_limit (length line.now) l.in_limit) reason,
+        ),
         text_is ∙ rw (number_is, l.line_count, u.point.line_count_matches_lines),
       ))
 
@@ -417,7 +421,11 @@ module _ {State : Type 0} {r : Rules State} {a : State} {Represents : State → 
       let (h, long) = step.outcome in
       ending step u.represents (λ rest at_end. (
         Long,
-        inl (reading'.held, long_judged (now step).reads n.valid h rest long, inl (long, refl)),
+        inl (
+          reading'.held,
+          long_judged (now step).reads n.valid h rest long,
+          rw (lt-ltb line_limit (length reading'.held) long) refl,
+        ),
         text_is ∙ rw (number_is, h.line_count, u.point.line_count_matches_lines),
       ))
 
@@ -633,51 +641,40 @@ Keeps-nil None b h = tt
 Keeps-nil (Some xs) None h = h
 Keeps-nil (Some xs) (Some ys) h = rw append-nil at h
 
-module _ {State : Type 0} (r : Rules State) (det : IsDeterministic r) (a : State) (q rest : List ℕ) (due : Status) (z : List ℕ)
-    (out : IsOutput r a (q ++ rest) due z) where
-  -- the prescribed output begins with the answers to the first lines of the input
-  begins_with_answers : (b : State) (lines answers : List (List ℕ)) → Runs r a lines answers b → AreFirstLines q rest lines →
-      IsPrefixOf (concatenated_text answers) z
-  begins_with_answers b lines answers runs first =
-      let (judged, ended, j) = lines_first first in
-      let (judged', ended', j', g) = out in
-      let (end_is, same) = AreProcessedLines-unique _ _ _ _ _ j' j in
-      IsOutputOfLines-front r det _ _ _ _ _ judged _ _ _ runs (rw (end_is, same) at g)
+module _ {State : Type 0} (r : Rules State) (a : State) (q rest : List ℕ) (b : State) (lines answers : List (List ℕ))
+    (runs : Runs r a lines answers b) where
+  -- the output begins with the answers to these lines and the text that follows the answers
+  ends_front : (s : Status) (text : List ℕ) → AreFirstLines q rest lines → InputJustifiesStatus r s q rest lines b text →
+      IsPrefixOf (concatenated_text answers ++ text) (output r a (q ++ rest)).1
+  ends_front ReadFault text first (_, _, none) = rw (none, append-nil) (begins_with_answers r a b lines answers runs first)
+  ends_front s text first ends =
+      ([], ap (λ (z : Status × List ℕ). z.1) (ends_output r a b lines answers runs q rest s text (λ e. cc e) ends) ∙ sym (append-nil _))
 
-  module _ (b : State) (lines answers : List (List ℕ)) (runs : Runs r a lines answers b) where
-    -- the status and the output after these lines are those that the rules prescribe for the whole input
-    due_is : (s : Status) (text : List ℕ) → (s ≡ ReadFault → ⊥) → InputJustifiesStatus r s q rest lines b text →
-        (s ≡ due) × (concatenated_text answers ++ text ≡ z)
-    due_is s text unlike ends = output_unique r det _ _ _ _ _ _ (ends_output r _ _ _ _ runs _ _ s _ unlike ends) out
-
-    -- the prescribed output begins with the answers to these lines and the text that follows the answers
-    ends_front : (s : Status) (text : List ℕ) → AreFirstLines q rest lines → InputJustifiesStatus r s q rest lines b text →
-        IsPrefixOf (concatenated_text answers ++ text) z
-    ends_front ReadFault text first (_, _, none) = rw (none, append-nil) (begins_with_answers _ _ _ runs first)
-    ends_front s text first ends = ([], rw append-nil (sym (due_is s text (λ e. cc e) ends).1))
-
-    module _ (c : State) (y : List ℕ) (further unwritten : List (List ℕ)) (taken taken' : Option (List ℕ))
-        (ahead : Runs r b further unwritten c) (first : AreFirstLines q rest (lines ++ further)) (written : Appends taken taken' y) where
-      -- for each status, a run that satisfies `RunEndsWithStatus` writes what the rules prescribe
-      agrees : (s : Status) → RunEndsWithStatus r s q rest y lines answers further b → WritesAsPrescribed s due z taken taken'
-      agrees ReadFault (text, ends, none, split) =
-          (y, rw split (ends_front ReadFault text (rw (none, append-nil) at first) ends), written)
-      agrees WriteFault (inl front) =
-          let all = begins_with_answers _ _ _ (Runs-append r _ _ _ _ _ _ _ runs ahead) first in
-          let begins = IsPrefixOf-append (concatenated_text answers) _ z (_, joined-append answers unwritten) all in
-          (y, IsPrefixOf-append y (concatenated_text answers) z front begins, written)
-      agrees WriteFault (inr (s, text, part, ends, none, (more, text_is), split)) =
-          let front = ends_front s text (rw (none, append-nil) at first) ends in
-          (y, IsPrefixOf-append y (concatenated_text answers ++ text) z (more, rw (text_is, split, append_assoc)) front, written)
-      agrees NoMemory (_, none, _, _) = Keeps-nil taken taken' (rw none at written)
-      agrees BadWords table_row = absurd table_row
-      agrees s row = let (due, z_is) = due_is s row.0 (λ e. cc e) row.1 in (due, rw (row.3, z_is) at written)
+  module _ (c : State) (y : List ℕ) (further unwritten : List (List ℕ)) (taken taken' : Option (List ℕ))
+      (ahead : Runs r b further unwritten c) (first : AreFirstLines q rest (lines ++ further)) (written : Appends taken taken' y) where
+    -- for each status, a run that satisfies `RunEndsWithStatus` writes what the rules prescribe
+    agrees : (s : Status) → RunEndsWithStatus r s q rest y lines answers further b →
+        WritesAsPrescribed s (output r a (q ++ rest)).0 (output r a (q ++ rest)).1 taken taken'
+    agrees ReadFault (text, ends, none, split) =
+        (y, rw split (ends_front ReadFault text (rw (none, append-nil) at first) ends), written)
+    agrees WriteFault (inl front) =
+        let all = begins_with_answers r a c _ _ (Runs-append r _ _ _ _ _ _ _ runs ahead) first in
+        let begins = IsPrefixOf-append (concatenated_text answers) _ _ (_, joined-append answers unwritten) all in
+        (y, IsPrefixOf-append y (concatenated_text answers) _ front begins, written)
+    agrees WriteFault (inr (s, text, part, ends, none, (more, text_is), split)) =
+        let front = ends_front s text (rw (none, append-nil) at first) ends in
+        (y, IsPrefixOf-append y (concatenated_text answers ++ text) _ (more, rw (text_is, split, append_assoc)) front, written)
+    agrees NoMemory (_, none, _, _) = Keeps-nil taken taken' (rw none at written)
+    agrees BadWords table_row = absurd table_row
+    agrees s row =
+        let out = ends_output r a b lines answers runs q rest s row.0 (λ e. cc e) row.1 in
+        rw out (refl, rw row.3 at written)
 
 -- a run that satisfies `IsRun` ends as the rules prescribe for its whole input
 pub EndsAsPrescribed-from_run : {State : Type 0} {r : Rules State} {a : State} {Represents : State → Type 0} {status : Status}
     (left : Option (List ℕ)) {left' taken taken' : Option (List ℕ)} → IsRun r a Represents status left left' taken taken' →
-    IsDeterministic r → EndsAsPrescribed r a status left taken taken'
-EndsAsPrescribed-from_run None run det = tt
-EndsAsPrescribed-from_run {r = r} {a = a} {status = status} (Some x) run det = λ due z out.
-    agrees r det a run.input_read run.unread due z (rw run.read.0 at out) _ _ _ run.runs _ _
-    _ _ _ _ run.unwritten_lines_answered run.first_lines run.written status run.ends_with_status
+    EndsAsPrescribed r a status left taken taken'
+EndsAsPrescribed-from_run None run = tt
+EndsAsPrescribed-from_run {r = r} {a = a} {status = status} (Some x) {taken = taken} {taken' = taken'} run =
+    subst (λ o. WritesAsPrescribed status (output r a o).0 (output r a o).1 taken taken') (sym run.read.0) (agrees r a run.input_read run.unread _ _ _ run.runs _ _ _ _ _ _ run.unwritten_lines_answered run.first_lines run.written status
+    run.ends_with_status)

@@ -2,7 +2,6 @@ pub use Rattle.um_lines.specs as um_lines
 -- The definitions that the contracts of this crate cite.
 pub mod Progress
 pub mod Divided
-pub mod Laws
 pub mod Outputs
 pub mod Rules
 pub mod Statuses

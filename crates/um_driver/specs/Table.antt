@@ -1,6 +1,6 @@
 -- What a run that ends has read and written, for each exit status (this project's own rule).
 use Rattle.std.specs.Prelude.{ℕ, ◌≡◌, ◌≤◌, ◌<◌, ◌+◌, List, [], ◌∷◌, ◌++◌, length, Option, Some, None}
-use Rattle.std.specs.Prelude.{IfSome, ◌⊎◌}
+use Rattle.std.specs.Prelude.{Err, IfSome, ◌⊎◌}
 use Rattle.std.specs.Io.KnownBytes.{Appends, Keeps}
 use Rattle.um_io.specs.Lines.{IsLine, IsDividedIntoLines, text_of_lines}
 use Rattle.um_io.specs.Streams.{FailureCountRose}
@@ -8,8 +8,8 @@ use Rattle.um_io.specs.Reading.{input_limit, line_limit, buffer_limit}
 use Rattle.um_lines.specs.declared.fault.LineFault.{LineFault}
 use Rattle.um_lines.specs.Refusals.{refused_text}
 use Rattle.um_driver.specs.Divided.{BeginsWithLines}
-use Rattle.um_driver.specs.Rules.{Rules, IsLineRefused, Runs, concatenated_text}
-use Rattle.um_driver.specs.Outputs.{ExceedsInputLimit, IsOutput}
+use Rattle.um_driver.specs.Rules.{Rules, answer_to_line, Runs, concatenated_text}
+use Rattle.um_driver.specs.Outputs.{ExceedsInputLimit, output}
 use Rattle.um_driver.specs.declared.status.Status.{Status}
 use Rattle.um_driver.specs.declared.status.Status.TheVariants.{Done, BadWords, BadInput, ReadFault, WriteFault, NoMemory, TooLong}
 
@@ -48,7 +48,7 @@ pub record IsNextLineProcessed (input rest : List ℕ) (lines : List (List ℕ))
 abbrev pub IsNextLineRefused : {State : Type 0} (rules : Rules State) (input_read unread : List ℕ) (lines : List (List ℕ))
     (state : State) (fault : LineFault) → Type 0
 IsNextLineRefused r q rest lines b fault =
-    ((line : List ℕ) × IsNextLineProcessed q rest lines line × IsLineRefused r b line fault) ⊎ (IsWholeInputRead q rest lines ×
+    ((line : List ℕ) × IsNextLineProcessed q rest lines line × (answer_to_line r b line ≡ Err fault)) ⊎ (IsWholeInputRead q rest lines ×
     (r.end_fault b ≡ Some fault))
 
 -- ---- output: `y` stands for the octets that were written
@@ -174,4 +174,4 @@ WritesAsPrescribed status due z taken taken' = (status ≡ due) × Appends taken
 abbrev pub EndsAsPrescribed : {State : Type 0} (rules : Rules State) (state : State) (status : Status)
     (unread written_before written_after : Option (List ℕ)) → Type 0
 EndsAsPrescribed r a status left taken taken' =
-    IfSome left (λ x. (due : Status) (z : List ℕ) → IsOutput r a x due z → WritesAsPrescribed status due z taken taken')
+    IfSome left (λ x. WritesAsPrescribed status (output r a x).0 (output r a x).1 taken taken')

@@ -4,14 +4,12 @@
 mod command;
 mod driver;
 mod gathered;
-mod laws;
 mod stateless;
 mod status;
 mod writing;
 
 pub use command::Command;
 pub use driver::drive;
-pub use laws::{law_command_output_exists, law_deterministic_output_is_unique};
 pub use stateless::{Answer, StatelessCommand};
 pub use status::Status;
 pub use um_io::{MemorySink, MemorySource, PlainSource, ReadSource, Sink, Source, WriteSink};

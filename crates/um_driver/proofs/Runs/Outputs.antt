@@ -2,30 +2,29 @@
 pub use Rattle.{
   std.{
     proofs.{
-      Common.{Bool, List, None, Option, Some, [], append-nil, append_assoc, ap, arith, drop, false, inl, inr, length-append, length-drop},
-      Common.{leb, length, refl, sym, take-append-drop, take, true, ℕ, ◌++◌, ◌+◌, ◌-◌, ◌<◌, ◌∙◌, ◌∷◌},
+      Common.{Bool, Err, List, None, Ok, Option, Result, Some, [], append-nil, append_assoc, ap, arith, drop, false, inl, inr},
+      Common.{leb, length-append, length-drop, length, refl, subst, sym, take-append-drop, take, true, ℕ, ◌++◌, ◌+◌, ◌-◌, ◌<◌, ◌∙◌, ◌∷◌},
       Common.{◌≡◌, ◌≤◌, ◌⊎◌},
-      lemmas.{Bool.{cases_lt, le-leb, lt-leb}, List.{Elements.{All-append, All-cons, All-head, All-nil, All-push, All-tail}, length-take}},
+      lemmas.{
+        Bool.{cases_lt, eq-eqb, le-leb, le-ltb, lt-leb, lt-ltb, ne_eqb},
+        List.{Elements.{All-append, All-cons, All-head, All-nil, All-push, All-tail}, length-take},
+      },
       lemmas.List.{take_all, take_at},
     },
     specs.List.All,
   },
   um_driver.specs.{
     Divided.BeginsWithLines,
-    Laws.{HasOneOutput, OutputExists, OutputIsUnique},
-    Outputs.{AreOctetsWithinLimit, AreProcessedLines, ExceedsInputLimit, IsOutputOfLines, IsOutput, LastLineIsNotProcessed},
-    Outputs.LastLineIsProcessed,
-    Rules.{IsDeterministic, IsLineAccepted, IsLineRefused, AnswersEveryAcceptedLine, Rules, Runs, concatenated_text, stateless},
+    Outputs.{ExceedsInputLimit, divided, is_within_limit, last_line, output, output_at_end, output_from_answer, output_of_lines},
+    Outputs.{processed_lines, push_octet},
+    Rules.{Rules, Runs, answer_to_line, concatenated_text},
     Table.{AllAnswersAtLeastPartlyWritten, AreFirstLines, InputJustifiesStatus, IsNextLineProcessed, IsPrefixOf, IsRun, IsWholeInputRead},
     Table.{RunEndsWithStatus},
     declared.status.Status.{TheVariants.{BadInput, BadWords, Done, NoMemory, ReadFault, TooLong, WriteFault}, Status},
   },
-  um_io.proofs.Lemmas.{All-front, divide, length-text-push, one_division, text-append, text-cons, text-push},
+  um_io.proofs.Lemmas.{All-front, divide, length-text-push, text-append, text-cons, text-push},
   um_io.specs.{Lines.{IsDividedIntoLines, IsLine, IsNotLineFeed, text_of_lines}, Reading.{input_limit, line_limit}},
-  um_lines.{
-    proofs.FormLaws.{good_meaning, same_meaning},
-    specs.{Meanings.HasOneMeaningOrFault, Refusals.refused_text, declared.fault.LineFault.{TheVariants.Long, LineFault}},
-  },
+  um_lines.specs.{Refusals.refused_text, declared.fault.LineFault.{TheVariants.Long, LineFault}},
 }
 
 -- ## Judging: Which lines of an input a run processes: those that end within the limit, and the octets after them if these are too long for
@@ -40,10 +39,34 @@ pub begins_with_more : {x rest : List ℕ} {lines : List (List ℕ)} (more : Lis
     BeginsWithLines (x ++ more) lines (rest ++ more)
 begins_with_more more b = begins_with b.no_line_feed (rw (b.octets_split, append_assoc))
 
+-- the octets after the last line feed are processed as a line, or they are not
+abbrev pub LastLineIsProcessed : (last : List ℕ) (ended : Bool) → Type 0
+LastLineIsProcessed last true = 0 < length last
+LastLineIsProcessed last false = line_limit < length last
+
+abbrev pub LastLineIsNotProcessed : (last : List ℕ) (ended : Bool) → Type 0
+LastLineIsNotProcessed last true = last ≡ []
+LastLineIsNotProcessed last false = length last ≤ line_limit
+
+-- `octets` are the octets of `input` that are within the input limit; `ended` says whether they are all of them
+abbrev pub AreOctetsWithinLimit : (input octets : List ℕ) (ended : Bool) → Type 0
+AreOctetsWithinLimit x octets true = (x ≡ octets) × (length x ≤ input_limit)
+AreOctetsWithinLimit x octets false = (past : List ℕ) × ExceedsInputLimit x octets past
+
 -- the processed lines `judged` are `lines`, followed by `last` if the run processes `last` as a line
-abbrev AreJudged : (judged lines : List (List ℕ)) (last : List ℕ) (ended : Bool) → Type 0
+abbrev pub AreJudged : (judged lines : List (List ℕ)) (last : List ℕ) (ended : Bool) → Type 0
 AreJudged judged lines last ended =
     ((judged ≡ lines) × LastLineIsNotProcessed last ended) ⊎ ((judged ≡ lines ++ last ∷ []) × LastLineIsProcessed last ended)
+
+-- a run on `input` processes the lines `judged`
+pub record AreProcessedLines (input : List ℕ) (judged : List (List ℕ)) (ended : Bool) : Type 0 where
+  pub octets : List ℕ
+  pub lines : List (List ℕ)
+  pub last : List ℕ
+  pub in_limit : AreOctetsWithinLimit input octets ended
+  pub begins : BeginsWithLines octets lines last
+  pub no_line_feed : IsLine last
+  pub last_line_processed_or_not : AreJudged judged lines last ended
 
 -- the lines of an input are its complete lines and then the rest, if the rest is not empty
 division_of : {x : List ℕ} {lines : List (List ℕ)} → IsDividedIntoLines x lines →
@@ -214,18 +237,36 @@ lines_next {q} {rest} {lines} {line} n = elim n.is_complete [
       )
 ]
 
--- no processed line contains a line feed
-processed_are_lines : (x : List ℕ) (judged : List (List ℕ)) (ended : Bool) → AreProcessedLines x judged ended → All IsLine judged
-processed_are_lines x judged ended j = elim j.last_line_processed_or_not [
-  | inl (e, _) ↦ rw e j.begins.no_line_feed
-  | inr (e, _) ↦ rw e (All-push IsLine j.lines j.last j.begins.no_line_feed j.no_line_feed)
-]
+-- ---- `processed_lines` gives these lines
 
--- ---- an input has only one list of processed lines
+divided-last : (last : List ℕ) → IsLine last → divided last ≡ ([], last)
+divided-last [] plain = refl
+divided-last (octet ∷ last) plain =
+    rw (ne_eqb octet 10 (All-head IsNotLineFeed octet last plain), divided-last last (All-tail IsNotLineFeed octet last plain)) refl
 
-same_processed : (judged judged' lines : List (List ℕ)) (last : List ℕ) (ended : Bool) → AreJudged judged lines last ended →
-    AreJudged judged' lines last ended → judged ≡ judged'
-same_processed judged judged' lines last ended h k = grind arith
+divided-line : (line rest : List ℕ) → IsLine line → divided (line ++ 10 ∷ rest) ≡ (line ∷ (divided rest).0, (divided rest).1)
+divided-line [] rest plain = refl
+divided-line (octet ∷ line) rest plain =
+    rw (ne_eqb octet 10 (All-head IsNotLineFeed octet line plain), divided-line line rest (All-tail IsNotLineFeed octet line plain)) refl
+
+divided-lines : (lines : List (List ℕ)) (last : List ℕ) → All IsLine lines → IsLine last →
+    divided (text_of_lines lines ++ last) ≡ (lines, last)
+divided-lines [] last plain p = divided-last last p
+divided-lines (line ∷ lines) last plain p =
+    rw (
+      text-cons line lines last,
+      divided-line line (text_of_lines lines ++ last) (All-head IsLine line lines plain),
+      divided-lines lines last (All-tail IsLine line lines plain) p,
+    ) refl
+
+judged_is : (judged lines : List (List ℕ)) (last : List ℕ) (ended : Bool) → AreJudged judged lines last ended →
+    judged ≡ lines ++ last_line last ended
+judged_is judged lines [] true (inl (e, none)) = rw append-nil e
+judged_is judged lines (o ∷ last) true (inl (e, none)) = absurd (cc none)
+judged_is judged lines [] true (inr (e, some)) = absurd (omega arith)
+judged_is judged lines (o ∷ last) true (inr (e, some)) = e
+judged_is judged lines last false (inl (e, short)) = rw (le-ltb line_limit (length last) short, append-nil) e
+judged_is judged lines last false (inr (e, long)) = rw (lt-ltb line_limit (length last) long) e
 
 -- the octets within the limit are the first `input_limit` octets of the input
 counted_is : (x octets : List ℕ) (ended : Bool) → AreOctetsWithinLimit x octets ended →
@@ -236,16 +277,14 @@ counted_is x octets false (past, h) = (
   sym (lt-leb (length x) input_limit (omega (arith, ap length h.octets_split, length-append octets past))),
 )
 
--- an input has only one list of processed lines
-pub AreProcessedLines-unique : (x : List ℕ) (judged judged' : List (List ℕ)) (ended ended' : Bool) →
-    AreProcessedLines x judged ended → AreProcessedLines x judged' ended' → (ended ≡ ended') × (judged ≡ judged')
-AreProcessedLines-unique x judged judged' ended ended' j k =
+-- a run processes only these lines
+pub processed_is : {x : List ℕ} {judged : List (List ℕ)} {ended : Bool} → AreProcessedLines x judged ended →
+    (is_within_limit x ≡ ended) × (processed_lines x ≡ judged)
+processed_is {x} {judged} {ended} j =
     let (first, over) = counted_is _ _ _ j.in_limit in
-    let (first', over') = counted_is _ _ _ k.in_limit in
-    let end_is = over ∙ sym over' in
-    let (lines, last) = one_division j.lines k.lines j.last k.last j.begins.no_line_feed k.begins.no_line_feed j.no_line_feed k.no_line_feed
-    (sym j.begins.octets_split ∙ first ∙ sym first' ∙ k.begins.octets_split) in
-    (end_is, same_processed _ _ _ _ _ (rw (lines, last, end_is) at j.last_line_processed_or_not) k.last_line_processed_or_not)
+    let d = divided-lines j.lines j.last j.begins.no_line_feed j.no_line_feed in
+    let e : divided (take input_limit x) ≡ (j.lines, j.last) = ap divided (sym first ∙ j.begins.octets_split) ∙ d in
+    (sym over, rw (e, ← over) (sym (judged_is _ _ _ _ j.last_line_processed_or_not)))
 
 -- ## RunLemmas: Lemmas about joining and splitting runs over lines that are not refused.
 
@@ -259,14 +298,14 @@ module _ {State : Type 0} (r : Rules State) where
   pub Runs-append : (a b c : State) (ls ls' ys ys' : List (List ℕ)) → Runs r a ls ys b → Runs r b ls' ys' c →
       Runs r a (ls ++ ls') (ys ++ ys') c
   Runs-append a b c [] ls' [] ys' same then = rw same at then
-  Runs-append a b c (line ∷ ls) ls' (y ∷ ys) ys' (mid, good, step, runs) then =
-      (mid, good, step, Runs-append mid b c ls ls' ys ys' runs then)
+  Runs-append a b c (line ∷ ls) ls' (y ∷ ys) ys' (mid, step, runs) then =
+      (mid, step, Runs-append mid b c ls ls' ys ys' runs then)
   Runs-append a b c _ ls' _ ys' none then = absurd none
 
   -- a run gives as many answers as it reads lines
   pub Runs-length : (a b : State) (ls ys : List (List ℕ)) → Runs r a ls ys b → length ls ≡ length ys
   Runs-length a b [] [] runs = refl
-  Runs-length a b (line ∷ ls) (y ∷ ys) (mid, _, _, runs) = cc (Runs-length mid b ls ys runs)
+  Runs-length a b (line ∷ ls) (y ∷ ys) (mid, _, runs) = cc (Runs-length mid b ls ys runs)
   Runs-length a b _ _ none = absurd none
 
   -- a run can be split in two after any number of its answers
@@ -274,100 +313,67 @@ module _ {State : Type 0} (r : Rules State) where
       (front back : List (List ℕ)) × (mid : State) × Runs r a front ys mid × Runs r mid back ys' c × (ls ≡ front ++ back)
   Runs-split a c ls [] ys' runs = ([], ls, a, refl, runs, refl)
   Runs-split a c [] (y ∷ ys) ys' none = absurd none
-  Runs-split a c (line ∷ ls) (y ∷ ys) ys' (next, good, step, runs) =
+  Runs-split a c (line ∷ ls) (y ∷ ys) ys' (next, step, runs) =
       let (front, back, mid, first, second, e) = Runs-split next c ls ys ys' runs in
-      (line ∷ front, back, mid, (next, good, step, first), second, cc e)
+      (line ∷ front, back, mid, (next, step, first), second, cc e)
 
   -- if each step preserves a property of the state, so does the whole run
-  pub Runs-keep : (P : State → Type 0) → ((a b : State) (line answer : List ℕ) → P a → r.Step a line answer b → P b) →
+  pub Runs-keep : (P : State → Type 0) → ((a b : State) (line answer : List ℕ) → P a → answer_to_line r a line ≡ Ok (answer, b) → P b) →
       (a b : State) (ls ys : List (List ℕ)) → P a → Runs r a ls ys b → P b
   Runs-keep P keeps a b [] [] h same = rw same h
-  Runs-keep P keeps a b (line ∷ ls) (y ∷ ys) h (mid, good, step, runs) = Runs-keep P keeps mid b ls ys (keeps a mid line y h step) runs
+  Runs-keep P keeps a b (line ∷ ls) (y ∷ ys) h (mid, step, runs) = Runs-keep P keeps mid b ls ys (keeps a mid line y h step) runs
   Runs-keep P keeps a b _ _ h none = absurd none
 
   -- ## OutputByLines: The prescribed output for processed lines, built up line by line.
 
-  good_or_bad : (a : State) (line : List ℕ) (fault : LineFault) → IsLineAccepted r a line → IsLineRefused r a line fault → ⊥
-  good_or_bad a line fault good bad = grind arith
-
-  module _ (det : IsDeterministic r) where
-    IsOutputOfLines-unique : (a : State) (n : ℕ) (judged : List (List ℕ)) (ended : Bool) (s s' : Status) (z z' : List ℕ) →
-        IsOutputOfLines r a n judged ended s z → IsOutputOfLines r a n judged ended s' z' → (s ≡ s') × (z ≡ z')
-    IsOutputOfLines-unique a n [] true s s' z z' h k = grind arith
-    IsOutputOfLines-unique a n [] false s s' z z' h k = grind arith
-    IsOutputOfLines-unique a n (line ∷ judged) ended s s' z z' (inl g) (inl g') =
-        let same = det _ _ _ _ _ _ g.step g'.step in
-        let then = IsOutputOfLines-unique g'.state_after_line (n + 1) judged _ _ _ _ _
-        (rw same.1 at g.rest_satisfies_condition) g'.rest_satisfies_condition in
-        (then.0, g.output ∙ (cc) ∙ sym g'.output)
-    IsOutputOfLines-unique a n (line ∷ judged) ended s s' z z' (inl g) (inr stop) =
-        absurd (good_or_bad _ _ _ g.line_accepted stop.refused)
-    IsOutputOfLines-unique a n (line ∷ judged) ended s s' z z' (inr stop) (inl g) =
-        absurd (good_or_bad _ _ _ g.line_accepted stop.refused)
-    IsOutputOfLines-unique a n (line ∷ judged) ended s s' z z' (inr stop) (inr stop') = grind arith
-
-    -- the prescribed output begins with the answers to the first lines
-    pub IsOutputOfLines-front : (a b : State) (n : ℕ) (ls ys judged : List (List ℕ)) (ended : Bool) (s : Status) (z : List ℕ) →
-        Runs r a ls ys b → IsOutputOfLines r a n (ls ++ judged) ended s z → IsPrefixOf (concatenated_text ys) z
-    IsOutputOfLines-front a b n [] [] judged ended s z same g = (z, refl)
-    IsOutputOfLines-front a b n (line ∷ ls) (y ∷ ys) judged ended s z (mid, good, step, runs) (inl g) =
-        let same = det _ _ _ _ _ _ g.step step in
-        let (more, split) = IsOutputOfLines-front mid b (n + 1) ls _ judged _ _ _ runs (rw same.1 at g.rest_satisfies_condition) in
-        (more, rw append_assoc (cc (g.output, same.0, split)))
-    IsOutputOfLines-front a b n (line ∷ ls) (y ∷ ys) judged ended s z (mid, good, step, runs) (inr stop) =
-        absurd (good_or_bad _ _ _ good stop.refused)
-    IsOutputOfLines-front a b n _ _ judged ended s z none g = absurd none
-
-  -- the answers to lines that are not refused, followed by the output for the lines after them, are the output for all of them
-  IsOutputOfLines-after : (a b : State) (n m : ℕ) (ls ys judged : List (List ℕ)) (ended : Bool) (s : Status) (z : List ℕ) →
-      m ≡ length ls + n → Runs r a ls ys b → IsOutputOfLines r b m judged ended s z →
-      IsOutputOfLines r a n (ls ++ judged) ended s (concatenated_text ys ++ z)
-  IsOutputOfLines-after a b n m [] [] judged ended s z e same h = let here : m ≡ n = omega arith in rw (same, here) at h
-  IsOutputOfLines-after a b n m (line ∷ ls) (y ∷ ys) judged ended s z e (mid, good, step, runs) h = inl (record {
-    answer = y;
-    later_output = concatenated_text ys ++ z;
-    state_after_line = mid;
-    line_accepted = good;
-    step = step;
-    rest_satisfies_condition = IsOutputOfLines-after mid b (n + 1) m ls ys judged ended s z (omega arith) runs h;
-    output = append_assoc y (concatenated_text ys) z;
-  })
-  IsOutputOfLines-after a b n m _ _ judged ended s z e none h = absurd none
+  -- the answers to lines that are not refused come first in the output of these and further lines
+  output_of_lines-after : (a b : State) (n m : ℕ) (ls ys judged : List (List ℕ)) (ended : Bool) → m ≡ length ls + n → Runs r a ls ys b →
+      output_of_lines r a n (ls ++ judged) ended
+      ≡ ((output_of_lines r b m judged ended).0, concatenated_text ys ++ (output_of_lines r b m judged ended).1)
+  output_of_lines-after a b n m [] [] judged ended e same = let here : m ≡ n = omega arith in rw (same, here) refl
+  output_of_lines-after a b n m (line ∷ ls) (y ∷ ys) judged ended e (mid, step, runs) =
+      rw (step, output_of_lines-after mid b (n + 1) m ls ys judged ended (omega arith) runs, append_assoc) refl
+  output_of_lines-after a b n m _ _ judged ended e none = absurd none
 
   -- ## OutputLemmas: The output for an input, from the lines that are not refused and the way in which the input ends.
 
-  -- an input has at most one output
-  pub output_unique : OutputIsUnique r
-  output_unique det a x s s' z z' (judged, ended, j, g) (judged', ended', j', g') =
-      let (end_is, same) = AreProcessedLines-unique _ _ _ _ _ j j' in
-      IsOutputOfLines-unique det a 1 judged' ended' s s' z z' (rw (end_is, same) at g) g'
-
   -- if one line that is too long is refused, every other line that is too long is refused
-  IsLineRefused-next : (b : State) (line next : List ℕ) (fault : LineFault) →
-      (next ≡ line) ⊎ ((line_limit < length line) × (line_limit < length next)) → IsLineRefused r b line fault →
-      IsLineRefused r b next fault
-  IsLineRefused-next b line next fault same bad = grind arith
+  refused_next : (b : State) (line next : List ℕ) (fault : LineFault) →
+      (next ≡ line) ⊎ ((line_limit < length line) × (line_limit < length next)) → answer_to_line r b line ≡ Err fault →
+      answer_to_line r b next ≡ Err fault
+  refused_next b line next fault (inl same) bad = rw same bad
+  refused_next b line next fault (inr (long, long')) bad =
+      rw (lt-ltb line_limit (length next) long') (rw (lt-ltb line_limit (length line) long) at bad)
 
   module _ (a b : State) (lines answers : List (List ℕ)) (runs : Runs r a lines answers b) where
     -- the answers to lines that are not refused, followed by the output for the rest, are the output for the input
-    output_of : {x : List ℕ} (judged : List (List ℕ)) (ended : Bool) (s : Status) (text : List ℕ) →
-        AreProcessedLines x (lines ++ judged) ended →
-        IsOutputOfLines r b (length lines + 1) judged ended s text → IsOutput r a x s (concatenated_text answers ++ text)
-    output_of judged ended s text j g =
-        (lines ++ judged, ended, j, IsOutputOfLines-after _ _ 1 (length lines + 1) _ _ _ _ _ _ refl runs g)
+    output_of : {x : List ℕ} (judged : List (List ℕ)) (ended : Bool) → AreProcessedLines x (lines ++ judged) ended →
+        output r a x ≡ (
+          (output_of_lines r b (length lines + 1) judged ended).0,
+          concatenated_text answers ++ (output_of_lines r b (length lines + 1) judged ended).1,
+        )
+    unfolding output
+    output_of judged ended j =
+        let (within, all) = processed_is j in
+        rw (all, within) (output_of_lines-after _ _ 1 (length lines + 1) _ _ judged ended refl runs)
 
-    -- if `InputJustifiesStatus` holds for a status and a text, the answers and this text are the prescribed output for the input
+    -- the output begins with the answers to the first lines of the input
+    pub begins_with_answers : {q rest : List ℕ} → AreFirstLines q rest lines →
+        IsPrefixOf (concatenated_text answers) (output r a (q ++ rest)).1
+    begins_with_answers first =
+        let (judged, ended, j) = lines_first first in
+        (_, ap (λ (z : Status × List ℕ). z.1) (output_of judged ended j))
+
+    -- if `InputJustifiesStatus` holds for a status and a text, the answers and this text are the output for the input
     pub ends_output : (q rest : List ℕ) (s : Status) (text : List ℕ) → (s ≡ ReadFault → ⊥) →
-        InputJustifiesStatus r s q rest lines b text →
-        IsOutput r a (q ++ rest) s (concatenated_text answers ++ text)
-    ends_output q rest Done text _ (whole, good, none) = output_of [] true Done text (lines_read whole) (inl (good, refl, none))
+        InputJustifiesStatus r s q rest lines b text → output r a (q ++ rest) ≡ (s, concatenated_text answers ++ text)
+    ends_output q rest Done text _ (whole, good, none) = output_of [] true (lines_read whole) ∙ rw (good, none) refl
     ends_output q rest BadInput text _ (fault, inl (line, n, bad), text_is) =
         let (next, judged, ended, j, same) = lines_next n in
-        output_of (next ∷ judged) ended BadInput text j
-        (inr (record { fault = fault; refused = IsLineRefused-next _ _ _ _ same bad; is_bad_input = refl; output = text_is }))
-    ends_output q rest BadInput text _ (fault, inr (whole, reason), text_is) = output_of [] true BadInput text (lines_read whole)
-        (inr (record { fault = fault; refused = reason; is_bad_input = refl; output = text_is }))
-    ends_output q rest TooLong text _ ((counted, past, line, is_over, part), none) = output_of [] false TooLong text (record {
+        output_of (next ∷ judged) ended j ∙ rw (refused_next _ _ _ _ same bad, text_is) refl
+    ends_output q rest BadInput text _ (fault, inr (whole, reason), text_is) =
+        output_of [] true (lines_read whole) ∙ rw (reason, text_is) refl
+    ends_output q rest TooLong text _ ((counted, past, line, is_over, part), none) = output_of [] false (record {
       octets = counted;
       lines = lines;
       last = line;
@@ -382,230 +388,33 @@ module _ {State : Type 0} (r : Rules State) where
       begins = part.begins;
       no_line_feed = part.no_line_feed;
       last_line_processed_or_not = inl (append-nil lines, part.in_limit);
-    }) (refl, none)
+    }) ∙ rw none refl
     ends_output q rest ReadFault text unlike _ = absurd (unlike refl)
     ends_output q rest s text _ none = absurd none
 
-  -- ## OutputExists: If every line that is not refused has an answer, every input has an output. The proof is by induction over the
-  -- processed lines.
+-- ## Projecting: Rules whose states are those of other rules with something added give the same answers.
 
-  option_cases : {A : Type 0} (o : Option A) → (o ≡ None) ⊎ ((v : A) × (o ≡ Some v))
-  option_cases None = inl refl
-  option_cases (Some v) = inr (v, refl)
+abbrev pub projected : {S T : Type 0} (f : S → T) → Result (List ℕ × S) LineFault → Result (List ℕ × T) LineFault
+projected f (Ok next) = Ok (next.0, f next.1)
+projected f (Err fault) = Err fault
 
-  -- every list of processed lines has an output
-  gives_some : (a : State) → AnswersEveryAcceptedLine r a → (n : ℕ) (judged : List (List ℕ)) (ended : Bool) →
-      All IsLine judged →
-      (s : Status) × (z : List ℕ) × IsOutputOfLines r a n judged ended s z
-  gives_some a total n [] true plain = elim (option_cases (r.end_fault a)) [
-    | inl none ↦ (Done, [], inl (none, refl, refl))
-    | inr (fault, e) ↦ (BadInput, _, inr (record { fault = fault; refused = e; is_bad_input = refl; output = refl }))
-  ]
-  gives_some a total n [] false plain = (TooLong, [], (refl, refl))
-  gives_some a total n (line ∷ judged) ended plain = elim (cases_lt line_limit (length line)) [
-    | inl long ↦ stops Long (inl (long, refl))
-    | inr short ↦ elim (option_cases (r.fault a line)) [
-      | inl none ↦
-          let good : IsLineAccepted r a line = record { in_limit = short; no_fault = none } in
-          let (answer, mid, step) = total [] [] a refl line (All-head IsLine line judged plain) good in
-          let (s, z, g) = gives_some mid (λ lines answers c runs. total (line ∷ lines) (answer ∷ answers) c (mid, good, step, runs))
-          (n + 1) judged ended (All-tail IsLine line judged plain) in (
-            s,
-            answer ++ z,
-            inl (record {
-              answer = answer;
-              later_output = z;
-              state_after_line = mid;
-              line_accepted = good;
-              step = step;
-              rest_satisfies_condition = g;
-              output = refl;
-            }),
-          )
-      | inr (fault, e) ↦ stops fault (inr (short, e))
-    ]
-  ]
-    where
-      stops : (fault : LineFault) → IsLineRefused r a line fault →
-          (s : Status) × (z : List ℕ) × IsOutputOfLines r a n (line ∷ judged) ended s z
-      stops fault bad = (BadInput, _, inr (record { fault = fault; refused = bad; is_bad_input = refl; output = refl }))
-
-  pub law_command_output_exists : OutputExists r
-  law_command_output_exists a x total =
-      let (judged, ended, j) = lines_after {lines = []} x (begins_with (All-nil IsLine) refl) (omega arith) in
-      let (status, z, g) = gives_some a total 1 judged ended (processed_are_lines _ _ _ j) in
-      (status, z, (judged, ended, j, g))
-
-  -- if a command has exactly one answer to every line that it does not refuse, every input has exactly one output
-  pub has_one_output : (a : State) → AnswersEveryAcceptedLine r a → IsDeterministic r → HasOneOutput r a
-  has_one_output a total det = record {
-    output_exists = λ x. law_command_output_exists a x total;
-    output_is_unique = output_unique det a;
-  }
-
--- ## GoodInputs: If no line of an input is refused and it may end, its output consists of the answers to all its lines.
-
--- the input x is within the limit, none of its lines is refused, it may end after the last line, and y is the text of the answers
-pub record IsGoodInput {State : Type 0} (r : Rules State) (a : State) (x y : List ℕ) : Type 0 where
-  pub lines : List (List ℕ)
-  pub answers : List (List ℕ)
-  pub state : State
-  pub all : IsDividedIntoLines x lines
-  pub limit : length x ≤ input_limit
-  pub runs : Runs r a lines answers state
-  pub end_good : r.end_fault state ≡ None
-  pub output : y ≡ concatenated_text answers
-
-divided_processed : (x : List ℕ) (judged : List (List ℕ)) → AreProcessedLines x judged true → IsDividedIntoLines x judged
-divided_processed x judged j = record {
-  no_line_feed = processed_are_lines _ _ _ j;
-  octets_split = elim j.last_line_processed_or_not [
-    | inl (e, none) ↦ inl (j.in_limit.0 ∙ j.begins.octets_split ∙ rw (none, append-nil, e))
-    | inr (e, some) ↦ inr (record {
-      front = j.lines;
-      last = j.last;
-      lines_split = e;
-      octets_split = j.in_limit.0 ∙ j.begins.octets_split;
-      nonempty = some;
-    })
-  ];
-}
-
-module _ {State : Type 0} (r : Rules State) where
-  -- if the status is `Done`, no processed line is refused
-  all_run : (a : State) (n : ℕ) (judged : List (List ℕ)) (ended : Bool) (z : List ℕ) → IsOutputOfLines r a n judged ended Done z →
-      (answers : List (List ℕ)) × (b : State) × Runs r a judged answers b × (r.end_fault b ≡ None) × (ended ≡ true)
-      × (z ≡ concatenated_text answers)
-  all_run a n [] true z (inl (good, _, none)) = ([], a, refl, good, refl, none)
-  all_run a n [] true z (inr stop) = cc
-  all_run a n [] false z (e, _) = cc e
-  all_run a n (line ∷ judged) ended z (inl g) =
-      let (answers, b, runs, good, e, z_is) = all_run g.state_after_line (n + 1) judged _ _ g.rest_satisfies_condition in
-      (g.answer ∷ answers, b, (g.state_after_line, g.line_accepted, g.step, runs), good, e, cc (g.output, z_is))
-  all_run a n (line ∷ judged) ended z (inr stop) = cc
-
-  pub good_from_output : (a : State) (x z : List ℕ) → IsOutput r a x Done z → IsGoodInput r a x z
-  good_from_output a x z (judged, ended, j, g) =
-      let (answers, b, runs, good, e, z_is) = all_run a 1 judged ended z g in
-      let k = rw e at j in
-      record {
-        lines = judged;
-        answers = answers;
-        state = b;
-        all = divided_processed x judged k;
-        limit = k.in_limit.1;
-        runs = runs;
-        end_good = good;
-        output = z_is;
-      }
-
-  pub output_from_good : (a : State) (x z : List ℕ) → IsGoodInput r a x z → IsOutput r a x Done z
-  output_from_good a x z h =
-      rw h.output (rw append-nil at (output_of r a _ _ _ h.runs {x = x} [] true Done []
-      (rw append-nil (lines_whole h.all h.limit)) (inl (h.end_good, refl, refl))))
-
--- ## StatelessRules: A command without a state that answers a line according to its meaning has one output for every input, because every
--- line either has one meaning or is refused.
-
-module _ {Meaning : Type 0} (fault : List ℕ → Option LineFault) (Means : List ℕ → Meaning → Type 0)
-    (IsAnswer : Meaning → List ℕ → Type 0) where
-  abbrev rules : Rules (Unit {0})
-  rules = stateless fault (λ line answer. (m : Meaning) × Means line m × IsAnswer m answer)
-
-  module _ (meanings : (line : List ℕ) → HasOneMeaningOrFault (fault line) (Means line))
-      (same_answer : (m : Meaning) (y y' : List ℕ) → IsAnswer m y → IsAnswer m y' → y ≡ y') where
-    pub stateless_is_determined : IsDeterministic rules
-    stateless_is_determined a line y y' b b' (m, means, answer) (m', means', answer') =
-        let same = same_meaning (Means line) (fault line) (meanings line) m m' means means' in
-        (same_answer m' y y' (rw same at answer) answer', refl)
-
-    pub stateless_has_one_output : ((line : List ℕ) (m : Meaning) → Means line m → (answer : List ℕ) × IsAnswer m answer) →
-        HasOneOutput rules tt
-    stateless_has_one_output some_answer = has_one_output rules tt (λ lines answers b runs line plain good.
-        let (m, means) = good_meaning (Means line) (fault line) (meanings line) good.no_fault in
-        let (answer, answer_is) = some_answer line m means in
-        (answer, tt, (m, means, answer_is))) stateless_is_determined
-
--- ## Weaker: A run that follows one set of rules also follows every weaker set of rules.
-
--- the rules r' are weaker than r: `f` maps states of r to states of r', the same lines are refused, and each step of r is a step of r'
-pub record IsWeakerBy {S T : Type 0} (f : S → T) (r : Rules S) (r' : Rules T) : Type 0 where
-  pub fault : (a : S) (line : List ℕ) → r'.fault (f a) line ≡ r.fault a line
+-- `f` maps states of r to states of r', and keeps all answers and faults
+pub record IsProjectedBy {S T : Type 0} (f : S → T) (r : Rules S) (r' : Rules T) : Type 0 where
+  pub step : (a : S) (line : List ℕ) → r'.step (f a) line ≡ projected f (r.step a line)
   pub end_fault : (a : S) → r'.end_fault (f a) ≡ r.end_fault a
-  pub step : (a b : S) (line answer : List ℕ) → r.Step a line answer b → r'.Step (f a) line answer (f b)
 
-module _ {S T : Type 0} (f : S → T) (r : Rules S) (r' : Rules T) (w : IsWeakerBy f r r') where
+module _ {S T : Type 0} (f : S → T) (r : Rules S) (r' : Rules T) (w : IsProjectedBy f r r') where
+  answer_by : (a : S) (line : List ℕ) (answer : Result (List ℕ × S) LineFault) → answer_to_line r a line ≡ answer →
+      answer_to_line r' (f a) line ≡ projected f answer
+  answer_by a line answer e = elim (cases_lt line_limit (length line)) [
+    | inl long ↦ rw (lt-ltb line_limit (length line) long, ← e) (rw (lt-ltb line_limit (length line) long) refl)
+    | inr short ↦ rw (le-ltb line_limit (length line) short, ← e, w.step a line) (rw (le-ltb line_limit (length line) short) refl)
+  ]
+
   pub runs_by : (a b : S) (lines answers : List (List ℕ)) → Runs r a lines answers b → Runs r' (f a) lines answers (f b)
   runs_by a b [] [] h = ap f h
-  runs_by a b (line ∷ lines) (y ∷ ys) (mid, g, step, h) = (
-    f mid,
-    record { in_limit = g.in_limit; no_fault = w.fault a line ∙ g.no_fault },
-    w.step a mid line y step,
-    runs_by mid b lines ys h,
-  )
+  runs_by a b (line ∷ lines) (y ∷ ys) (mid, step, h) = (f mid, answer_by a line _ step, runs_by mid b lines ys h)
   runs_by a b _ _ none = absurd none
-
-  module _ (q rest : List ℕ) (lines : List (List ℕ)) (b : S) where
-    ends : (status : Status) (text : List ℕ) → InputJustifiesStatus r status q rest lines b text →
-        InputJustifiesStatus r' status q rest lines (f b)
-        text
-    ends Done text h = rw w.end_fault h
-    ends BadInput text h = simp (w.fault, w.end_fault) h
-    ends _ text h = h
-
-    table_row : (status : Status) (y : List ℕ) (answers further : List (List ℕ)) →
-        RunEndsWithStatus r status q rest y lines answers further b → RunEndsWithStatus r' status q rest y lines answers further (f b)
-    table_row WriteFault y answers further (inl front) = inl front
-    table_row WriteFault y answers further (inr (due, text, part, h, none, front, e)) =
-        inr (due, text, part, ends due text h, none, front, e)
-    table_row NoMemory y answers further h = h
-    table_row BadWords y answers further none = none
-    table_row s y answers further h = (h.0, ends s h.0 h.1, h.2, h.3)
-
-  module _ (a : S) (Represents : S → Type 0) (Stands' : T → Type 0) (then : (b : S) → Represents b →
-      Stands' (f b)) (status : Status)
-      (left left' taken taken' : Option (List ℕ)) (h : IsRun r a Represents status left left' taken taken') where
-    -- a run that follows the rules r also follows the weaker rules r'; `f` maps its states to states of r'
-    pub weaker_run_by : IsRun r' (f a) Stands' status left left' taken taken'
-    weaker_run_by = record {
-      input_read = h.input_read;
-      unread = h.unread;
-      output = h.output;
-      lines = h.lines;
-      answers = h.answers;
-      state = f h.state;
-      unwritten_lines = h.unwritten_lines;
-      unwritten_answers = h.unwritten_answers;
-      last = f h.last;
-      read = h.read;
-      written = h.written;
-      read_bound = h.read_bound;
-      first_lines = h.first_lines;
-      runs = runs_by _ _ _ _ h.runs;
-      unwritten_lines_answered = runs_by _ _ _ _ h.unwritten_lines_answered;
-      represents = then h.last h.represents;
-      answers_at_least_partly_written = h.answers_at_least_partly_written;
-      reads_little_ahead = h.reads_little_ahead;
-      ends_with_status =
-          table_row _ _ _ _ status _ _ _ h.ends_with_status;
-    }
-
-    -- as a run by the weaker rules, the run reaches the state that `f` gives for its original state
-    pub weaker_run_state : weaker_run_by.state ≡ f h.state
-    unfolding weaker_run_by
-    weaker_run_state = refl
-
--- the rules r' are weaker than r and have the same states
-abbrev pub IsWeaker : {State : Type 0} → Rules State → Rules State → Type 0
-IsWeaker {State} r r' = IsWeakerBy (λ (a : State). a) r r'
-
-pub as_weak : {State : Type 0} (r : Rules State) → IsWeaker r r
-as_weak r = record { fault = λ a line. refl; end_fault = λ a. refl; step = λ a b line answer step. step }
-
-pub weaker_run : {State : Type 0} (r r' : Rules State) → IsWeaker r r' → (a : State) (Represents Stands' : State → Type 0) →
-    ((b : State) → Represents b → Stands' b) → (status : Status) (left left' taken taken' : Option (List ℕ)) →
-    IsRun r a Represents status left left' taken taken' → IsRun r' a Stands' status left left' taken taken'
-weaker_run {State} = weaker_run_by (λ (a : State). a)
 
 -- ## Reaching: Lemmas about which answers a run has written at least in part.
 
