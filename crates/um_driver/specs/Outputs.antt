@@ -1,18 +1,12 @@
--- The output that the rules of a command prescribe for a whole input (this project's own rule).
-use Rattle.std.specs.Prelude.{ℕ, ◌≡◌, ◌<◌, ◌+◌, Bool, true, false, List, [], ◌∷◌, ◌++◌, length, take, Option, Some, None}
-use Rattle.std.specs.Prelude.{nat_eq, nat_le, nat_lt, Result, Ok, Err, if◌then◌else◌}
+-- What the rules of a command prescribe for the octets of an input, or for those read so far (this project's own rule).
+use Rattle.std.specs.Prelude.{ℕ, ◌+◌, Bool, List, [], ◌∷◌, ◌++◌, length, take, Option, Some, None, Result, Ok, Err}
+use Rattle.std.specs.Prelude.{nat_eq, nat_lt, if◌then◌else◌}
 use Rattle.um_io.specs.Reading.{input_limit, line_limit}
 use Rattle.um_lines.specs.declared.fault.LineFault.{LineFault}
 use Rattle.um_lines.specs.Refusals.{refused_text}
 use Rattle.um_driver.specs.Rules.{Rules, answer_to_line}
 use Rattle.um_driver.specs.declared.status.Status.{Status}
 use Rattle.um_driver.specs.declared.status.Status.TheVariants.{Done, BadInput, TooLong}
-
--- `input` exceeds the input limit: `counted` holds its octets up to the limit, `past` the octets beyond it
-pub record ExceedsInputLimit (input counted past : List ℕ) : Type 0 where
-  pub octets_split : input ≡ counted ++ past
-  pub count : length counted ≡ input_limit
-  pub nonempty : 0 < length past
 
 -- ---- the lines of an input
 
@@ -21,49 +15,53 @@ abbrev pub push_octet : (octet : ℕ) (lines : List (List ℕ)) (last : List ℕ
 push_octet octet [] last = ([], octet ∷ last)
 push_octet octet (line ∷ lines) last = ((octet ∷ line) ∷ lines, last)
 
--- the complete lines of an input, without their line feeds, and the octets after the last line feed
+-- the complete lines, without their line feeds, and the octets after the last line feed
 abbrev pub divided : (octets : List ℕ) → List (List ℕ) × List ℕ
 divided [] = ([], [])
 divided (octet ∷ octets) =
     if nat_eq octet 10 then ([] ∷ (divided octets).0, (divided octets).1)
     else push_octet octet (divided octets).0 (divided octets).1
 
+-- what follows the octets within the input limit: nothing, since the input has ended; octets beyond the limit; or what was not read yet
+pub data InputEnd : Type 0 where
+  Ended : InputEnd
+  Exceeded : InputEnd
+  Open : InputEnd
+
+abbrev pub input_end : (octets : List ℕ) (ended : Bool) → InputEnd
+input_end octets ended = if nat_lt input_limit (length octets) then Exceeded else if ended then Ended else Open
+
 -- the octets after the last line feed, if they are processed as a line: they end the input and are not empty, or exceed the line limit
-abbrev pub last_line : (last : List ℕ) (ended : Bool) → List (List ℕ)
-last_line [] true = []
-last_line (octet ∷ last) true = (octet ∷ last) ∷ []
-last_line last false = if nat_lt line_limit (length last) then last ∷ [] else []
+abbrev pub last_line : (last : List ℕ) (end : InputEnd) → List (List ℕ)
+last_line [] Ended = []
+last_line (octet ∷ last) Ended = (octet ∷ last) ∷ []
+last_line last end = if nat_lt line_limit (length last) then last ∷ [] else []
 
-abbrev pub is_within_limit : (input : List ℕ) → Bool
-is_within_limit x = nat_le (length x) input_limit
+abbrev pub lines_to_process : (octets : List ℕ) (end : InputEnd) → List (List ℕ)
+lines_to_process octets end = (divided octets).0 ++ last_line (divided octets).1 end
 
--- the lines that a run on `input` processes: those within the input limit
-abbrev pub processed_lines : (input : List ℕ) → List (List ℕ)
-processed_lines x =
-    (divided (take input_limit x)).0 ++ last_line (divided (take input_limit x)).1 (is_within_limit x)
+-- ---- the answers to the lines, and the status in which the run ends after them; `None`: it needs more octets
 
--- ---- the answers to the lines
+abbrev pub response_at_end : (number : ℕ) (fault : Option LineFault) (end : InputEnd) → Option Status × List ℕ
+response_at_end n None Ended = (Some Done, [])
+response_at_end n (Some fault) Ended = (Some BadInput, refused_text n fault)
+response_at_end n fault Exceeded = (Some TooLong, [])
+response_at_end n fault Open = (None, [])
 
--- the end of the input, after line number `number` - 1, if the command may refuse it
-abbrev pub output_at_end : (number : ℕ) (fault : Option LineFault) → Status × List ℕ
-output_at_end n None = (Done, [])
-output_at_end n (Some fault) = (BadInput, refused_text n fault)
+-- the answer and what follows it, or the reason why line number `number` is refused
+abbrev pub response_from_answer : {State : Type 0} (number : ℕ) (later : (State → Option Status × List ℕ))
+    (answer : Result (List ℕ × State) LineFault) → Option Status × List ℕ
+response_from_answer n later (Ok next) = ((later next.1).0, next.0 ++ (later next.1).1)
+response_from_answer n later (Err fault) = (Some BadInput, refused_text n fault)
 
--- an answer and what follows it, or the reason why line number `number` is refused
-abbrev pub output_from_answer : {State : Type 0} (number : ℕ) (later : (State → Status × List ℕ))
-    (answer : Result (List ℕ × State) LineFault) → Status × List ℕ
-output_from_answer n later (Ok next) = ((later next.1).0, next.0 ++ (later next.1).1)
-output_from_answer n later (Err fault) = (BadInput, refused_text n fault)
+-- the response to `lines`, the first of which is line number `number` and is read in `state`
+abbrev pub response_to_lines : {State : Type 0} (rules : Rules State) (state : State) (number : ℕ) (lines : List (List ℕ))
+    (end : InputEnd) → Option Status × List ℕ
+response_to_lines r a n [] end = response_at_end n (r.end_fault a) end
+response_to_lines r a n (line ∷ lines) end =
+    response_from_answer n (λ b. response_to_lines r b (n + 1) lines end) (answer_to_line r a line)
 
--- the status and the output for `lines`, the first of which is line number `number` and is read in `state`; `ended` says whether the input
--- is within the input limit
-abbrev pub output_of_lines : {State : Type 0} (rules : Rules State) (state : State) (number : ℕ) (lines : List (List ℕ)) (ended : Bool) →
-    Status × List ℕ
-output_of_lines r a n [] true = output_at_end n (r.end_fault a)
-output_of_lines r a n [] false = (TooLong, [])
-output_of_lines r a n (line ∷ lines) ended =
-    output_from_answer n (λ b. output_of_lines r b (n + 1) lines ended) (answer_to_line r a line)
-
--- the status and the output for the whole input of a command that starts in `state`
-unfoldable pub output : {State : Type 0} (rules : Rules State) (state : State) (input : List ℕ) → Status × List ℕ
-output r a x = output_of_lines r a 1 (processed_lines x) (is_within_limit x)
+-- the response of a command that starts in `state` to the octets read so far; `ended` says whether they are the whole input
+unfoldable pub response : {State : Type 0} (rules : Rules State) (state : State) (octets : List ℕ) (ended : Bool) →
+    Option Status × List ℕ
+response r a x ended = response_to_lines r a 1 (lines_to_process (take input_limit x) (input_end x ended)) (input_end x ended)

@@ -1,34 +1,33 @@
--- The prescribed output of an input: which lines a run processes, and the answers to them.
+-- The prescribed response to an input: the lines of octets, and the answers to them.
 pub use Rattle.{
   std.{
     proofs.{
-      Common.{Bool, Err, List, None, Ok, Option, Result, Some, [], append-nil, append_assoc, ap, arith, drop, false, inl, inr},
-      Common.{leb, length-append, length-drop, length, refl, subst, sym, take-append-drop, take, true, ℕ, ◌++◌, ◌+◌, ◌-◌, ◌<◌, ◌∙◌, ◌∷◌},
+      Common.{Bool, Err, List, None, Ok, Option, Result, Some, [], append-nil, append_assoc, ap, arith, false, inl, inr},
+      Common.{add-one, length-append, length, refl, subst, sym, take, true, ℕ, ◌++◌, ◌+◌, ◌-◌, ◌<◌, ◌∙◌, ◌∷◌},
       Common.{◌≡◌, ◌≤◌, ◌⊎◌},
       lemmas.{
-        Bool.{cases_lt, eq-eqb, le-leb, le-ltb, lt-leb, lt-ltb, ne_eqb},
+        Bool.{cases_Bool, cases_lt, le-ltb, lt-ltb, ne_eqb},
         List.{Elements.{All-append, All-cons, All-head, All-nil, All-push, All-tail}, length-take},
       },
-      lemmas.List.{take_all, take_at},
+      lemmas.List.{take-append-le, take_all, take_at},
+      Math.Seq.{take-append-add},
     },
     specs.List.All,
   },
   um_driver.specs.{
     Divided.BeginsWithLines,
-    Outputs.{ExceedsInputLimit, divided, is_within_limit, last_line, output, output_at_end, output_from_answer, output_of_lines},
-    Outputs.{processed_lines, push_octet},
+    Outputs.{InputEnd, Ended, Exceeded, Open, divided, input_end, last_line, lines_to_process, push_octet, response, response_at_end},
+    Outputs.{response_from_answer, response_to_lines},
     Rules.{Rules, Runs, answer_to_line, concatenated_text},
-    Table.{AllAnswersAtLeastPartlyWritten, AreFirstLines, InputJustifiesStatus, IsNextLineProcessed, IsPrefixOf, IsRun, IsWholeInputRead},
-    Table.{RunEndsWithStatus},
+    Table.{EndsWithStatus, IsPrefixOf, IsRun},
     declared.status.Status.{TheVariants.{BadInput, BadWords, Done, NoMemory, ReadFault, TooLong, WriteFault}, Status},
   },
   um_io.proofs.Lemmas.{All-front, divide, length-text-push, text-append, text-cons, text-push},
-  um_io.specs.{Lines.{IsDividedIntoLines, IsLine, IsNotLineFeed, text_of_lines}, Reading.{input_limit, line_limit}},
+  um_io.specs.{Lines.{EndsWithoutLineFeed, IsDividedIntoLines, IsLine, IsNotLineFeed, text_of_lines}, Reading.{input_limit, line_limit}},
   um_lines.specs.{Refusals.refused_text, declared.fault.LineFault.{TheVariants.Long, LineFault}},
 }
 
--- ## Judging: Which lines of an input a run processes: those that end within the limit, and the octets after them if these are too long for
--- a line or end the input. There is exactly one such list of lines, because octets can be divided into lines in only one way.
+-- ## Dividing: The lines of octets, from the way in which the octets were put together.
 
 pub begins_with : {x rest : List ℕ} {lines : List (List ℕ)} → All IsLine lines → x ≡ text_of_lines lines ++ rest →
     BeginsWithLines x lines rest
@@ -39,252 +38,101 @@ pub begins_with_more : {x rest : List ℕ} {lines : List (List ℕ)} (more : Lis
     BeginsWithLines (x ++ more) lines (rest ++ more)
 begins_with_more more b = begins_with b.no_line_feed (rw (b.octets_split, append_assoc))
 
--- the octets after the last line feed are processed as a line, or they are not
-abbrev pub LastLineIsProcessed : (last : List ℕ) (ended : Bool) → Type 0
-LastLineIsProcessed last true = 0 < length last
-LastLineIsProcessed last false = line_limit < length last
-
-abbrev pub LastLineIsNotProcessed : (last : List ℕ) (ended : Bool) → Type 0
-LastLineIsNotProcessed last true = last ≡ []
-LastLineIsNotProcessed last false = length last ≤ line_limit
-
--- `octets` are the octets of `input` that are within the input limit; `ended` says whether they are all of them
-abbrev pub AreOctetsWithinLimit : (input octets : List ℕ) (ended : Bool) → Type 0
-AreOctetsWithinLimit x octets true = (x ≡ octets) × (length x ≤ input_limit)
-AreOctetsWithinLimit x octets false = (past : List ℕ) × ExceedsInputLimit x octets past
-
--- the processed lines `judged` are `lines`, followed by `last` if the run processes `last` as a line
-abbrev pub AreJudged : (judged lines : List (List ℕ)) (last : List ℕ) (ended : Bool) → Type 0
-AreJudged judged lines last ended =
-    ((judged ≡ lines) × LastLineIsNotProcessed last ended) ⊎ ((judged ≡ lines ++ last ∷ []) × LastLineIsProcessed last ended)
-
--- a run on `input` processes the lines `judged`
-pub record AreProcessedLines (input : List ℕ) (judged : List (List ℕ)) (ended : Bool) : Type 0 where
-  pub octets : List ℕ
-  pub lines : List (List ℕ)
-  pub last : List ℕ
-  pub in_limit : AreOctetsWithinLimit input octets ended
-  pub begins : BeginsWithLines octets lines last
-  pub no_line_feed : IsLine last
-  pub last_line_processed_or_not : AreJudged judged lines last ended
-
--- the lines of an input are its complete lines and then the rest, if the rest is not empty
-division_of : {x : List ℕ} {lines : List (List ℕ)} → IsDividedIntoLines x lines →
-    (front : List (List ℕ)) × (last : List ℕ) × BeginsWithLines x front last × IsLine last × AreJudged lines front last true
-division_of {lines = lines} h = elim h.octets_split [
-  | inl x_is ↦ (
-    lines,
-    [],
-    begins_with h.no_line_feed (rw (x_is, append-nil)),
-    All-nil IsNotLineFeed,
-    inl (refl, refl),
-  )
-  | inr cut ↦
-      let (front_plain, last_plain) = All-front lines cut.front cut.last h.no_line_feed cut.lines_split in (
-        cut.front,
-        cut.last,
-        begins_with front_plain cut.octets_split,
-        last_plain,
-        inr (cut.lines_split, cut.nonempty),
-      )
-]
-
--- ---- every input has a list of processed lines
-
-processed_or_not : (lines : List (List ℕ)) (last : List ℕ) (ended : Bool) →
-    (judged : List (List ℕ)) × AreJudged (lines ++ judged) lines last ended
-processed_or_not lines [] true = ([], inl (append-nil lines, refl))
-processed_or_not lines (o ∷ last) true = ((o ∷ last) ∷ [], inr (refl, omega arith))
-processed_or_not lines last false = elim (cases_lt line_limit (length last)) [
-  | inl long ↦ (last ∷ [], inr (refl, long))
-  | inr short ↦ ([], inl (append-nil lines, short))
-]
-
--- the octets within the input limit determine the processed lines: the complete lines, and the rest if it is processed as a line
-lines_counted : {x counted : List ℕ} {ended : Bool} {lines : List (List ℕ)} {last : List ℕ} →
-    AreOctetsWithinLimit x counted ended →
-    BeginsWithLines counted lines last → IsLine last → (judged : List (List ℕ)) × AreProcessedLines x (lines ++ judged) ended
-lines_counted {ended = ended} {lines = lines} {last = last} counts b p =
-    let (judged, split) = processed_or_not lines last ended in (
-      judged,
-      record {
-        octets = _;
-        lines = _;
-        last = _;
-        in_limit = counts;
-        begins = b;
-        no_line_feed = p;
-        last_line_processed_or_not =
-            split;
-      },
-    )
-
--- if a prefix of the input does not exceed the input limit, it is a prefix of the octets within this limit
-counted_front : (x u v : List ℕ) → x ≡ u ++ v → length u ≤ input_limit →
-    (part : List ℕ) × (ended : Bool) × AreOctetsWithinLimit x (u ++ part) ended
-counted_front x u v e h = elim (cases_lt input_limit (length x)) [
-  | inl is_over ↦
-      let n = input_limit - length u in
-      let size = simp length-append at (ap length e) in (
-        take n v,
-        false,
-        (
-          drop n v,
-          record {
-            octets_split = rw (e, append_assoc, take-append-drop);
-            count = omega (arith, is_over, size, length-append u (take n v), length-take n v);
-            nonempty = omega (arith, is_over, size, length-drop n v);
-          },
-        ),
-      )
-  | inr short ↦ (v, true, (e, short))
-]
-
--- if the input begins with lines that end within the input limit, the run processes these lines first
-lines_after : {x : List ℕ} {lines : List (List ℕ)} (more : List ℕ) → BeginsWithLines x lines more →
-    length (text_of_lines lines) ≤ input_limit →
-    (judged : List (List ℕ)) × (ended : Bool) × AreProcessedLines x (lines ++ judged) ended
-lines_after {x} {lines} more b h =
-    let (part, ended, counts) = counted_front x (text_of_lines lines) more b.octets_split h in
-    let (ls, last, plain, p, part_is) = divide part in
-    let (judged, j) = lines_counted counts (begins_with (All-append IsLine lines ls b.no_line_feed plain)
-    (cc (part_is, text-append lines ls last))) p in
-    (ls ++ judged, ended, rw append_assoc at j)
-
--- after `lines`, the next line processed is `line` or, if `line` is too long, a line that is also too long
-abbrev IsJudgedNext : (x : List ℕ) (lines : List (List ℕ)) (line : List ℕ) → Type 0
-IsJudgedNext x lines line = (next : List ℕ) × (judged : List (List ℕ)) × (ended : Bool)
-    × AreProcessedLines x (lines ++ next ∷ judged) ended
-    × ((next ≡ line) ⊎ ((line_limit < length line) × (line_limit < length next)))
-
--- if a line that is too long follows these lines within the limit, the next line processed is this line or one that is also too long
-lines_long : {x : List ℕ} {lines : List (List ℕ)} (line more : List ℕ) → BeginsWithLines x lines (line ++ more) → IsLine line →
-    length (text_of_lines lines ++ line) ≤ input_limit → line_limit < length line → IsJudgedNext x lines line
-lines_long {x} {lines} line more b p h long =
-    let (part, ended, counts) = counted_front x (text_of_lines lines ++ line) more (rw append_assoc b.octets_split) h in
-    let (ls, last, plain, q, part_is) = divide part in
-    next part ended counts ls last plain q part_is
-  where
-    next : (part : List ℕ) (ended : Bool) → AreOctetsWithinLimit x ((text_of_lines lines ++ line) ++ part) ended →
-        (ls : List (List ℕ)) (last : List ℕ) → All IsLine ls → IsLine last → part ≡ text_of_lines ls ++ last →
-        IsJudgedNext x lines line
-    next part ended counts [] last plain q e = (
-      line ++ last,
-      [],
-      ended,
-      record {
-        octets = _;
-        lines = lines;
-        last = _;
-        in_limit = counts;
-        begins = begins_with b.no_line_feed (rw (e, append_assoc));
-        no_line_feed = All-append IsNotLineFeed line last p q;
-        last_line_processed_or_not = inr (refl, grind (arith, length-append line last));
-      },
-      inr (long, omega (arith, length-append line last)),
-    )
-    next part ended counts (l ∷ ls) last plain q e =
-        let (judged, j) = lines_counted counts (begins_with (All-append IsLine lines ((line ++ l) ∷ ls) b.no_line_feed
-        (All-cons IsLine (line ++ l) ls (All-append IsNotLineFeed line l p (All-head IsLine l ls plain))
-        (All-tail IsLine l ls plain)))
-        (rw (e, text-append, text-cons, text-cons, append_assoc, append_assoc))) q in
-        (line ++ l, ls ++ judged, ended, rw append_assoc at j, inr (long, omega (arith, length-append line l)))
-
--- if an input is within the limit, all its lines are processed
-lines_whole : {x : List ℕ} {lines : List (List ℕ)} → IsDividedIntoLines x lines → length x ≤ input_limit →
-    AreProcessedLines x lines true
-lines_whole d h =
-    let (_, _, begins, p, split) = division_of d in
-    record { octets = _; lines = _; last = _; in_limit = (refl, h); begins = begins; no_line_feed = p; last_line_processed_or_not = split }
-
--- if a run has read the whole input, it processes all lines of the input
-lines_read : {q rest : List ℕ} {lines : List (List ℕ)} → IsWholeInputRead q rest lines →
-    AreProcessedLines (q ++ rest) (lines ++ []) true
-lines_read w = rw (w.nothing_left, append-nil, append-nil) (lines_whole w.divided w.limit)
-
--- lines that satisfy `AreFirstLines` are the first lines that the run processes
-pub lines_first : {q rest : List ℕ} {lines : List (List ℕ)} → AreFirstLines q rest lines →
-    (judged : List (List ℕ)) × (ended : Bool) × AreProcessedLines (q ++ rest) (lines ++ judged) ended
-lines_first {rest = rest} (inl (more, b, h)) = lines_after (more ++ rest) (begins_with_more rest b) h
-lines_first (inr whole) = ([], true, lines_read whole)
-
--- the next line processed is the line that was read or, if that is too long, a line that is also too long
-lines_next : {q rest : List ℕ} {lines : List (List ℕ)} {line : List ℕ} → IsNextLineProcessed q rest lines line →
-    IsJudgedNext (q ++ rest) lines line
-lines_next {q} {rest} {lines} {line} n = elim n.is_complete [
-  | inl (after, feed, under) ↦
-      let (judged, ended, j) = lines_after {x = q ++ rest} (after ++ rest)
-      (begins_with (All-push IsLine lines line n.begins.no_line_feed n.no_line_feed)
-      (rw (n.begins.octets_split, feed, append_assoc, append_assoc, text-push))) (omega (arith, length-text-push lines line)) in
-      (line, judged, ended, rw append_assoc at j, inl refl)
-  | inr (inl long) ↦
-      lines_long line (n.octets_after_line ++ rest) (rw append_assoc at (begins_with_more rest n.begins)) n.no_line_feed n.limit long
-  | inr (inr (some, none, no_rest)) ↦
-      let b = rw (none, append-nil) at n.begins in (
-        line,
-        [],
-        true,
-        rw (no_rest, append-nil) (record {
-          octets = q;
-          lines = lines;
-          last = line;
-          in_limit = (refl, omega (arith, n.limit, ap length b.octets_split));
-          begins = b;
-          no_line_feed = n.no_line_feed;
-          last_line_processed_or_not = inr (refl, some);
-        }),
-        inl refl,
-      )
-]
-
--- ---- `processed_lines` gives these lines
-
-divided-last : (last : List ℕ) → IsLine last → divided last ≡ ([], last)
-divided-last [] plain = refl
-divided-last (octet ∷ last) plain =
-    rw (ne_eqb octet 10 (All-head IsNotLineFeed octet last plain), divided-last last (All-tail IsNotLineFeed octet last plain)) refl
+divided-plain : (last : List ℕ) → IsLine last → divided last ≡ ([], last)
+divided-plain [] plain = refl
+divided-plain (octet ∷ last) plain =
+    rw (ne_eqb octet 10 (All-head IsNotLineFeed octet last plain), divided-plain last (All-tail IsNotLineFeed octet last plain)) refl
 
 divided-line : (line rest : List ℕ) → IsLine line → divided (line ++ 10 ∷ rest) ≡ (line ∷ (divided rest).0, (divided rest).1)
 divided-line [] rest plain = refl
 divided-line (octet ∷ line) rest plain =
     rw (ne_eqb octet 10 (All-head IsNotLineFeed octet line plain), divided-line line rest (All-tail IsNotLineFeed octet line plain)) refl
 
-divided-lines : (lines : List (List ℕ)) (last : List ℕ) → All IsLine lines → IsLine last →
-    divided (text_of_lines lines ++ last) ≡ (lines, last)
-divided-lines [] last plain p = divided-last last p
-divided-lines (line ∷ lines) last plain p =
+divided-lines : (lines : List (List ℕ)) (rest : List ℕ) → All IsLine lines →
+    divided (text_of_lines lines ++ rest) ≡ (lines ++ (divided rest).0, (divided rest).1)
+divided-lines [] rest plain = refl
+divided-lines (line ∷ lines) rest plain =
     rw (
-      text-cons line lines last,
-      divided-line line (text_of_lines lines ++ last) (All-head IsLine line lines plain),
-      divided-lines lines last (All-tail IsLine line lines plain) p,
+      text-cons line lines rest,
+      divided-line line (text_of_lines lines ++ rest) (All-head IsLine line lines plain),
+      divided-lines lines rest (All-tail IsLine line lines plain),
     ) refl
 
-judged_is : (judged lines : List (List ℕ)) (last : List ℕ) (ended : Bool) → AreJudged judged lines last ended →
-    judged ≡ lines ++ last_line last ended
-judged_is judged lines [] true (inl (e, none)) = rw append-nil e
-judged_is judged lines (o ∷ last) true (inl (e, none)) = absurd (cc none)
-judged_is judged lines [] true (inr (e, some)) = absurd (omega arith)
-judged_is judged lines (o ∷ last) true (inr (e, some)) = e
-judged_is judged lines last false (inl (e, short)) = rw (le-ltb line_limit (length last) short, append-nil) e
-judged_is judged lines last false (inr (e, long)) = rw (lt-ltb line_limit (length last) long) e
+lines_to_process-after : (lines : List (List ℕ)) (rest : List ℕ) (end : InputEnd) → All IsLine lines →
+    lines_to_process (text_of_lines lines ++ rest) end ≡ lines ++ lines_to_process rest end
+lines_to_process-after lines rest end plain = rw (divided-lines lines rest plain, append_assoc) refl
 
--- the octets within the limit are the first `input_limit` octets of the input
-counted_is : (x octets : List ℕ) (ended : Bool) → AreOctetsWithinLimit x octets ended →
-    (octets ≡ take input_limit x) × (ended ≡ leb (length x) input_limit)
-counted_is x octets true (e, h) = (sym e ∙ sym (take_all input_limit x h), sym (le-leb (length x) input_limit h))
-counted_is x octets false (past, h) = (
-  sym (take_at octets past input_limit h.count) ∙ ap (take input_limit) (sym h.octets_split),
-  sym (lt-leb (length x) input_limit (omega (arith, ap length h.octets_split, length-append octets past))),
-)
+lines_to_process-last : (last : List ℕ) (end : InputEnd) → IsLine last → lines_to_process last end ≡ last_line last end
+lines_to_process-last last end plain = rw (divided-plain last plain) refl
 
--- a run processes only these lines
-pub processed_is : {x : List ℕ} {judged : List (List ℕ)} {ended : Bool} → AreProcessedLines x judged ended →
-    (is_within_limit x ≡ ended) × (processed_lines x ≡ judged)
-processed_is {x} {judged} {ended} j =
-    let (first, over) = counted_is _ _ _ j.in_limit in
-    let d = divided-lines j.lines j.last j.begins.no_line_feed j.no_line_feed in
-    let e : divided (take input_limit x) ≡ (j.lines, j.last) = ap divided (sym first ∙ j.begins.octets_split) ∙ d in
-    (sym over, rw (e, ← over) (sym (judged_is _ _ _ _ j.last_line_processed_or_not)))
+long_last : (last : List ℕ) (end : InputEnd) → line_limit < length last → last_line last end ≡ last ∷ []
+long_last [] end long = absurd (omega arith)
+long_last (o ∷ last) Ended long = refl
+long_last (o ∷ last) Exceeded long = rw (lt-ltb line_limit (length (o ∷ last)) long) refl
+long_last (o ∷ last) Open long = rw (lt-ltb line_limit (length (o ∷ last)) long) refl
+
+short_last : (last : List ℕ) → length last ≤ line_limit → last_line last Open ≡ []
+short_last [] short = refl
+short_last (o ∷ last) short = rw (le-ltb line_limit (length (o ∷ last)) short) refl
+
+short_last_exceeded : (last : List ℕ) → length last ≤ line_limit → last_line last Exceeded ≡ []
+short_last_exceeded [] short = refl
+short_last_exceeded (o ∷ last) short = rw (le-ltb line_limit (length (o ∷ last)) short) refl
+
+some_last : (last : List ℕ) → 0 < length last → last_line last Ended ≡ last ∷ []
+some_last [] some = absurd (omega arith)
+some_last (o ∷ last) some = refl
+
+open_end : (x : List ℕ) → length x ≤ input_limit → input_end x false ≡ Open
+open_end x short = rw (le-ltb input_limit (length x) short) refl
+
+-- if a line that is too long comes first, so does it when more octets follow
+long_first : (line more : List ℕ) (end : InputEnd) → IsLine line → line_limit < length line →
+    (next : List ℕ) × (later : List (List ℕ)) × (line_limit < length next) × (lines_to_process (line ++ more) end ≡ next ∷ later)
+long_first line more end plain long =
+    let (ls, last, all, p, e) = divide more in go ls last all p e
+  where
+    go : (ls : List (List ℕ)) (last : List ℕ) → All IsLine ls → IsLine last → more ≡ text_of_lines ls ++ last →
+        (next : List ℕ) × (later : List (List ℕ)) × (line_limit < length next) × (lines_to_process (line ++ more) end ≡ next ∷ later)
+    go [] last all p e =
+        let far : line_limit < length (line ++ last) = omega (arith, length-append line last) in (
+          line ++ last,
+          [],
+          far,
+          ap (λ o. lines_to_process (line ++ o) end) e
+              ∙ lines_to_process-last (line ++ last) end (All-append IsNotLineFeed line last plain p) ∙ long_last (line ++ last) end far,
+        )
+    go (l ∷ ls) last all p e =
+        let whole : IsLine (line ++ l) = All-append IsNotLineFeed line l plain (All-head IsLine l ls all) in
+        let split : line ++ more ≡ (line ++ l) ++ 10 ∷ (text_of_lines ls ++ last) = rw (e, text-cons, append_assoc) refl in (
+          line ++ l,
+          lines_to_process (text_of_lines ls ++ last) end,
+          omega (arith, length-append line l),
+          ap (λ o. lines_to_process o end) split ∙ rw (divided-line (line ++ l) (text_of_lines ls ++ last) whole) refl,
+        )
+
+-- ---- a response that is only continued when more octets come
+
+-- the response `later` continues the response `now`
+abbrev pub Continues : (now later : Option Status × List ℕ) → Type 0
+Continues (None, text) later = IsPrefixOf text later.1
+Continues (Some status, text) later = later ≡ (Some status, text)
+
+Continues-answer : (text : List ℕ) (now later : Option Status × List ℕ) → Continues now later →
+    Continues (now.0, text ++ now.1) (later.0, text ++ later.1)
+Continues-answer text (None, y) later (more, e) = (more, rw (e, append_assoc) refl)
+Continues-answer text (Some s, y) later e = rw e refl
+
+pub Continues-refl : (now : Option Status × List ℕ) → Continues now now
+Continues-refl (None, text) = ([], sym (append-nil text))
+Continues-refl (Some status, text) = refl
+
+pub Continues-prefix : (now later : Option Status × List ℕ) → Continues now later → IsPrefixOf now.1 later.1
+Continues-prefix (None, text) later front = front
+Continues-prefix (Some status, text) later e = ([], rw append-nil (ap (λ (z : Option Status × List ℕ). z.1) e))
+
+over_end : (x : List ℕ) (ended : Bool) → input_limit < length x → input_end x ended ≡ Exceeded
+over_end x ended over = rw (lt-ltb input_limit (length x) over) refl
 
 -- ## RunLemmas: Lemmas about joining and splitting runs over lines that are not refused.
 
@@ -302,21 +150,6 @@ module _ {State : Type 0} (r : Rules State) where
       (mid, step, Runs-append mid b c ls ls' ys ys' runs then)
   Runs-append a b c _ ls' _ ys' none then = absurd none
 
-  -- a run gives as many answers as it reads lines
-  pub Runs-length : (a b : State) (ls ys : List (List ℕ)) → Runs r a ls ys b → length ls ≡ length ys
-  Runs-length a b [] [] runs = refl
-  Runs-length a b (line ∷ ls) (y ∷ ys) (mid, _, runs) = cc (Runs-length mid b ls ys runs)
-  Runs-length a b _ _ none = absurd none
-
-  -- a run can be split in two after any number of its answers
-  pub Runs-split : (a c : State) (ls ys ys' : List (List ℕ)) → Runs r a ls (ys ++ ys') c →
-      (front back : List (List ℕ)) × (mid : State) × Runs r a front ys mid × Runs r mid back ys' c × (ls ≡ front ++ back)
-  Runs-split a c ls [] ys' runs = ([], ls, a, refl, runs, refl)
-  Runs-split a c [] (y ∷ ys) ys' none = absurd none
-  Runs-split a c (line ∷ ls) (y ∷ ys) ys' (next, step, runs) =
-      let (front, back, mid, first, second, e) = Runs-split next c ls ys ys' runs in
-      (line ∷ front, back, mid, (next, step, first), second, cc e)
-
   -- if each step preserves a property of the state, so does the whole run
   pub Runs-keep : (P : State → Type 0) → ((a b : State) (line answer : List ℕ) → P a → answer_to_line r a line ≡ Ok (answer, b) → P b) →
       (a b : State) (ls ys : List (List ℕ)) → P a → Runs r a ls ys b → P b
@@ -324,73 +157,206 @@ module _ {State : Type 0} (r : Rules State) where
   Runs-keep P keeps a b (line ∷ ls) (y ∷ ys) h (mid, step, runs) = Runs-keep P keeps mid b ls ys (keeps a mid line y h step) runs
   Runs-keep P keeps a b _ _ h none = absurd none
 
-  -- ## OutputByLines: The prescribed output for processed lines, built up line by line.
+  -- ## Responding: The response to octets, from the answers to lines that are not refused and what comes after them.
 
-  -- the answers to lines that are not refused come first in the output of these and further lines
-  output_of_lines-after : (a b : State) (n m : ℕ) (ls ys judged : List (List ℕ)) (ended : Bool) → m ≡ length ls + n → Runs r a ls ys b →
-      output_of_lines r a n (ls ++ judged) ended
-      ≡ ((output_of_lines r b m judged ended).0, concatenated_text ys ++ (output_of_lines r b m judged ended).1)
-  output_of_lines-after a b n m [] [] judged ended e same = let here : m ≡ n = omega arith in rw (same, here) refl
-  output_of_lines-after a b n m (line ∷ ls) (y ∷ ys) judged ended e (mid, step, runs) =
-      rw (step, output_of_lines-after mid b (n + 1) m ls ys judged ended (omega arith) runs, append_assoc) refl
-  output_of_lines-after a b n m _ _ judged ended e none = absurd none
+  -- the answers to lines that are not refused come first in the response to these and further lines
+  response_to_lines-after : (a b : State) (n m : ℕ) (ls ys later : List (List ℕ)) (end : InputEnd) → m ≡ length ls + n →
+      Runs r a ls ys b → response_to_lines r a n (ls ++ later) end
+      ≡ ((response_to_lines r b m later end).0, concatenated_text ys ++ (response_to_lines r b m later end).1)
+  response_to_lines-after a b n m [] [] later end e same = let here : m ≡ n = omega arith in rw (same, here) refl
+  response_to_lines-after a b n m (line ∷ ls) (y ∷ ys) later end e (mid, step, runs) =
+      rw (step, response_to_lines-after mid b (n + 1) m ls ys later end (omega arith) runs, append_assoc) refl
+  response_to_lines-after a b n m _ _ later end e none = absurd none
 
-  -- ## OutputLemmas: The output for an input, from the lines that are not refused and the way in which the input ends.
+  module _ (a b : State) (lines answers : List (List ℕ)) (runs : Runs r a lines answers b) (plain : All IsLine lines) where
+    abbrev next_number : ℕ
+    next_number = length lines + 1
 
-  -- if one line that is too long is refused, every other line that is too long is refused
-  refused_next : (b : State) (line next : List ℕ) (fault : LineFault) →
-      (next ≡ line) ⊎ ((line_limit < length line) × (line_limit < length next)) → answer_to_line r b line ≡ Err fault →
-      answer_to_line r b next ≡ Err fault
-  refused_next b line next fault (inl same) bad = rw same bad
-  refused_next b line next fault (inr (long, long')) bad =
-      rw (lt-ltb line_limit (length next) long') (rw (lt-ltb line_limit (length line) long) at bad)
-
-  module _ (a b : State) (lines answers : List (List ℕ)) (runs : Runs r a lines answers b) where
-    -- the answers to lines that are not refused, followed by the output for the rest, are the output for the input
-    output_of : {x : List ℕ} (judged : List (List ℕ)) (ended : Bool) → AreProcessedLines x (lines ++ judged) ended →
-        output r a x ≡ (
-          (output_of_lines r b (length lines + 1) judged ended).0,
-          concatenated_text answers ++ (output_of_lines r b (length lines + 1) judged ended).1,
+    -- the response to octets whose first lines are these
+    respond_to : (x : List ℕ) (ended : Bool) (end : InputEnd) (later : List (List ℕ)) → input_end x ended ≡ end →
+        lines_to_process (take input_limit x) end ≡ lines ++ later →
+        response r a x ended ≡ (
+          (response_to_lines r b next_number later end).0,
+          concatenated_text answers ++ (response_to_lines r b next_number later end).1,
         )
-    unfolding output
-    output_of judged ended j =
-        let (within, all) = processed_is j in
-        rw (all, within) (output_of_lines-after _ _ 1 (length lines + 1) _ _ judged ended refl runs)
+    unfolding response
+    respond_to x ended end later end_is is =
+        subst (λ e. response_to_lines r a 1 (lines_to_process (take input_limit x) e) e
+        ≡ ((response_to_lines r b next_number later end).0, concatenated_text answers ++ (response_to_lines r b next_number later end).1))
+        (sym end_is)
+        (ap (λ l. response_to_lines r a 1 l end) is
+        ∙ response_to_lines-after a b 1 next_number lines answers later end refl runs)
 
-    -- the output begins with the answers to the first lines of the input
-    pub begins_with_answers : {q rest : List ℕ} → AreFirstLines q rest lines →
-        IsPrefixOf (concatenated_text answers) (output r a (q ++ rest)).1
-    begins_with_answers first =
-        let (judged, ended, j) = lines_first first in
-        (_, ap (λ (z : Status × List ℕ). z.1) (output_of judged ended j))
+    -- the octets within the limit that come after these lines
+    within_limit : (x more : List ℕ) → x ≡ text_of_lines lines ++ more → length (text_of_lines lines) ≤ input_limit →
+        take input_limit x ≡ text_of_lines lines ++ take (input_limit - length (text_of_lines lines)) more
+    within_limit x more split within =
+        let n = length (text_of_lines lines) in
+        let whole : n + (input_limit - n) ≡ input_limit = omega arith in
+        ap (take input_limit) split ∙ ap (λ k. take k (text_of_lines lines ++ more)) (sym whole)
+        ∙ take-append-add (text_of_lines lines) more (input_limit - n)
 
-    -- if `InputJustifiesStatus` holds for a status and a text, the answers and this text are the output for the input
-    pub ends_output : (q rest : List ℕ) (s : Status) (text : List ℕ) → (s ≡ ReadFault → ⊥) →
-        InputJustifiesStatus r s q rest lines b text → output r a (q ++ rest) ≡ (s, concatenated_text answers ++ text)
-    ends_output q rest Done text _ (whole, good, none) = output_of [] true (lines_read whole) ∙ rw (good, none) refl
-    ends_output q rest BadInput text _ (fault, inl (line, n, bad), text_is) =
-        let (next, judged, ended, j, same) = lines_next n in
-        output_of (next ∷ judged) ended j ∙ rw (refused_next _ _ _ _ same bad, text_is) refl
-    ends_output q rest BadInput text _ (fault, inr (whole, reason), text_is) =
-        output_of [] true (lines_read whole) ∙ rw (reason, text_is) refl
-    ends_output q rest TooLong text _ ((counted, past, line, is_over, part), none) = output_of [] false (record {
-      octets = counted;
-      lines = lines;
-      last = line;
-      in_limit = (
-        past ++ rest,
-        record {
-          octets_split = rw (is_over.octets_split, append_assoc);
-          count = is_over.count;
-          nonempty = omega (arith, is_over.nonempty, length-append past rest);
-        },
-      );
-      begins = part.begins;
-      no_line_feed = part.no_line_feed;
-      last_line_processed_or_not = inl (append-nil lines, part.in_limit);
-    }) ∙ rw none refl
-    ends_output q rest ReadFault text unlike _ = absurd (unlike refl)
-    ends_output q rest s text _ none = absurd none
+    respond_after : (x more : List ℕ) (ended : Bool) (end : InputEnd) (front : List ℕ) (later : List (List ℕ)) →
+        x ≡ text_of_lines lines ++ more → length (text_of_lines lines) ≤ input_limit → input_end x ended ≡ end →
+        take (input_limit - length (text_of_lines lines)) more ≡ front → lines_to_process front end ≡ later →
+        response r a x ended ≡ (
+          (response_to_lines r b next_number later end).0,
+          concatenated_text answers ++ (response_to_lines r b next_number later end).1,
+        )
+    respond_after x more ended end front later split within end_is front_is is = respond_to x ended end later end_is
+        (ap (λ o. lines_to_process o end) (within_limit x more split within ∙ ap (λ o. text_of_lines lines ++ o) front_is)
+        ∙ lines_to_process-after lines front end plain ∙ ap (λ l. lines ++ l) is)
+
+    -- ---- the next line is refused
+
+    pub respond_line : (x line after : List ℕ) (ended : Bool) (fault : LineFault) → x ≡ text_of_lines lines ++ (line ++ 10 ∷ after) →
+        IsLine line → length (text_of_lines lines ++ line) < input_limit → answer_to_line r b line ≡ Err fault →
+        response r a x ended ≡ (Some BadInput, concatenated_text answers ++ refused_text next_number fault)
+    respond_line x line after ended fault split p below bad =
+        let n = length (text_of_lines lines) in
+        let both : length (text_of_lines lines ++ line) ≡ n + length line = length-append (text_of_lines lines) line in
+        let j = input_limit - n - length line - 1 in
+        let many : input_limit - n ≡ length line + (j + 1) = omega arith in
+        let front : take (input_limit - n) (line ++ 10 ∷ after) ≡ line ++ take (j + 1) (10 ∷ after) =
+        ap (λ k. take k (line ++ 10 ∷ after)) many ∙ take-append-add line (10 ∷ after) (j + 1) in
+        respond_after x (line ++ 10 ∷ after) ended (input_end x ended) (line ++ take (j + 1) (10 ∷ after))
+        (line ∷ lines_to_process (take j after) (input_end x ended)) split (omega arith) refl front
+        (rw (add-one j, divided-line line (take j after) p) refl) ∙ rw bad refl
+
+    pub respond_long : (x line after : List ℕ) (ended : Bool) → x ≡ text_of_lines lines ++ (line ++ after) →
+        IsLine line → length (text_of_lines lines ++ line) ≤ input_limit → line_limit < length line →
+        response r a x ended ≡ (Some BadInput, concatenated_text answers ++ refused_text next_number Long)
+    respond_long x line after ended split p below long =
+        let n = length (text_of_lines lines) in
+        let both : length (text_of_lines lines ++ line) ≡ n + length line = length-append (text_of_lines lines) line in
+        let j = input_limit - n - length line in
+        let many : input_limit - n ≡ length line + j = omega arith in
+        let front : take (input_limit - n) (line ++ after) ≡ line ++ take j after =
+        ap (λ k. take k (line ++ after)) many ∙ take-append-add line after j in
+        let (next, later, far, is) = long_first line (take j after) (input_end x ended) p long in
+        respond_after x (line ++ after) ended (input_end x ended) (line ++ take j after) (next ∷ later) split (omega arith) refl front is
+        ∙ rw (lt-ltb line_limit (length next) far) refl
+
+    -- ---- the octets after these lines have no line feed
+
+    respond_rest : (x last : List ℕ) (ended : Bool) (end : InputEnd) → x ≡ text_of_lines lines ++ last → IsLine last →
+        length x ≤ input_limit → input_end x ended ≡ end →
+        response r a x ended ≡ (
+          (response_to_lines r b next_number (last_line last end) end).0,
+          concatenated_text answers ++ (response_to_lines r b next_number (last_line last end) end).1,
+        )
+    respond_rest x last ended end split p within end_is =
+        let size : length x ≡ length (text_of_lines lines) + length last = ap length split ∙ length-append (text_of_lines lines) last in
+        respond_after x last ended end last (last_line last end) split (omega arith) end_is
+        (take_all (input_limit - length (text_of_lines lines)) last (omega arith)) (lines_to_process-last last end p)
+
+    pub respond_last : (x line : List ℕ) (fault : LineFault) → x ≡ text_of_lines lines ++ line → IsLine line → 0 < length line →
+        length x ≤ input_limit → answer_to_line r b line ≡ Err fault →
+        response r a x true ≡ (Some BadInput, concatenated_text answers ++ refused_text next_number fault)
+    respond_last x [] fault split p some within bad = absurd (omega arith)
+    respond_last x (o ∷ line) fault split p some within bad =
+        respond_rest x (o ∷ line) true Ended split p within (rw (le-ltb input_limit (length x) within) refl) ∙ rw bad refl
+
+    pub respond_open : (x held : List ℕ) → x ≡ text_of_lines lines ++ held → IsLine held → length held ≤ line_limit →
+        length x ≤ input_limit → response r a x false ≡ (None, concatenated_text answers)
+    respond_open x held split p short within =
+        respond_rest x held false Open split p within (rw (le-ltb input_limit (length x) within) refl)
+        ∙ rw (short_last held short, append-nil) refl
+
+    pub respond_over : (x held excess : List ℕ) (ended : Bool) → x ≡ text_of_lines lines ++ (held ++ excess) → IsLine held →
+        length held ≤ line_limit → length (text_of_lines lines ++ held) ≡ input_limit → 0 < length excess →
+        response r a x ended ≡ (Some TooLong, concatenated_text answers)
+    respond_over x held excess ended split p short full some =
+        let n = length (text_of_lines lines) in
+        let both : length (text_of_lines lines ++ held) ≡ n + length held = length-append (text_of_lines lines) held in
+        let size : length x ≡ n + length (held ++ excess) = ap length split ∙ length-append (text_of_lines lines) (held ++ excess) in
+        let over : input_limit < length x = omega (arith, length-append held excess) in
+        respond_after x (held ++ excess) ended Exceeded held [] split (omega arith) (rw (lt-ltb input_limit (length x) over) refl)
+        (take_at held excess (input_limit - n) (omega arith))
+        (lines_to_process-last held Exceeded p ∙ short_last_exceeded held short) ∙ rw append-nil refl
+
+    -- ---- these lines are the whole input
+
+    pub respond_end : (x : List ℕ) → IsDividedIntoLines x lines → length x ≤ input_limit →
+        response r a x true ≡ (
+          (response_at_end next_number (r.end_fault b) Ended).0,
+          concatenated_text answers ++ (response_at_end next_number (r.end_fault b) Ended).1,
+        )
+    respond_end x all within = respond_to x true Ended [] (rw (le-ltb input_limit (length x) within) refl)
+        (ap (λ o. lines_to_process o Ended) (take_all input_limit x within) ∙ elim all.octets_split [
+          | inl whole ↦ ap (λ o. lines_to_process o Ended) (whole ∙ sym (append-nil (text_of_lines lines)))
+              ∙ lines_to_process-after lines [] Ended plain
+          | inr cut ↦
+              let (front_plain, last_plain) = All-front lines cut.front cut.last plain cut.lines_split in
+              ap (λ o. lines_to_process o Ended) cut.octets_split ∙ lines_to_process-after cut.front cut.last Ended front_plain
+              ∙ ap (λ l. cut.front ++ l) (lines_to_process-last cut.last Ended last_plain ∙ some_last cut.last cut.nonempty)
+              ∙ sym cut.lines_split ∙ sym (append-nil lines)
+        ])
+
+    -- the response begins with the answers to the first lines
+    pub begins_with_answers : (x more : List ℕ) (ended : Bool) → x ≡ text_of_lines lines ++ more →
+        length (text_of_lines lines) ≤ input_limit → IsPrefixOf (concatenated_text answers) (response r a x ended).1
+    begins_with_answers x more ended split within =
+        (_, ap (λ (z : Option Status × List ℕ). z.1) (respond_after x more ended (input_end x ended) _ _ split within refl refl refl))
+
+    pub begins_with_all_answers : (x : List ℕ) → IsDividedIntoLines x lines → length x ≤ input_limit →
+        IsPrefixOf (concatenated_text answers) (response r a x true).1
+    begins_with_all_answers x all within = (_, ap (λ (z : Option Status × List ℕ). z.1) (respond_end x all within))
+
+  -- ## Extending: The response to octets does not change when more octets come; it is only continued.
+
+  continued : (a : State) (n : ℕ) (lines : List (List ℕ)) (last more : List ℕ) (end : InputEnd) → IsLine last →
+      Continues (response_to_lines r a n (lines ++ last_line last Open) Open)
+      (response_to_lines r a n (lines ++ lines_to_process (last ++ more) end) end)
+  continued a n [] last more end plain = elim (cases_lt line_limit (length last)) [
+    | inl long ↦
+        let (next, later, far, is) = long_first last more end plain long in
+        rw (long_last last Open long, is, lt-ltb line_limit (length last) long, lt-ltb line_limit (length next) far) refl
+    | inr short ↦ rw (short_last last short) (_, refl)
+  ]
+  continued a n (line ∷ lines) last more end plain =
+      go (λ b. continued b (n + 1) lines last more end plain) (answer_to_line r a line)
+    where
+      go : ((b : State) → Continues (response_to_lines r b (n + 1) (lines ++ last_line last Open) Open)
+          (response_to_lines r b (n + 1) (lines ++ lines_to_process (last ++ more) end) end)) → (answer : Result (List ℕ × State) LineFault) →
+          Continues (response_from_answer n (λ b. response_to_lines r b (n + 1) (lines ++ last_line last Open) Open) answer)
+          (response_from_answer n (λ b. response_to_lines r b (n + 1) (lines ++ lines_to_process (last ++ more) end) end) answer)
+      go later (Ok next) = Continues-answer next.0 _ _ (later next.1)
+      go later (Err fault) = refl
+
+  same_when_over : (a : State) (o o' : List ℕ) (e e' : InputEnd) → o' ≡ o → e ≡ Exceeded → e' ≡ Exceeded →
+      Continues (response_to_lines r a 1 (lines_to_process o e) e) (response_to_lines r a 1 (lines_to_process o' e') e')
+  same_when_over a o o' e e' same is is' =
+      rw (same, is, is') (Continues-refl (response_to_lines r a 1 (lines_to_process o Exceeded) Exceeded))
+
+  pub response-continues : (a : State) (x more : List ℕ) (ended : Bool) →
+      Continues (response r a x false) (response r a (x ++ more) ended)
+  unfolding response
+  response-continues a x more ended = elim (cases_lt input_limit (length x)) [
+    | inl over ↦
+        let over' : input_limit < length (x ++ more) = omega (arith, length-append x more) in
+        same_when_over a (take input_limit x) (take input_limit (x ++ more)) _ _ (take-append-le input_limit x more (omega arith))
+        (over_end x false over) (over_end (x ++ more) ended over')
+    | inr short ↦
+        let (ls, last, all, p, x_is) = divide x in
+        let j = input_limit - length x in
+        let many : input_limit ≡ length x + j = omega arith in
+        let more_is : take input_limit (x ++ more) ≡ x ++ take j more =
+        ap (λ k. take k (x ++ more)) many ∙ take-append-add x more j in
+        let end = input_end (x ++ more) ended in
+        let now : lines_to_process (take input_limit x) Open ≡ ls ++ last_line last Open =
+        ap (λ o. lines_to_process o Open) (take_all input_limit x short ∙ x_is)
+        ∙ lines_to_process-after ls last Open all ∙ ap (λ l. ls ++ l) (lines_to_process-last last Open p) in
+        let later : lines_to_process (take input_limit (x ++ more)) end ≡ ls ++ lines_to_process (last ++ take j more) end =
+        ap (λ o. lines_to_process o end) (more_is ∙ ap (λ o. o ++ take j more) x_is ∙ append_assoc (text_of_lines ls) last (take j more))
+        ∙ lines_to_process-after ls (last ++ take j more) end all in
+        subst (λ e. Continues (response_to_lines r a 1 (lines_to_process (take input_limit x) e) e)
+        (response_to_lines r a 1 (lines_to_process (take input_limit (x ++ more)) end) end))
+        (sym (open_end x short))
+        (subst (λ l. Continues (response_to_lines r a 1 (lines_to_process (take input_limit x) Open) Open) (response_to_lines r a 1 l end))
+        (sym later) (subst (λ l. Continues (response_to_lines r a 1 l Open) (response_to_lines r a 1 (ls ++ lines_to_process
+        (last ++ take j more) end) end)) (sym now) (continued a 1 ls last (take j more) end p)))
+  ]
 
 -- ## Projecting: Rules whose states are those of other rules with something added give the same answers.
 
@@ -415,61 +381,3 @@ module _ {S T : Type 0} (f : S → T) (r : Rules S) (r' : Rules T) (w : IsProjec
   runs_by a b [] [] h = ap f h
   runs_by a b (line ∷ lines) (y ∷ ys) (mid, step, h) = (f mid, answer_by a line _ step, runs_by mid b lines ys h)
   runs_by a b _ _ none = absurd none
-
--- ## Reaching: Lemmas about which answers a run has written at least in part.
-
--- a prefix of two joined lists is a prefix of the first, or the first followed by a prefix of the second
-pub prefix_of_joined : (u more c p : List ℕ) → u ++ more ≡ c ++ p →
-    IsPrefixOf u c ⊎ ((w : List ℕ) × IsPrefixOf w p × (u ≡ c ++ w))
-prefix_of_joined [] more c p e = inl (c, refl)
-prefix_of_joined (o ∷ u) more [] p e = inr (o ∷ u, (more, sym e), refl)
-prefix_of_joined (o ∷ u) more (i ∷ c) p e = elim (prefix_of_joined u more c p (cc e)) [
-  | inl (part, c_is) ↦ inl (part, cc (e, c_is))
-  | inr (part, p_is, u_is) ↦ inr (part, p_is, cc (e, u_is))
-]
-
-started_after : (answer y part : List ℕ) → y ≡ answer ++ part → (first_part : List (List ℕ)) →
-    AllAnswersAtLeastPartlyWritten part first_part → IsPrefixOf part (concatenated_text first_part) →
-    AllAnswersAtLeastPartlyWritten y (answer ∷ first_part) × IsPrefixOf y (answer ++ concatenated_text first_part)
-started_after answer y part e first_part (inl (w, f)) (more, front) =
-    (inl (w, rw (e, f, append_assoc)), (more, rw (front, e, append_assoc)))
-started_after answer y part e first_part (inr last) (more, front) = (
-  inr (record {
-    earlier_answers = answer ∷ last.earlier_answers;
-    answer = last.answer;
-    written_part = last.written_part;
-    answers_split = ap (λ l. answer ∷ l) last.answers_split;
-    is_prefix = last.is_prefix;
-    nonempty = last.nonempty;
-    output_split = rw (e, last.output_split, append_assoc);
-  }),
-  (more, rw (front, e, append_assoc)),
-)
-
--- the answers of which y contains at least one octet are a prefix of all answers; y ends within the last of them or directly after it
-pub reach : (answers : List (List ℕ)) (y more : List ℕ) → concatenated_text answers ≡ y ++ more →
-    (first_part second_part : List (List ℕ)) × (answers ≡ first_part ++ second_part) × AllAnswersAtLeastPartlyWritten y first_part
-    × IsPrefixOf y (concatenated_text first_part)
-reach answers [] more e = ([], answers, refl, inl ([], refl), ([], refl))
-reach [] (o ∷ y) more e = absurd (cc e)
-reach (answer ∷ answers) (o ∷ y) more e = elim (prefix_of_joined (o ∷ y) _ answer _ (sym e)) [
-  | inl (part, answer_is) ↦ (
-    answer ∷ [],
-    answers,
-    refl,
-    inr (record {
-      earlier_answers = [];
-      answer = answer;
-      written_part = o ∷ y;
-      answers_split = refl;
-      is_prefix = (part, answer_is);
-      nonempty = omega arith;
-      output_split = refl;
-    }),
-    (part, append-nil answer ∙ answer_is),
-  )
-  | inr (part, (more', rest_is), y_is) ↦
-      let (first_part, second_part, split, reached, front) = reach answers part more' rest_is in
-      let (started, front') = started_after answer _ _ y_is _ reached front in
-      (answer ∷ first_part, second_part, cc split, started, front')
-]
