@@ -1,11 +1,11 @@
 -- Correlations with the training sequences, and the greatest of them.
 use Rattle.{
-  bit_blocks.specs.{Bits.{AllBits, IsBit}, SoftValues.{bit_metric, count_wrong_bits, likelihood}},
+  bit_blocks.specs.{Bits.{AllBits, IsBit}, Greatest.first_greatest, SoftValues.{bit_metric, count_wrong_bits, likelihood}},
   std.{
-    proofs.Common.{Bool, List, [], ap, ap₂, arith, drop, eqb, get_or, inl, inr, leb, length, map, negsuc, of_z, pos, refl, replicate},
-    proofs.Common.{rules, suc, sym, tests, to_z, w16, zero, ℕ, ℤ, ◌%◌, ◌*ℤ◌, ◌*◌, ◌+ℤ◌, ◌+◌, ◌<ℤ◌},
+    proofs.Common.{Bool, List, [], ap, ap₂, arith, drop, eqb, false, get_or, inl, inr, int_lt, leb, length, map, negsuc, of_z, pos, refl, replicate},
+    proofs.Common.{rules, suc, sym, tests, to_z, true, w16, zero, ℕ, ℤ, ◌%◌, ◌*ℤ◌, ◌*◌, ◌+ℤ◌, ◌+◌, ◌<ℤ◌},
     proofs.Common.{◌<◌, ◌^◌, ◌∙◌, ◌∷◌, ◌≡◌, ◌≢◌, ◌≤ℤ◌, ◌≤◌, ◌⊎◌},
-    proofs.lemmas.{Bool.cases_eq, Int.{by_lt_z, int_wrap_fits, ints, to_z-of_z, wrapping_add-bits, wrapping_mul_is}},
+    proofs.lemmas.{Bool.{cases_Bool, cases_eq}, Int.{by_lt_z, int_wrap_fits, ints, to_z-of_z, wrapping_add-bits, wrapping_mul_is}},
     proofs.lemmas.List.{Elements.{All-head, All-tail}, Sums.AllPass-from_list_all, drop_more, get_or-map},
     specs.{Int.int_wrap, List.list_all},
   },
@@ -226,17 +226,29 @@ IsFirstMaximum-same score total last best same first = record {
       ];
 }
 
-leads : (score : ℕ → ℤ) (n : ℕ) → (best : ℕ) × LeadsBelow score (n + 1) best
-leads score zero = (0, LeadsBelow-one score)
+less_by_test : (a b : ℤ) → int_lt a b ≡ true → a <ℤ b
+less_by_test a b test = grind arith
+
+most_by_test : (a b : ℤ) → int_lt a b ≡ false → b ≤ℤ a
+most_by_test a b test = grind arith
+
+leads : (score : ℕ → ℤ) (n : ℕ) → LeadsBelow score (n + 1) (first_greatest score n)
+unfolding first_greatest
+leads score zero = LeadsBelow-one score
 leads score (suc n) =
     let before = leads score n in
+    let best = first_greatest score n in
     let longer : n + 1 + 1 ≡ suc n + 1 = omega arith in
-    rw (← longer) (by_lt_z (score before.0) (score (n + 1)) (λ more. (n + 1, LeadsBelow-overtaken score (n + 1) before.0 before.1 more))
-    (λ less. (before.0, LeadsBelow-kept score (n + 1) before.0 before.1 less)))
+    elim (cases_Bool (int_lt (score best) (score (n + 1)))) [
+      | inl more ↦ rw more (rw (← longer) (LeadsBelow-overtaken score (n + 1) best before (less_by_test _ _ more)))
+      | inr less ↦ rw less (rw (← longer) (LeadsBelow-kept score (n + 1) best before (most_by_test _ _ less)))
+    ]
+
+pub IsFirstMaximum-first_greatest : (score : ℕ → ℤ) → IsFirstMaximum score 7 (first_greatest score 7)
+IsFirstMaximum-first_greatest score = IsFirstMaximum-from_LeadsBelow score (first_greatest score 7) (leads score 7)
 
 pub some_first_greatest : (score : ℕ → ℤ) → (best : ℕ) × IsFirstMaximum score 7 best
-some_first_greatest score =
-    let found = leads score 7 in (found.0, IsFirstMaximum-from_LeadsBelow score found.0 found.1)
+some_first_greatest score = (first_greatest score 7, IsFirstMaximum-first_greatest score)
 
 -- the first index with the greatest score is unique
 pub one_first_greatest : (score : ℕ → ℤ) (last m n : ℕ) → IsFirstMaximum score last m → IsFirstMaximum score last n → m ≡ n
