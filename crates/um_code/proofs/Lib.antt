@@ -1,2 +1,1 @@
 pub use Rattle.um_formats.proofs as um_formats
-pub mod CodeRules

@@ -19,6 +19,12 @@ stateless_step (Err fault) = Err fault
 abbrev pub stateless : (List ℕ → Result (List ℕ) LineFault) → Rules (Unit {0})
 stateless answer = record { step = λ _ line. stateless_step (answer line); end_fault = λ _. None }
 
+-- the answer to a line, from the meaning of the line
+abbrev pub answer_to_meaning : {Meaning : Type 0} (answer : (Meaning → List ℕ)) (parsed : Result Meaning LineFault) →
+    Result (List ℕ) LineFault
+answer_to_meaning answer (Ok meaning) = Ok (answer meaning)
+answer_to_meaning answer (Err fault) = Err fault
+
 -- a command as a state machine: its states, its rules and its first state
 pub record Machine : Type 1 where
   pub State : Type 0

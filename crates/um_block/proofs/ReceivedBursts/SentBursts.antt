@@ -273,11 +273,17 @@ pub sent_block-only : (octets : List ℕ) (tsc : ℕ) (x : List (List ℕ)) → 
 sent_block-only octets tsc x h =
     one_sent_block octets tsc x _ h (IsSentBlock-sent_block octets tsc h.code.count h.code.all_octets h.valid_tsc)
 
-pub sent_access-only : (d b x : List ℕ) → length b ≡ 6 → AllBits b → AllBits d → IsSentAccess d b x → x ≡ sent_access d b
-sent_access-only d b x eb bb bd h = one_access_burst d b x _ h (IsSentAccess-sent_access d b h.code.count bd eb bb)
+pub sent_access-only : (d b x : List ℕ) → IsSentAccess d b x → x ≡ sent_access d b
+sent_access-only d b x h =
+    let w = h.code.information.word in
+    let bits = rw (take_at d h.code.information.crc 8 h.code.count) at (All-take IsBit 8 (d ++ h.code.information.crc) w.bits) in
+    one_access_burst d b x _ h (IsSentAccess-sent_access d b h.code.count bits w.bsic_bit_count w.bsic_bits)
 
-pub sent_sync-only : (d x : List ℕ) → AllBits d → IsSentSync d x → x ≡ sent_sync d
-sent_sync-only d x bd h = one_sync_burst d x _ h (IsSentSync-sent_sync d h.code.count bd)
+pub sent_sync-only : (d x : List ℕ) → IsSentSync d x → x ≡ sent_sync d
+sent_sync-only d x h =
+    let w = h.code.information.word in
+    let bits = rw (take_at d h.code.information.crc 25 h.code.count) at (All-take IsBit 25 (d ++ h.code.information.crc) w.bits) in
+    one_sync_burst d x _ h (IsSentSync-sent_sync d h.code.count bits)
 
 -- ## SpreadParts: A list of four elements consists of its elements 0 to 3.
 
