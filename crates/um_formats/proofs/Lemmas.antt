@@ -30,7 +30,7 @@ use Rattle.{
     specs.{bit_blocks.SoftValues.{AllSoftBits, IsSoftBit}, declared.received.Received.Received},
   },
   um_formats.specs.{
-    BurstLines.{BurstLineMeans, burst_line_fault, burst_line_of_meaning, burst_parse_result},
+    BurstLines.{BurstLineMeans, burst_line, burst_line_fault, burst_line_of_meaning, burst_parse_result},
     CodeLines.{CodeLineMeans, code_line_fault, code_line_of_meaning},
     FrameTexts.{IsTextOfOctets, frame_text, frame_values, octets_text, line_values_of_fields, line_syntax_of_frame, text_of_octets},
     FrameTexts.unreadable_frame_text,
@@ -50,14 +50,14 @@ use Rattle.{
   },
   um_lines.{
     proofs.FormLaws.{AreOctets, Each, Fitting, fixed_words_lack, length-encode_lower, line_by_forms, line_short, passing_lack},
-    proofs.{FormLaws.{read_of_words, spelled_means, spelled_uncut, one_made, one_meaning}, Texts.words-join},
+    proofs.{FormLaws.{parsed_meaning, read_of_words, spelled_means, spelled_uncut, one_made, one_meaning}, Texts.words-join},
     specs.{BurstForms.{burst_line_forms, is_burst_out_of_order}, CodeForms.code_line_forms, Fields.{BitDigits, LineField, FixedWord}},
     specs.Fields.{HexOctets, NumberList, Number, Value, bit_digits, fits_field, has_wrong_digits, has_wrong_length, is_bit_digit},
     specs.{Fields.octets_from_hex, Forms.{AreDistinct, Exactly, IsTableEntry, LineMeans, fault_or_value, has_faulty_word, line_meaning}},
     specs.{Forms.{never_misplaced, bit_indices_of_values, values_of_words}, Hex.{encode_lower, encode_with, is_hex_digit}},
     specs.{Meanings.HasOneMeaningOrFault, ShowForms.{FrameFormat, NumberedInfo, ShowLineKind, Supervisory, WithInfo, WithoutInfo}},
     specs.{ShowForms.{frame_fields, fields_of_frame_format, show_line_forms, syntax}, LineTexts.{line_of_values, octets_word}},
-    specs.{Words.{IsNotSpace, is_skipped_line, words}, declared.fault.LineFault.TheVariants.{Digits, Length, Word}},
+    specs.{Words.{IsNotSpace, is_skipped_line, words}, declared.fault.LineFault.{TheVariants.{Digits, Length, Word}, LineFault}},
   },
 }
 use Rattle.um_lines.specs.BurstForms as F
@@ -319,6 +319,18 @@ can_be_sent =
     & (λ _ _ _ (info, _, is, known, (bsic, _, is', known', none)). rw (is, is', none) (known, known'))
     & (λ _ _ _ (info, _, is, known, none). rw (is, none) known)
     & tt)
+
+-- a line of `replay` that has a meaning parses to it, and one that has a fault to the fault
+pub burst_line_meaning : (held : ℕ) (line : List ℕ) (meaning : BurstLine) → BurstLineMeans held line meaning →
+    burst_line held line ≡ Ok meaning
+unfolding burst_line
+burst_line_meaning held line meaning means =
+    parsed_meaning burst_line_forms (is_burst_out_of_order held) burst_line_of_meaning line meaning refl means
+
+pub burst_line_refused : (held : ℕ) (line : List ℕ) (fault : LineFault) → burst_line_fault held line ≡ Some fault →
+    burst_line held line ≡ Err fault
+unfolding burst_line
+burst_line_refused held line fault bad = rw bad refl
 
 -- ## ReportLaws: Any 23 octets have exactly one text, and so has the report on a received block.
 
