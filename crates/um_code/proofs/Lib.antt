@@ -1,1 +1,2 @@
 pub use Rattle.um_formats.proofs as um_formats
+mod Worked
