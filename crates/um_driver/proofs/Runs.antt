@@ -84,18 +84,41 @@ module _ {q : List ℕ} {lines : List (List ℕ)} {held : List ℕ} {answered : 
     ];
   }
 
-  -- the response to what was read begins with the answers to these lines
-  starts_with_answers : {State : Type 0} (r : Rules State) (a b : State) (answers : List (List ℕ)) → Runs r a lines answers b →
-      (seen_end : Bool) × (seen_end ≡ true → SourceHasEnded left left')
-      × IsPrefixOf (concatenated_text answers) (response r a q seen_end).1
-  starts_with_answers r a b answers runs = elim u.lines_account_for_octets [
-    | inl (q_is, here) ↦ (false, λ e. cc e, begins_with_answers r a b lines answers runs u.no_line_feed q held false q_is (omega arith))
-    | inr (cut, none, e, here) ↦ (
-      true,
-      λ _. u.at_end e,
-      begins_with_all_answers r a b lines answers runs u.no_line_feed q (whole_of none) (omega arith),
-    )
-  ]
+  module _ {State : Type 0} (r : Rules State) (a b : State) (answers : List (List ℕ)) (runs : Runs r a lines answers b) where
+    -- the lines that the response answers begin with these, if it counts a last line without a line feed only where these do
+    lines_processed : (seen_end : Bool) → (ended ≡ true → held ≡ [] → seen_end ≡ true) →
+        (later : List (List ℕ)) × (processed_lines q seen_end ≡ lines ++ later)
+    lines_processed seen_end last = elim u.lines_account_for_octets [
+      | inl (q_is, here) ↦ first_processed r a b lines answers runs u.no_line_feed q held seen_end q_is (omega arith)
+      | inr (cut, none, e, here) ↦
+          rw (last e none) (all_processed r a b lines answers runs u.no_line_feed q (whole_of none) (omega arith))
+    ]
+
+    -- the response to what was read begins with the answers to these lines
+    starts_with_answers : (seen_end : Bool) × (seen_end ≡ true → SourceHasEnded left left')
+        × (ended ≡ true → held ≡ [] → seen_end ≡ true) × IsPrefixOf (concatenated_text answers) (response r a q seen_end).1
+    starts_with_answers = elim u.lines_account_for_octets [
+      | inl (q_is, here) ↦ elim (cases_Bool ended) [
+        | inl e ↦ (
+          true,
+          λ _. u.at_end e,
+          λ _ _. refl,
+          begins_with_answers r a b lines answers runs u.no_line_feed q held true q_is (omega arith),
+        )
+        | inr open_ ↦ (
+          false,
+          λ e. cc e,
+          λ e _. let no : ⊥ = cc (e, open_) in absurd no,
+          begins_with_answers r a b lines answers runs u.no_line_feed q held false q_is (omega arith),
+        )
+      ]
+      | inr (cut, none, e, here) ↦ (
+        true,
+        λ _. u.at_end e,
+        λ _ _. refl,
+        begins_with_all_answers r a b lines answers runs u.no_line_feed q (whole_of none) (omega arith),
+      )
+    ]
 
 -- the reader returned a line, which ended with a line feed or with the end of the source
 abbrev HasLine : ReaderState → ReaderState → (all line : List ℕ) → Type 0
@@ -290,11 +313,12 @@ module _ {State : Type 0} {r : Rules State} {a : State} {Represents : State → 
     }
 
     -- the run ends with `status` once it has written the pending output and then `text`
-    ending : {Stands' : State → Type 0} {status : Status} {text : List ℕ} (seen_end : Bool) → Stands' u.point.state →
+    ending : {Stands' : State → Type 0} {status : Status} {text : List ℕ} (seen_end : Bool) →
+        (reading'.ended ≡ true → reading.held ++ reading.excess ++ came ≡ [] → seen_end ≡ true) → Stands' u.point.state →
         (seen_end ≡ true → SourceHasEnded left left') →
         IsResponse status (response r a (u.point.input_read ++ came) seen_end) (concatenated_text u.point.answers ++ text) →
         IsRunEnding r a Stands' status left left' taken taken' gathered text
-    ending seen_end represents ends is = record {
+    ending seen_end last represents ends is = record {
       held = reading.held ++ reading.excess ++ came;
       octet_count = reading.octet_count;
       line_count = reading.line_count;
@@ -303,6 +327,7 @@ module _ {State : Type 0} {r : Rules State} {a : State} {Represents : State → 
       represents = represents;
       output = u.output;
       seen_end = seen_end;
+      first_lines = lines_processed now.reads r a now.state now.answers now.runs seen_end last;
       source_ended = ends;
       prescribed = is;
     }
@@ -351,7 +376,9 @@ module _ {State : Type 0} {r : Rules State} {a : State} {Represents : State → 
       (rw (le-ltb line_limit (length line.now) l.in_limit) reason) in
       let text_is' : text ≡ refused_text (length at.lines + 1) fault =
       text_is ∙ rw (number_is, l.line_count, u.point.line_count_matches_lines) refl in
-      ending step seen_end represents ended (rw text_is' is)
+      ending step seen_end
+      (λ e none. absurd (some_held at.reads n.valid line.now (answered_of step.outcome).0 (answered_of step.outcome).1 none e))
+      represents ended (rw text_is' is)
 
   pub end_good : {reason : Option LineFault} {text : List ℕ} → IsNextLineCall reading mid left' next.End reading' →
       reason ≡ None →
@@ -362,7 +389,7 @@ module _ {State : Type 0} {r : Rules State} {a : State} {Represents : State → 
       let (_, none_held, ended) = step.outcome in
       let at = now step in
       let good : r.end_fault at.state ≡ None = sym (says u.point.state u.represents) ∙ none in
-      ending step true u.represents (λ _. at.reads.at_end ended)
+      ending step true (λ _ _. refl) u.represents (λ _. at.reads.at_end ended)
       (respond_end r a at.state at.lines at.answers at.runs at.reads.no_line_feed _ (whole_of at.reads none_held)
       (omega (arith, size_of at.reads, ap length none_held, at.reads.in_range)) ∙ rw (good, text_is) refl)
 
@@ -376,7 +403,7 @@ module _ {State : Type 0} {r : Rules State} {a : State} {Represents : State → 
       let at = now step in
       let bad = sym (says u.point.state u.represents) ∙ some in
       let text_is' = text_is ∙ rw (number_is, h.line_count, u.point.line_count_matches_lines) refl in
-      ending step true u.represents (λ _. at.reads.at_end ended)
+      ending step true (λ _ _. refl) u.represents (λ _. at.reads.at_end ended)
       (respond_end r a at.state at.lines at.answers at.runs at.reads.no_line_feed _ (whole_of at.reads none_held)
       (omega (arith, size_of at.reads, ap length none_held, at.reads.in_range)) ∙ rw (bad, text_is') refl)
 
@@ -389,7 +416,8 @@ module _ {State : Type 0} {r : Rules State} {a : State} {Represents : State → 
       let at = now step in
       let text_is' : text ≡ refused_text (length at.lines + 1) Long =
       text_is ∙ rw (number_is, h.line_count, u.point.line_count_matches_lines) refl in
-      ending step false u.represents (λ e. cc e)
+      ending step false
+      (λ _ none. absurd (omega (arith, long, ap length none, ap length h.octets, length-append {A = ℕ}))) u.represents (λ e. cc e)
       (rw text_is' (long_judged at.reads n.valid h r a at.state at.answers at.runs long))
 
   pub ends_too_long : {text : List ℕ} → IsNextLineCall reading mid left' next.TooMany reading' → text ≡ [] →
@@ -398,7 +426,8 @@ module _ {State : Type 0} {r : Rules State} {a : State} {Represents : State → 
       let (came, step) = n.not_stopped u.not_stopped in
       let (h, short, some) = step.outcome in
       let at = now step in
-      ending step false u.represents (λ e. cc e)
+      ending step false
+      (λ _ none. absurd (omega (arith, some, ap length none, ap length h.octets, length-append {A = ℕ}))) u.represents (λ e. cc e)
       (rw (text_is, append-nil) (goes_past at.reads n.valid h r a at.state at.answers at.runs short some))
 
   pub ends_failed : IsNextLineCall reading mid left' next.Failed reading' →
@@ -407,7 +436,7 @@ module _ {State : Type 0} {r : Rules State} {a : State} {Represents : State → 
       let (came, step) = n.not_stopped u.not_stopped in
       let (h, needs) = step.outcome in
       let at = now step in (
-        ending step false u.represents (λ e. cc e) (rw append-nil (unfinished at.reads n.valid h r a at.state at.answers at.runs needs)),
+        ending step false (λ e _. let no : ⊥ = cc (e, needs.ended) in absurd no) u.represents (λ e. cc e) (rw append-nil (unfinished at.reads n.valid h r a at.state at.answers at.runs needs)),
         elim ready [ inl answer ↦ absurd (failed_unready u.valid n.valid step u.not_stopped answer) | inr none ↦ none ],
       )
 
@@ -457,10 +486,11 @@ module _ {State : Type 0} {r : Rules State} {a : State} {held : List ℕ} {answe
 
     -- the run ends at this point
     run_ends_here : {Represents : State → Type 0} {status : Status} (seen_end : Bool) → Represents at.state →
+        (later : List (List ℕ)) × (processed_lines at.input_read seen_end ≡ at.lines ++ later) →
         (seen_end ≡ true → SourceHasEnded left left') →
         EndsWithStatus status (response r a at.input_read seen_end) at.input_read at.output →
         IsRun r a Represents status left left' taken taken'
-    run_ends_here seen_end represents ends row = record {
+    run_ends_here seen_end represents first ends row = record {
       input_read = at.input_read;
       unread = rest;
       output = at.output;
@@ -474,6 +504,7 @@ module _ {State : Type 0} {r : Rules State} {a : State} {held : List ℕ} {answe
       lines = at.lines;
       answers = at.answers;
       state = at.state;
+      first_lines = first;
       runs = at.runs;
       represents = represents;
     }
@@ -482,8 +513,8 @@ module _ {State : Type 0} {r : Rules State} {a : State} {held : List ℕ} {answe
     ends_within_answers : {Represents : State → Type 0} → Represents at.state → (more : List ℕ) →
         concatenated_text at.answers ≡ at.output ++ more → IsRun r a Represents WriteFault left left' taken taken'
     ends_within_answers represents more e =
-        let (seen_end, ends, front) = starts_with_answers at.reads r a at.state at.answers at.runs in
-        run_ends_here seen_end represents ends (IsPrefixOf-append at.output (concatenated_text at.answers) _ (more, e) front)
+        let (seen_end, ends, last, front) = starts_with_answers at.reads r a at.state at.answers at.runs in
+        run_ends_here seen_end represents (lines_processed at.reads r a at.state at.answers at.runs seen_end last) ends (IsPrefixOf-append at.output (concatenated_text at.answers) _ (more, e) front)
 
 module _ {State : Type 0} {r : Rules State} {a : State} {Represents : State → Type 0} {left left' taken mid taken' : Option (List ℕ)}
     {gathered : List ℕ} where
@@ -512,7 +543,7 @@ module _ {State : Type 0} {r : Rules State} {a : State} {Represents : State → 
     ending_taken written =
         let at = after_write h.point (gathered ++ text) written in
         let split : at.output ≡ concatenated_text at.answers ++ text = rw (h.output, append_assoc) refl in
-        run_ends_here at h.seen_end h.represents h.source_ended (whole_row status _ _ _ _ h.prescribed split)
+        run_ends_here at h.seen_end h.represents h.first_lines h.source_ended (whole_row status _ _ _ _ h.prescribed split)
 
     -- if the sink fails after it has taken a prefix of the pending output and the final text, the run ends with `WriteFault`
     ending_cut : SinkTakesPrefix mid taken' (gathered ++ text) → IsRun r a Represents WriteFault left left' taken taken'
@@ -520,7 +551,7 @@ module _ {State : Type 0} {r : Rules State} {a : State} {Represents : State → 
         let at = after_write h.point w written in
         let whole : at.output ++ more ≡ concatenated_text at.answers ++ text =
         rw (append_assoc, ← text_is, h.output, append_assoc) refl in
-        run_ends_here at h.seen_end h.represents h.source_ended (more, response_text status _ _ h.prescribed ∙ sym whole)
+        run_ends_here at h.seen_end h.represents h.first_lines h.source_ended (more, response_text status _ _ h.prescribed ∙ sym whole)
 
     ending_concludes : (result : Status) → ((result ≡ status) × Appends mid taken' (gathered ++ text))
         ⊎ ((result ≡ WriteFault) × SinkTakesPrefix mid taken' (gathered ++ text)) →
@@ -583,7 +614,7 @@ at_first {r = r} {a = a} {left = left} {taken = taken} e represents = rw e (reco
 pub without_memory : {State : Type 0} (r : Rules State) (a : State) (Represents : State → Type 0) (left taken : Option (List ℕ)) →
     Represents a → IsRun r a Represents NoMemory left left taken taken
 without_memory r a Represents left taken represents =
-    run_ends_here (before_any_read r a left taken) false represents (λ e. cc e) (refl, refl)
+    run_ends_here (before_any_read r a left taken) false represents (processed_lines [] false, refl) (λ e. cc e) (refl, refl)
 
 -- `IsLastWriteResult` holds if the whole text was written, or if the sink failed after it had taken a prefix of the text
 pub last_written : (status : Status) (text : List ℕ) (taken taken' : Option (List ℕ)) (result : Status) →

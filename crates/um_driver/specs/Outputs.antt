@@ -40,6 +40,10 @@ last_line last end = if nat_lt line_limit (length last) then last ∷ [] else []
 abbrev pub lines_to_process : (octets : List ℕ) (end : InputEnd) → List (List ℕ)
 lines_to_process octets end = (divided octets).0 ++ last_line (divided octets).1 end
 
+-- the lines that the response to these octets answers or refuses
+unfoldable pub processed_lines : (octets : List ℕ) (ended : Bool) → List (List ℕ)
+processed_lines x ended = lines_to_process (take input_limit x) (input_end x ended)
+
 -- ---- the answers to the lines, and the status in which the run ends after them; `None`: it needs more octets
 
 abbrev pub response_at_end : (number : ℕ) (fault : Option LineFault) (end : InputEnd) → Option Status × List ℕ

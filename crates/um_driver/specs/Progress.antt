@@ -5,7 +5,7 @@ use Rattle.um_io.specs.Lines.{IsLine, EndsWithoutLineFeed, text_of_lines}
 use Rattle.um_io.specs.Reading.{ReaderState, IsValidReader, input_limit, buffer_limit}
 use Rattle.um_io.specs.Streams.{FailureCountRose}
 use Rattle.um_driver.specs.Rules.{Rules, Runs, concatenated_text}
-use Rattle.um_driver.specs.Outputs.{response}
+use Rattle.um_driver.specs.Outputs.{processed_lines, response}
 use Rattle.um_driver.specs.Table.{ReadsAtMostOneBufferAhead, SinkTakesPrefix}
 use Rattle.um_driver.specs.declared.status.Status.{Status}
 use Rattle.um_driver.specs.declared.status.Status.TheVariants.{BadWords, ReadFault, WriteFault, NoMemory}
@@ -78,6 +78,7 @@ pub record IsRunEnding {State : Type 0} (rules : Rules State) (start : State) (R
   pub represents : Represents point.state
   pub output : concatenated_text point.answers ≡ point.output ++ gathered
   pub seen_end : Bool
+  pub first_lines : (later : List (List ℕ)) × (processed_lines point.input_read seen_end ≡ point.lines ++ later)
   pub source_ended : seen_end ≡ true → SourceHasEnded unread_before unread_after
   pub prescribed : IsResponse status (response rules start point.input_read seen_end) (concatenated_text point.answers ++ text)
 

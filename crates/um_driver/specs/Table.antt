@@ -5,7 +5,7 @@ use Rattle.um_io.specs.Streams.{FailureCountRose}
 use Rattle.um_io.specs.Reading.{input_limit, buffer_limit}
 use Rattle.um_driver.specs.Divided.{BeginsWithLines}
 use Rattle.um_driver.specs.Rules.{Rules, Runs, concatenated_text}
-use Rattle.um_driver.specs.Outputs.{response}
+use Rattle.um_driver.specs.Outputs.{processed_lines, response}
 use Rattle.um_driver.specs.declared.status.Status.{Status}
 use Rattle.um_driver.specs.declared.status.Status.TheVariants.{BadWords, ReadFault, WriteFault, NoMemory}
 
@@ -55,6 +55,7 @@ pub record IsRun {State : Type 0} (rules : Rules State) (start : State) (Represe
   pub lines : List (List ℕ)
   pub answers : List (List ℕ)
   pub state : State
+  pub first_lines : (later : List (List ℕ)) × (processed_lines input_read ended ≡ lines ++ later)
   pub runs : Runs rules start lines answers state
   pub represents : Represents state
 

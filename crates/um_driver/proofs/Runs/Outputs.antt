@@ -17,7 +17,7 @@ pub use Rattle.{
   um_driver.specs.{
     Divided.BeginsWithLines,
     Outputs.{InputEnd, Ended, Exceeded, Open, divided, input_end, last_line, lines_to_process, push_octet, response, response_at_end},
-    Outputs.{response_from_answer, response_to_lines},
+    Outputs.{processed_lines, response_from_answer, response_to_lines},
     Rules.{Rules, Runs, answer_to_line, concatenated_text},
     Table.{EndsWithStatus, IsPrefixOf, IsRun},
     declared.status.Status.{TheVariants.{BadInput, BadWords, Done, NoMemory, ReadFault, TooLong, WriteFault}, Status},
@@ -277,13 +277,10 @@ module _ {State : Type 0} (r : Rules State) where
 
     -- ---- these lines are the whole input
 
-    pub respond_end : (x : List ℕ) → IsDividedIntoLines x lines → length x ≤ input_limit →
-        response r a x true ≡ (
-          (response_at_end next_number (r.end_fault b) Ended).0,
-          concatenated_text answers ++ (response_at_end next_number (r.end_fault b) Ended).1,
-        )
-    respond_end x all within = respond_to x true Ended [] (rw (le-ltb input_limit (length x) within) refl)
-        (ap (λ o. lines_to_process o Ended) (take_all input_limit x within) ∙ elim all.octets_split [
+    whole_input : (x : List ℕ) → IsDividedIntoLines x lines → length x ≤ input_limit →
+        lines_to_process (take input_limit x) Ended ≡ lines ++ []
+    whole_input x all within =
+        ap (λ o. lines_to_process o Ended) (take_all input_limit x within) ∙ elim all.octets_split [
           | inl whole ↦ ap (λ o. lines_to_process o Ended) (whole ∙ sym (append-nil (text_of_lines lines)))
               ∙ lines_to_process-after lines [] Ended plain
           | inr cut ↦
@@ -291,7 +288,34 @@ module _ {State : Type 0} (r : Rules State) where
               ap (λ o. lines_to_process o Ended) cut.octets_split ∙ lines_to_process-after cut.front cut.last Ended front_plain
               ∙ ap (λ l. cut.front ++ l) (lines_to_process-last cut.last Ended last_plain ∙ some_last cut.last cut.nonempty)
               ∙ sym cut.lines_split ∙ sym (append-nil lines)
-        ])
+        ]
+
+    pub respond_end : (x : List ℕ) → IsDividedIntoLines x lines → length x ≤ input_limit →
+        response r a x true ≡ (
+          (response_at_end next_number (r.end_fault b) Ended).0,
+          concatenated_text answers ++ (response_at_end next_number (r.end_fault b) Ended).1,
+        )
+    respond_end x all within = respond_to x true Ended [] (rw (le-ltb input_limit (length x) within) refl)
+        (whole_input x all within)
+
+    -- ---- the lines that the response answers begin with these
+
+    pub first_processed : (x more : List ℕ) (ended : Bool) → x ≡ text_of_lines lines ++ more → length (text_of_lines lines) ≤ input_limit →
+        (later : List (List ℕ)) × (processed_lines x ended ≡ lines ++ later)
+    unfolding processed_lines
+    first_processed x more ended split within =
+        let rest = take (input_limit - length (text_of_lines lines)) more in (
+          lines_to_process rest (input_end x ended),
+          ap (λ o. lines_to_process o (input_end x ended)) (within_limit x more split within)
+              ∙ lines_to_process-after lines rest (input_end x ended) plain,
+        )
+
+    pub all_processed : (x : List ℕ) → IsDividedIntoLines x lines → length x ≤ input_limit →
+        (later : List (List ℕ)) × (processed_lines x true ≡ lines ++ later)
+    unfolding processed_lines
+    all_processed x all within =
+        let end_is : input_end x true ≡ Ended = rw (le-ltb input_limit (length x) within) refl in
+        ([], ap (λ e. lines_to_process (take input_limit x) e) end_is ∙ whole_input x all within)
 
     -- the response begins with the answers to the first lines
     pub begins_with_answers : (x more : List ℕ) (ended : Bool) → x ≡ text_of_lines lines ++ more →
