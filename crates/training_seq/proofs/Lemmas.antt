@@ -17,6 +17,7 @@ use Rattle.{
   },
 }
 use lib.Lanes.{zip2}
+pub use Rattle.bit_blocks.proofs.Greatest.{LeadsBelow, LeadsBelow-kept, LeadsBelow-overtaken, leads}
 
 -- ## SequenceTable: Properties of the eight training sequences, checked by computation.
 
@@ -167,44 +168,7 @@ correlation-vector_sum (x ∷ xs) (y ∷ ys) (bit ∷ bits) e b =
     )
 correlation-vector_sum xs ys bits e b = absurd (omega arith)
 
--- ## Greatest: A loop finds the greatest of several scores, and the first if several are equal.
-
--- `best` is below `end`, and every other index below `end` has a smaller score, or an equal score and comes later
-pub record LeadsBelow (score : ℕ → ℤ) (end best : ℕ) : Type 0 where
-  pub in_range : best < end
-  pub others : (n : ℕ) → n < end → n ≢ best → (score n <ℤ score best) ⊎ ((score n ≡ score best) × (best < n))
-
-LeadsBelow-one : (score : ℕ → ℤ) → LeadsBelow score 1 0
-LeadsBelow-one score = record {
-  in_range = omega arith;
-  others = λ n h ne. absurd (omega arith);
-}
-
--- if the next index has a greater score, it becomes the best
-pub LeadsBelow-overtaken : (score : ℕ → ℤ) (end best : ℕ) → LeadsBelow score end best → score best <ℤ score end →
-    LeadsBelow score (end + 1) end
-LeadsBelow-overtaken score end best leads more = record {
-  in_range = omega arith;
-  others = λ n h ne. inl (behind n (omega arith) (cases_eq n best));
-} where
-  behind : (n : ℕ) → n < end → (n ≡ best) ⊎ (n ≢ best) → score n <ℤ score end
-  behind n h (inl same) = rw same more
-  behind n h (inr other) = omega (arith, ints, leads.others n h other)
-
--- if the next index has no greater score, the best index remains the best
-pub LeadsBelow-kept : (score : ℕ → ℤ) (end best : ℕ) → LeadsBelow score end best → score end ≤ℤ score best →
-    LeadsBelow score (end + 1) best
-LeadsBelow-kept score end best leads less = record {
-  in_range = omega (arith, leads.in_range);
-  others = λ n h ne. behind n h ne (cases_eq n end);
-} where
-  behind : (n : ℕ) → n < end + 1 → n ≢ best → (n ≡ end) ⊎ (n ≢ end) →
-      (score n <ℤ score best) ⊎ ((score n ≡ score best) × (best < n))
-  behind n h ne (inl same) =
-      rw same
-      (by_lt_z (score end) (score best)
-      inl (λ over. inr (omega (arith, ints), omega (arith, leads.in_range))))
-  behind n h ne (inr other) = leads.others n (omega arith) ne
+-- ## Greatest: The training sequence with the greatest correlation.
 
 pub IsFirstMaximum-from_LeadsBelow : (score : ℕ → ℤ) (best : ℕ) → LeadsBelow score 8 best → IsFirstMaximum score 7 best
 IsFirstMaximum-from_LeadsBelow score best leads = record {
@@ -225,24 +189,6 @@ IsFirstMaximum-same score total last best same first = record {
         | inr equal ↦ inr (omega (arith, ints, equal.0), equal.1)
       ];
 }
-
-less_by_test : (a b : ℤ) → int_lt a b ≡ true → a <ℤ b
-less_by_test a b test = grind arith
-
-most_by_test : (a b : ℤ) → int_lt a b ≡ false → b ≤ℤ a
-most_by_test a b test = grind arith
-
-leads : (score : ℕ → ℤ) (n : ℕ) → LeadsBelow score (n + 1) (first_greatest score n)
-unfolding first_greatest
-leads score zero = LeadsBelow-one score
-leads score (suc n) =
-    let before = leads score n in
-    let best = first_greatest score n in
-    let longer : n + 1 + 1 ≡ suc n + 1 = omega arith in
-    elim (cases_Bool (int_lt (score best) (score (n + 1)))) [
-      | inl more ↦ rw more (rw (← longer) (LeadsBelow-overtaken score (n + 1) best before (less_by_test _ _ more)))
-      | inr less ↦ rw less (rw (← longer) (LeadsBelow-kept score (n + 1) best before (most_by_test _ _ less)))
-    ]
 
 pub IsFirstMaximum-first_greatest : (score : ℕ → ℤ) → IsFirstMaximum score 7 (first_greatest score 7)
 IsFirstMaximum-first_greatest score = IsFirstMaximum-from_LeadsBelow score (first_greatest score 7) (leads score 7)

@@ -1,5 +1,6 @@
 -- The Viterbi argument and the exhaustive search.
 use Rattle.{
+  bit_blocks.proofs.Greatest.{LeadsBelow, leads},
   conv_code.{
     proofs.Lemmas.coded_from_start,
     specs.bit_blocks.Greatest.first_greatest,
@@ -466,40 +467,17 @@ IsMostLikely-chosen soft n chosen lists long pairs all others = record {
       let below : 16 * m < 2 ^ n = rw (← long) spelt.1 in
       rw (← is) (others m (omega arith) (λ same. ne (sym is ∙ ap (λ m. nth_input n m) same)))
 
--- ## Existence: For any soft bits, a most likely encoder input exists: by induction over all encoder inputs in lexicographic order.
+-- ## Existence: For any soft bits, a most likely encoder input exists: the first with the greatest path metric.
 
--- the best of the first `number` encoder inputs in lexicographic order, and the first of them if several are equally likely
-record IsBestOfFirst (soft : List ℤ) (n number chosen : ℕ) : Type 0 where
-  in_range : chosen < number
-  others : (m : ℕ) → m < number → m ≢ chosen → RanksBehind soft n m chosen
-
-IsBestOfFirst-more : (soft : List ℤ) (n number : ℕ) → 16 * (number + 1) ≤ 2 ^ n →
-    IsBestOfFirst soft n (number + 1) (first_greatest (nth_likelihood soft n) number)
-unfolding first_greatest
-IsBestOfFirst-more soft n zero headroom = record {
-  in_range = omega arith;
-  others = λ m h ne. absurd (omega arith);
-}
-IsBestOfFirst-more soft n (suc number) headroom =
-    let chosen = first_greatest (nth_likelihood soft n) number in
-    let last : ℕ = number + 1 in
-    go chosen (IsBestOfFirst-more soft n number (omega arith)) (int_lt (nth_likelihood soft n chosen) (nth_likelihood soft n last)) refl
-  where
-    go : (chosen : ℕ) → IsBestOfFirst soft n (number + 1) chosen → (more : Bool) →
-        int_lt (nth_likelihood soft n chosen) (nth_likelihood soft n (number + 1)) ≡ more →
-        IsBestOfFirst soft n (suc number + 1) (if more then number + 1 else chosen)
-    go chosen before true test =
-        let within = before.in_range in record {
-          in_range = omega arith;
-          others = λ m h ne. RanksBehind-new soft n chosen (number + 1) within (omega arith) before.others
-              (less_by_test _ _ _ _ refl refl test) m (omega arith) ne;
-        }
-    go chosen before false test =
-        let within = before.in_range in record {
-          in_range = omega arith;
-          others = λ m h ne. RanksBehind-old soft n chosen (number + 1) within (omega arith) before.others
-              (most_by_test _ _ _ _ refl refl test) m (omega arith) ne;
-        }
+pub RanksBehind-leads : (soft : List ℤ) (n number chosen : ℕ) → 16 * number ≤ 2 ^ n → LeadsBelow (nth_likelihood soft n) number chosen →
+    (m : ℕ) → m < number → m ≢ chosen → RanksBehind soft n m chosen
+RanksBehind-leads soft n number chosen headroom leads m lt ne = elim (leads.others m lt ne) [
+  | inl less ↦ inl less
+  | inr tie ↦
+      let chosen_within : 16 * chosen < 2 ^ n = omega (arith, leads.in_range) in
+      let within : 16 * m < 2 ^ n = omega arith in
+      inr (tie.0, lex_before-to_binary n _ _ (omega (arith, tie.1)) (div-eq_of_lt chosen_within ∙ sym (div-eq_of_lt within)))
+]
 
 pub IsMostLikely-most_likely : (soft : List ℤ) (n : ℕ) → length soft ≡ 2 * n → 5 ≤ n → IsMostLikely soft (most_likely soft)
 unfolding most_likely
@@ -510,9 +488,9 @@ IsMostLikely-most_likely soft n pairs long =
     let some : 0 < 2 ^ (n - 4) = pow_pos (n - 4) in
     let lists : ℕ = 2 ^ (n - 4) in
     let chosen = first_greatest (nth_likelihood soft n) (lists - 1) in
-    let found = IsBestOfFirst-more soft n (lists - 1) (omega arith) in
+    let found = RanksBehind-leads soft n (lists - 1 + 1) chosen (omega arith) (leads (nth_likelihood soft n) (lists - 1)) in
     subst (λ k. IsMostLikely soft (nth_input k (first_greatest (nth_likelihood soft k) (2 ^ (k - 4) - 1)))) (sym half)
-    (IsMostLikely-chosen soft n chosen lists long pairs (sym parted) (λ m h ne. found.others m (omega arith) ne))
+    (IsMostLikely-chosen soft n chosen lists long pairs (sym parted) (λ m h ne. found m (omega arith) ne))
 
 pub some_most_likely : (soft : List ℤ) (n : ℕ) → length soft ≡ 2 * n → 5 ≤ n →
     (u : List ℕ) × IsMostLikely soft u × (length u ≡ n)
