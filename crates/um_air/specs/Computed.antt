@@ -5,7 +5,7 @@ use Rattle.std.proofs.lemmas.Bool.{cases_eq}
 use Rattle.lapdm_link.specs.lapdm_frame.declared.Channel.{Channel}
 use Rattle.lapdm_link.specs.lapdm_frame.Content.{Frame}
 use Rattle.lapdm_link.specs.lapdm_frame.Frames.{octets_of}
-use Rattle.lapdm_link.proofs.lapdm_frame.Lemmas.{one_reading}
+use Rattle.lapdm_frame.proofs.Lemmas.{one_reading}
 use Rattle.lapdm_link.specs.Queues.{queue_of, with_items_appended}
 use Rattle.lapdm_link.specs.Events.{Deliver, SideStep, sending_role, event_step, queues_after_removal, EventRefusal}
 use Rattle.um_block.specs.Computed.{sent_block, received_block}
