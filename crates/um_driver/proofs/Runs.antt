@@ -6,7 +6,7 @@ use Rattle.{
   std.specs.{Borrow.Bor, Io.KnownBytes.{Appends, Consumes, IsAtEnd, Keeps}},
   um_driver.specs.{
     Progress.{AreLinesRead, IsLastWriteResult, IsLineOutcome, IsPointOfRun, IsResponse, IsRunEnding, IsRunUnderway, SourceHasEnded},
-    Table.{EndsAsPrescribed, IsReadFromSource, ReadsAtMostOneBufferAhead, SinkTakesPrefix, WritesAsPrescribed},
+    Table.{EndsAsPrescribed, IsReadFromSource, IsRefusalOrNone, ReadsAtMostOneBufferAhead, SinkTakesPrefix, WritesAsPrescribed},
     Writing.BuffersUnwrittenText,
   },
   um_io.specs.{
@@ -317,8 +317,8 @@ module _ {State : Type 0} {r : Rules State} {a : State} {Represents : State → 
         (reading'.ended ≡ true → reading.held ++ reading.excess ++ came ≡ [] → seen_end ≡ true) → Stands' u.point.state →
         (seen_end ≡ true → SourceHasEnded left left') →
         IsResponse status (response r a (u.point.input_read ++ came) seen_end) (concatenated_text u.point.answers ++ text) →
-        IsRunEnding r a Stands' status left left' taken taken' gathered text
-    ending seen_end last represents ends is = record {
+        IsRefusalOrNone text → IsRunEnding r a Stands' status left left' taken taken' gathered text
+    ending seen_end last represents ends is refusal = record {
       held = reading.held ++ reading.excess ++ came;
       octet_count = reading.octet_count;
       line_count = reading.line_count;
@@ -330,6 +330,7 @@ module _ {State : Type 0} {r : Rules State} {a : State} {Represents : State → 
       first_lines = lines_processed now.reads r a now.state now.answers now.runs seen_end last;
       source_ended = ends;
       prescribed = is;
+      is_refusal = refusal;
     }
 
   -- the run continues after the command answers a line, and the answer is added to the pending output
@@ -378,7 +379,7 @@ module _ {State : Type 0} {r : Rules State} {a : State} {Represents : State → 
       text_is ∙ rw (number_is, l.line_count, u.point.line_count_matches_lines) refl in
       ending step seen_end
       (λ e none. absurd (some_held at.reads n.valid line.now (answered_of step.outcome).0 (answered_of step.outcome).1 none e))
-      represents ended (rw text_is' is)
+      represents ended (rw text_is' is) (inr (_, fault, text_is'))
 
   pub end_good : {reason : Option LineFault} {text : List ℕ} → IsNextLineCall reading mid left' next.End reading' →
       reason ≡ None →
@@ -391,13 +392,13 @@ module _ {State : Type 0} {r : Rules State} {a : State} {Represents : State → 
       let good : r.end_fault at.state ≡ None = sym (says u.point.state u.represents) ∙ none in
       ending step true (λ _ _. refl) u.represents (λ _. at.reads.at_end ended)
       (respond_end r a at.state at.lines at.answers at.runs at.reads.no_line_feed _ (whole_of at.reads none_held)
-      (omega (arith, size_of at.reads, ap length none_held, at.reads.in_range)) ∙ rw (good, text_is) refl)
+      (omega (arith, size_of at.reads, ap length none_held, at.reads.in_range)) ∙ rw (good, text_is) refl) (inl text_is)
 
   pub end_refused : {reason : Option LineFault} {text : List ℕ} {number : ℕ} {fault : LineFault} →
       IsNextLineCall reading mid left' next.End reading' → number ≡ reading'.line_count → text ≡ refused_text (number + 1) fault →
       reason ≡ Some fault → ((b : State) → Represents b → reason ≡ r.end_fault b) →
       IsRunEnding r a Represents BadInput left left' taken taken' gathered text
-  end_refused n number_is text_is some says =
+  end_refused {fault = fault} n number_is text_is some says =
       let (came, step) = n.not_stopped u.not_stopped in
       let (h, none_held, ended) = step.outcome in
       let at = now step in
@@ -405,7 +406,7 @@ module _ {State : Type 0} {r : Rules State} {a : State} {Represents : State → 
       let text_is' = text_is ∙ rw (number_is, h.line_count, u.point.line_count_matches_lines) refl in
       ending step true (λ _ _. refl) u.represents (λ _. at.reads.at_end ended)
       (respond_end r a at.state at.lines at.answers at.runs at.reads.no_line_feed _ (whole_of at.reads none_held)
-      (omega (arith, size_of at.reads, ap length none_held, at.reads.in_range)) ∙ rw (bad, text_is') refl)
+      (omega (arith, size_of at.reads, ap length none_held, at.reads.in_range)) ∙ rw (bad, text_is') refl) (inr (_, fault, text_is'))
 
   pub long_refused : {text : List ℕ} {number : ℕ} → IsNextLineCall reading mid left' next.Long reading' →
       number ≡ reading'.line_count → text ≡ refused_text (number + 1) Long →
@@ -418,7 +419,7 @@ module _ {State : Type 0} {r : Rules State} {a : State} {Represents : State → 
       text_is ∙ rw (number_is, h.line_count, u.point.line_count_matches_lines) refl in
       ending step false
       (λ _ none. absurd (omega (arith, long, ap length none, ap length h.octets, length-append {A = ℕ}))) u.represents (λ e. cc e)
-      (rw text_is' (long_judged at.reads n.valid h r a at.state at.answers at.runs long))
+      (rw text_is' (long_judged at.reads n.valid h r a at.state at.answers at.runs long)) (inr (_, Long, text_is'))
 
   pub ends_too_long : {text : List ℕ} → IsNextLineCall reading mid left' next.TooMany reading' → text ≡ [] →
       IsRunEnding r a Represents TooLong left left' taken taken' gathered text
@@ -428,7 +429,7 @@ module _ {State : Type 0} {r : Rules State} {a : State} {Represents : State → 
       let at = now step in
       ending step false
       (λ _ none. absurd (omega (arith, some, ap length none, ap length h.octets, length-append {A = ℕ}))) u.represents (λ e. cc e)
-      (rw (text_is, append-nil) (goes_past at.reads n.valid h r a at.state at.answers at.runs short some))
+      (rw (text_is, append-nil) (goes_past at.reads n.valid h r a at.state at.answers at.runs short some)) (inl text_is)
 
   pub ends_failed : IsNextLineCall reading mid left' next.Failed reading' →
       IsRunEnding r a Represents ReadFault left left' taken taken' gathered [] × (gathered ≡ [])
@@ -436,7 +437,7 @@ module _ {State : Type 0} {r : Rules State} {a : State} {Represents : State → 
       let (came, step) = n.not_stopped u.not_stopped in
       let (h, needs) = step.outcome in
       let at = now step in (
-        ending step false (λ e _. let no : ⊥ = cc (e, needs.ended) in absurd no) u.represents (λ e. cc e) (rw append-nil (unfinished at.reads n.valid h r a at.state at.answers at.runs needs)),
+        ending step false (λ e _. let no : ⊥ = cc (e, needs.ended) in absurd no) u.represents (λ e. cc e) (rw append-nil (unfinished at.reads n.valid h r a at.state at.answers at.runs needs)) (inl refl),
         elim ready [ inl answer ↦ absurd (failed_unready u.valid n.valid step u.not_stopped answer) | inr none ↦ none ],
       )
 
@@ -489,8 +490,9 @@ module _ {State : Type 0} {r : Rules State} {a : State} {held : List ℕ} {answe
         (later : List (List ℕ)) × (processed_lines at.input_read seen_end ≡ at.lines ++ later) →
         (seen_end ≡ true → SourceHasEnded left left') →
         EndsWithStatus status (response r a at.input_read seen_end) at.input_read at.output →
+        (refusal : List ℕ) → IsRefusalOrNone refusal → IsPrefixOf at.output (concatenated_text at.answers ++ refusal) →
         IsRun r a Represents status left left' taken taken'
-    run_ends_here seen_end represents first ends row = record {
+    run_ends_here seen_end represents first ends row refusal is_refusal begun = record {
       input_read = at.input_read;
       unread = rest;
       output = at.output;
@@ -507,6 +509,9 @@ module _ {State : Type 0} {r : Rules State} {a : State} {held : List ℕ} {answe
       first_lines = first;
       runs = at.runs;
       represents = represents;
+      refusal = refusal;
+      is_refusal = is_refusal;
+      answers_begun = begun;
     }
 
     -- a run that has written only a prefix of the answers ends with `WriteFault`
@@ -514,7 +519,8 @@ module _ {State : Type 0} {r : Rules State} {a : State} {held : List ℕ} {answe
         concatenated_text at.answers ≡ at.output ++ more → IsRun r a Represents WriteFault left left' taken taken'
     ends_within_answers represents more e =
         let (seen_end, ends, last, front) = starts_with_answers at.reads r a at.state at.answers at.runs in
-        run_ends_here seen_end represents (lines_processed at.reads r a at.state at.answers at.runs seen_end last) ends (IsPrefixOf-append at.output (concatenated_text at.answers) _ (more, e) front)
+        run_ends_here seen_end represents (lines_processed at.reads r a at.state at.answers at.runs seen_end last) ends
+        (IsPrefixOf-append at.output (concatenated_text at.answers) _ (more, e) front) [] (inl refl) (more, rw append-nil e)
 
 module _ {State : Type 0} {r : Rules State} {a : State} {Represents : State → Type 0} {left left' taken mid taken' : Option (List ℕ)}
     {gathered : List ℕ} where
@@ -544,6 +550,7 @@ module _ {State : Type 0} {r : Rules State} {a : State} {Represents : State → 
         let at = after_write h.point (gathered ++ text) written in
         let split : at.output ≡ concatenated_text at.answers ++ text = rw (h.output, append_assoc) refl in
         run_ends_here at h.seen_end h.represents h.first_lines h.source_ended (whole_row status _ _ _ _ h.prescribed split)
+        text h.is_refusal ([], rw (split, append-nil) refl)
 
     -- if the sink fails after it has taken a prefix of the pending output and the final text, the run ends with `WriteFault`
     ending_cut : SinkTakesPrefix mid taken' (gathered ++ text) → IsRun r a Represents WriteFault left left' taken taken'
@@ -552,6 +559,7 @@ module _ {State : Type 0} {r : Rules State} {a : State} {Represents : State → 
         let whole : at.output ++ more ≡ concatenated_text at.answers ++ text =
         rw (append_assoc, ← text_is, h.output, append_assoc) refl in
         run_ends_here at h.seen_end h.represents h.first_lines h.source_ended (more, response_text status _ _ h.prescribed ∙ sym whole)
+        text h.is_refusal (more, sym whole)
 
     ending_concludes : (result : Status) → ((result ≡ status) × Appends mid taken' (gathered ++ text))
         ⊎ ((result ≡ WriteFault) × SinkTakesPrefix mid taken' (gathered ++ text)) →
@@ -614,7 +622,8 @@ at_first {r = r} {a = a} {left = left} {taken = taken} e represents = rw e (reco
 pub without_memory : {State : Type 0} (r : Rules State) (a : State) (Represents : State → Type 0) (left taken : Option (List ℕ)) →
     Represents a → IsRun r a Represents NoMemory left left taken taken
 without_memory r a Represents left taken represents =
-    run_ends_here (before_any_read r a left taken) false represents (processed_lines [] false, refl) (λ e. cc e) (refl, refl)
+    run_ends_here (before_any_read r a left taken) false represents (processed_lines [] false, refl) (λ e. cc e) (refl, refl) []
+    (inl refl) ([], refl)
 
 -- `IsLastWriteResult` holds if the whole text was written, or if the sink failed after it had taken a prefix of the text
 pub last_written : (status : Status) (text : List ℕ) (taken taken' : Option (List ℕ)) (result : Status) →

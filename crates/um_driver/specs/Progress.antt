@@ -6,7 +6,7 @@ use Rattle.um_io.specs.Reading.{ReaderState, IsValidReader, input_limit, buffer_
 use Rattle.um_io.specs.Streams.{FailureCountRose}
 use Rattle.um_driver.specs.Rules.{Rules, Runs, concatenated_text}
 use Rattle.um_driver.specs.Outputs.{processed_lines, response}
-use Rattle.um_driver.specs.Table.{ReadsAtMostOneBufferAhead, SinkTakesPrefix}
+use Rattle.um_driver.specs.Table.{IsRefusalOrNone, ReadsAtMostOneBufferAhead, SinkTakesPrefix}
 use Rattle.um_driver.specs.declared.status.Status.{Status}
 use Rattle.um_driver.specs.declared.status.Status.TheVariants.{BadWords, ReadFault, WriteFault, NoMemory}
 
@@ -81,6 +81,7 @@ pub record IsRunEnding {State : Type 0} (rules : Rules State) (start : State) (R
   pub first_lines : (later : List (List ℕ)) × (processed_lines point.input_read seen_end ≡ point.lines ++ later)
   pub source_ended : seen_end ≡ true → SourceHasEnded unread_before unread_after
   pub prescribed : IsResponse status (response rules start point.input_read seen_end) (concatenated_text point.answers ++ text)
+  pub is_refusal : IsRefusalOrNone text
 
 -- the result of processing one line, before its output is written: the run continues (`None`), or ends with a status
 abbrev pub IsLineOutcome : {State : Type 0} (rules : Rules State) (state : State) (Represents : (State → Type 0))

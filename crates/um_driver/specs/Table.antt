@@ -1,8 +1,10 @@
 -- What a run that ends has read and written, for each exit status (this project's own rule).
-use Rattle.std.specs.Prelude.{ℕ, ◌≡◌, ◌≤◌, ◌+◌, Bool, true, List, [], ◌++◌, length, Option, Some, None, IfSome}
+use Rattle.std.specs.Prelude.{ℕ, ◌≡◌, ◌≤◌, ◌+◌, Bool, true, List, [], ◌++◌, length, Option, Some, None, IfSome, ◌⊎◌}
 use Rattle.std.specs.Io.KnownBytes.{Appends, Keeps}
 use Rattle.um_io.specs.Streams.{FailureCountRose}
 use Rattle.um_io.specs.Reading.{input_limit, buffer_limit}
+use Rattle.um_lines.specs.declared.fault.LineFault.{LineFault}
+use Rattle.um_lines.specs.Refusals.{refused_text}
 use Rattle.um_driver.specs.Divided.{BeginsWithLines}
 use Rattle.um_driver.specs.Rules.{Rules, Runs, concatenated_text}
 use Rattle.um_driver.specs.Outputs.{processed_lines, response}
@@ -38,8 +40,12 @@ abbrev pub IsReadFromSource : (source_before source_after : Option (List ℕ)) (
 IsReadFromSource None left' q rest = Unit {0}
 IsReadFromSource (Some x) left' q rest = (x ≡ q ++ rest) × (left' ≡ Some rest)
 
+-- the text is empty, or refuses a line
+abbrev pub IsRefusalOrNone : (text : List ℕ) → Type 0
+IsRefusalOrNone text = (text ≡ []) ⊎ ((number : ℕ) × (fault : LineFault) × (text ≡ refused_text number fault))
+
 -- a whole run: what was read, left unread, and written; `ended` says whether the run met the end of the input. The command answered `lines`,
--- which led it to `state`
+-- which led it to `state`; no octet was written but of their answers and of a refusal
 pub record IsRun {State : Type 0} (rules : Rules State) (start : State) (Represents : State → Type 0) (status : Status)
     (unread_before unread_after written_before written_after : Option (List ℕ)) : Type 0 where
   pub input_read : List ℕ
@@ -58,6 +64,9 @@ pub record IsRun {State : Type 0} (rules : Rules State) (start : State) (Represe
   pub first_lines : (later : List (List ℕ)) × (processed_lines input_read ended ≡ lines ++ later)
   pub runs : Runs rules start lines answers state
   pub represents : Represents state
+  pub refusal : List ℕ
+  pub is_refusal : IsRefusalOrNone refusal
+  pub answers_begun : IsPrefixOf output (concatenated_text answers ++ refusal)
 
 -- the failure count of the source has risen if the status is `ReadFault`, that of the sink if it is `WriteFault`; otherwise both are
 -- unchanged

@@ -19,7 +19,7 @@ pub use Rattle.{
     Outputs.{InputEnd, Ended, Exceeded, Open, divided, input_end, last_line, lines_to_process, push_octet, response, response_at_end},
     Outputs.{processed_lines, response_from_answer, response_to_lines},
     Rules.{Rules, Runs, answer_to_line, concatenated_text},
-    Table.{EndsWithStatus, IsPrefixOf, IsRun},
+    Table.{EndsAsPrescribed, EndsWithStatus, IsPrefixOf, IsRun},
     declared.status.Status.{TheVariants.{BadInput, BadWords, Done, NoMemory, ReadFault, TooLong, WriteFault}, Status},
   },
   um_io.proofs.Lemmas.{All-front, divide, length-text-push, text-append, text-cons, text-push},
@@ -405,3 +405,60 @@ module _ {S T : Type 0} (f : S → T) (r : Rules S) (r' : Rules T) (w : IsProjec
   runs_by a b [] [] h = ap f h
   runs_by a b (line ∷ lines) (y ∷ ys) (mid, step, h) = (f mid, answer_by a line _ step, runs_by mid b lines ys h)
   runs_by a b _ _ none = absurd none
+
+  response_by : (a : S) (number : ℕ) (lines : List (List ℕ)) (end : InputEnd) →
+      response_to_lines r' (f a) number lines end ≡ response_to_lines r a number lines end
+  response_by a n [] end = rw (w.end_fault a) refl
+  response_by a n (line ∷ lines) end = go (answer_to_line r a line) refl (λ b. response_by b (n + 1) lines end)
+    where
+      go : (answer : Result (List ℕ × S) LineFault) → answer_to_line r a line ≡ answer →
+          ((b : S) → response_to_lines r' (f b) (n + 1) lines end ≡ response_to_lines r b (n + 1) lines end) →
+          response_to_lines r' (f a) n (line ∷ lines) end ≡ response_to_lines r a n (line ∷ lines) end
+      go (Ok next) e later = rw (answer_by a line (Ok next) e, e, later next.1) refl
+      go (Err fault) e later = rw (answer_by a line (Err fault) e, e) refl
+
+  whole_response_by : (a : S) (octets : List ℕ) (ended : Bool) → response r' (f a) octets ended ≡ response r a octets ended
+  unfolding response
+  whole_response_by a octets ended =
+      response_by a 1 (lines_to_process (take input_limit octets) (input_end octets ended)) (input_end octets ended)
+
+  -- a run by the rules r is a run by the rules r'
+  pub run_by : (a : S) (Represents : S → Type 0) (Stands : T → Type 0) → ((b : S) → Represents b → Stands (f b)) → (status : Status) →
+      (left left' taken taken' : Option (List ℕ)) → IsRun r a Represents status left left' taken taken' →
+      IsRun r' (f a) Stands status left left' taken taken'
+  run_by a Represents Stands implies status left left' taken taken' h = record {
+    input_read = h.input_read;
+    unread = h.unread;
+    output = h.output;
+    ended = h.ended;
+    read = h.read;
+    nothing_left = h.nothing_left;
+    written = h.written;
+    read_bound = h.read_bound;
+    ends_with_status = rw (whole_response_by a h.input_read h.ended) h.ends_with_status;
+    reads_little_ahead = let ahead = h.reads_little_ahead in record {
+      lines = ahead.lines;
+      answers = ahead.answers;
+      state = f ahead.state;
+      partial_line = ahead.partial_line;
+      runs = runs_by a ahead.state ahead.lines ahead.answers ahead.runs;
+      begins = ahead.begins;
+      is_prefix = ahead.is_prefix;
+      reads_little_ahead = ahead.reads_little_ahead;
+    };
+    lines = h.lines;
+    answers = h.answers;
+    state = f h.state;
+    first_lines = h.first_lines;
+    runs = runs_by a h.state h.lines h.answers h.runs;
+    represents = implies h.state h.represents;
+    refusal = h.refusal;
+    is_refusal = h.is_refusal;
+    answers_begun = h.answers_begun;
+  }
+
+  -- a run that ends as the rules r prescribe ends as the rules r' prescribe
+  pub prescribed_by : (a : S) (status : Status) (left taken taken' : Option (List ℕ)) → EndsAsPrescribed r a status left taken taken' →
+      EndsAsPrescribed r' (f a) status left taken taken'
+  prescribed_by a status None taken taken' h = tt
+  prescribed_by a status (Some x) taken taken' h = rw (whole_response_by a x true) h
