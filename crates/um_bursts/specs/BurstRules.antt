@@ -1,12 +1,11 @@
 -- How a command that reads bursts answers a line (this project's own rule).
-use Rattle.std.specs.Prelude.{ℕ, ℤ, List, [], ◌∷◌, ◌++◌, length, nat_lt, Result, Ok, Err, if◌then◌else◌}
-use Rattle.um_driver.specs.um_lines.declared.fault.LineFault.{LineFault}
+use Rattle.std.specs.Prelude.{ℕ, ℤ, List, [], ◌∷◌, ◌++◌, length, nat_lt, if◌then◌else◌}
 use Rattle.um_formats.specs.declared.burst_lines.BurstLine.{BurstLine}
 use Rattle.um_formats.specs.declared.burst_lines.BurstLine.TheVariants.{Skip, Normal, Access, Sync}
 use Rattle.um_formats.specs.BurstLines.{burst_line, unfinished_block_fault}
 use Rattle.um_formats.specs.declared.held.BurstsToDecode.{BurstsToDecode}
 use Rattle.um_formats.specs.declared.held.BurstsToDecode.TheVariants as N
-use Rattle.um_driver.specs.Rules.{Rules}
+use Rattle.um_driver.specs.Rules.{Rules, answer_to_meaning}
 
 -- the answers of a command to the four bursts of a block, to an access burst with its BSIC, and to a synchronisation burst
 pub record BurstAnswers : Type 0 where
@@ -23,15 +22,10 @@ answer_to_burst a held (Normal soft) =
 answer_to_burst a held (Access bsic soft) = (a.access bsic soft, held)
 answer_to_burst a held (Sync soft) = (a.sync soft, held)
 
-abbrev pub answer_to_burst_line : (answers : BurstAnswers) (held : List (List ℤ)) (parsed : Result BurstLine LineFault) →
-    Result (List ℕ × List (List ℤ)) LineFault
-answer_to_burst_line a held (Ok line) = Ok (answer_to_burst a held line)
-answer_to_burst_line a held (Err fault) = Err fault
-
 -- the rules of a command that reads bursts; its state is the list of the bursts of an incomplete block, in order
 abbrev pub burst_rules : BurstAnswers → Rules (List (List ℤ))
 burst_rules a = record {
-  step = λ held line. answer_to_burst_line a held (burst_line (length held) line);
+  step = λ held line. answer_to_meaning (answer_to_burst a held) (burst_line (length held) line);
   end_fault = unfinished_block_fault;
 }
 

@@ -20,8 +20,8 @@ abbrev pub stateless : (List ℕ → Result (List ℕ) LineFault) → Rules (Uni
 stateless answer = record { step = λ _ line. stateless_step (answer line); end_fault = λ _. None }
 
 -- the answer to a line, from the meaning of the line
-abbrev pub answer_to_meaning : {Meaning : Type 0} (answer : (Meaning → List ℕ)) (parsed : Result Meaning LineFault) →
-    Result (List ℕ) LineFault
+abbrev pub answer_to_meaning : {Meaning Answer : Type 0} (answer : (Meaning → Answer)) (parsed : Result Meaning LineFault) →
+    Result Answer LineFault
 answer_to_meaning answer (Ok meaning) = Ok (answer meaning)
 answer_to_meaning answer (Err fault) = Err fault
 

@@ -18,7 +18,7 @@ pub use Rattle.{
     Divided.BeginsWithLines,
     Outputs.{InputEnd, Ended, Exceeded, Open, divided, input_end, last_line, lines_to_process, push_octet, response, response_at_end},
     Outputs.{processed_lines, response_from_answer, response_to_lines},
-    Rules.{Rules, Runs, answer_to_line, concatenated_text},
+    Rules.{Rules, Runs, answer_to_line, answer_to_meaning, concatenated_text},
     Table.{EndsAsPrescribed, EndsWithStatus, IsPrefixOf, IsRun},
     declared.status.Status.{TheVariants.{BadInput, BadWords, Done, NoMemory, ReadFault, TooLong, WriteFault}, Status},
   },
@@ -382,6 +382,20 @@ module _ {State : Type 0} (r : Rules State) where
         (last ++ take j more) end) end)) (sym now) (continued a 1 ls last (take j more) end p)))
   ]
 
+-- a line that is answered is answered by the step of the rules
+pub step_of_answer : {State : Type 0} (r : Rules State) (a : State) (line : List ℕ) (next : List ℕ × State) →
+    answer_to_line r a line ≡ Ok next → r.step a line ≡ Ok next
+step_of_answer r a line next is = elim (cases_lt line_limit (length line)) [
+  | inl long ↦ absurd (cc (rw (lt-ltb line_limit (length line) long) at is))
+  | inr short ↦ rw (le-ltb line_limit (length line) short) at is
+]
+
+-- an answer that is computed from the meaning of a line has such a meaning
+pub meaning_of_answer : {Meaning Answer : Type 0} (answer : Meaning → Answer) (parsed : Result Meaning LineFault) (given : Answer) →
+    answer_to_meaning answer parsed ≡ Ok given → (meaning : Meaning) × (parsed ≡ Ok meaning) × (given ≡ answer meaning)
+meaning_of_answer answer (Ok meaning) given is = (meaning, refl, grind arith)
+meaning_of_answer answer (Err fault) given is = absurd (cc is)
+
 -- ## Projecting: Rules whose states are those of other rules with something added give the same answers.
 
 abbrev pub projected : {S T : Type 0} (f : S → T) → Result (List ℕ × S) LineFault → Result (List ℕ × T) LineFault
@@ -423,7 +437,8 @@ module _ {S T : Type 0} (f : S → T) (r : Rules S) (r' : Rules T) (w : IsProjec
       response_by a 1 (lines_to_process (take input_limit octets) (input_end octets ended)) (input_end octets ended)
 
   -- a run by the rules r is a run by the rules r'
-  pub run_by : (a : S) (Represents : S → Type 0) (Stands : T → Type 0) → ((b : S) → Represents b → Stands (f b)) → (status : Status) →
+  pub run_by : (a : S) (Represents : S → Type 0) (Stands : T → Type 0) →
+      ((b : S) (lines answers : List (List ℕ)) → Runs r a lines answers b → Represents b → Stands (f b)) → (status : Status) →
       (left left' taken taken' : Option (List ℕ)) → IsRun r a Represents status left left' taken taken' →
       IsRun r' (f a) Stands status left left' taken taken'
   run_by a Represents Stands implies status left left' taken taken' h = record {
@@ -451,7 +466,7 @@ module _ {S T : Type 0} (f : S → T) (r : Rules S) (r' : Rules T) (w : IsProjec
     state = f h.state;
     first_lines = h.first_lines;
     runs = runs_by a h.state h.lines h.answers h.runs;
-    represents = implies h.state h.represents;
+    represents = implies h.state h.lines h.answers h.runs h.represents;
     refusal = h.refusal;
     is_refusal = h.is_refusal;
     answers_begun = h.answers_begun;

@@ -7,6 +7,8 @@ use Rattle.{
     proofs.Lemmas.{same_frames, same_arrivals, frames_sent-push, blocks_received-push},
   },
 }
+use Rattle.um_link.proofs.um_air.Lemmas.{air_step_only}
+use Rattle.um_script.proofs.ScriptLines.{script_line_meaning}
 use Rattle.um_session.proofs.link.LinkCommandCommand.answer.Goals as goal
 
 pub returns-in-Step-clause-answered : goal.returns-in-Step-clause-answered
@@ -18,15 +20,8 @@ returns-in-Step-clause-answered g c = λ a (represents, sent_is, reception_is).
     let next = done.refines a.session.air represents in
     let same : ScriptLineMeans c.args.line.now (Some event) = rw c.in-Step.is at c.in_ok-parse_script.ensures.means in (
       record { session = session_with_step a.session event answer next.0; initial_counters = a.initial_counters },
-      sym c.in_ok-parse_script.ensures.refused,
-      (
-        (
-          Some event,
-          same,
-          record { answer = answer; air = next.0; step = next.2; text_is = c.write_step_lines.ensures.text; after_is = refl },
-        ),
-        refl,
-      ),
+      rw (script_line_meaning c.args.line.now (Some event) same, air_step_only a.session.air event next.0 answer next.2,
+          c.write_step_lines.ensures.text) refl,
       (
         next.1,
         done.sent ∙ ap (λ n. counter_plus n (g.R.Radio.sent c.args.self.now.radio.now)) (same_frames result)
