@@ -12,7 +12,10 @@ SHARE   ?= $(PREFIX)/share
 PYTHON  ?= $(shell python3 -c 'import sys; p = "$(PREFIX)/lib"; f = [f for f in sys.path if f.startswith(p) and f.endswith("-packages")]; \
 	print(f[0] if f else p + "/python%d.%d/site-packages" % sys.version_info[:2])' 2>/dev/null)
 D       := $(DESTDIR)
-HEADERS := bindings/c/um.h bindings/c/um_osmo.h
+HEADERS := $(wildcard bindings/c/*.h bindings/c/*.hpp)
+# the C compiler for ARCH, if there is one
+ARCHCC  := $(shell command -v $(if $(filter $(ARCH),$(shell uname -m)),$(CC),$(ARCH)-linux-gnu-gcc) 2>/dev/null)
+PRELOAD := out/$(ARCH)-linux/libum_osmo.so
 MODULE  := $(wildcard bindings/python/um/*.py bindings/python/um/*.pyi bindings/python/um/py.typed)
 # the relative path from LIBDIR to PREFIX, for the relocatable CMake files
 UP      := $(shell echo '$(LIBDIR)' | sed 's|^$(PREFIX)/||; s|[^/][^/]*|..|g')
@@ -36,8 +39,21 @@ dist:
 
 ## make crate      packs the Rust crate um-gsm with the libraries of dist/, below bindings/rust/target/package
 crate:
-	@for arch in x86_64 aarch64; do install -D -m 644 dist/$$arch-linux/libum.a bindings/rust/lib/$$arch-linux/libum.a || exit 1; done
+	@for lib in dist/*/libum.a dist/*/um_static.lib; do install -D -m 644 $$lib bindings/rust/lib/$${lib#dist/} || exit 1; done
 	@trap 'rm -rf bindings/rust/lib' EXIT; echo "cargo package --allow-dirty"; (cd bindings/rust && cargo package --allow-dirty)
+
+## make preload    builds libum_osmo.so, libosmocoding's control channel calls by um for programs already built, in out/ARCH-linux
+preload:
+	@test -n "$(ARCHCC)" || { echo "make preload: no C compiler for $(ARCH) here" >&2; exit 1; }
+	mkdir -p $(dir $(PRELOAD))
+	$(ARCHCC) -std=c11 -O2 -s -Wall -Wextra -fPIC -shared -Ibindings/c -Wl,-soname,libum_osmo.so \
+	  -Wl,--version-script=bindings/c/libum_osmo.map bindings/c/libum_osmo.c $(FROM)/libum.a -o $(PRELOAD)
+
+## make program    on a Mac: links the program from dist/ARCH-macos/um.o and packaging/outside.c, which ./um then starts
+program:
+	@test -f dist/$(ARCH)-macos/um.o || { echo "make program: no dist/$(ARCH)-macos/um.o; it is for macOS on x86_64 and arm64" >&2; exit 1; }
+	mkdir -p crates/um/out
+	$(CC) -O2 -o crates/um/out/um dist/$(ARCH)-macos/um.o packaging/outside.c
 
 ## make install    installs below PREFIX (/usr/local), LIBDIR (PREFIX/lib) and DESTDIR: program, manual page, libraries, headers,
 ##                 pkg-config, CMake, Python module, completion. FROM is the directory of the built files (dist/ARCH-linux)
@@ -50,6 +66,11 @@ install:
 	install -m 644 $(FROM)/libum.so.0 "$(D)$(LIBDIR)/libum.so.$(VERSION)"
 	ln -sf libum.so.$(VERSION) "$(D)$(LIBDIR)/libum.so.0"
 	ln -sf libum.so.0 "$(D)$(LIBDIR)/libum.so"
+ifneq ($(ARCHCC),)
+	@object=$$(mktemp) && $(MAKE) preload PRELOAD=$$object && install -m 644 $$object "$(D)$(LIBDIR)/libum_osmo.so"; status=$$?; rm -f $$object; exit $$status
+else
+	@echo "make install: no C compiler for $(ARCH), so libum_osmo.so is not built and not installed"
+endif
 	$(FILL) packaging/um.pc.in >"$(D)$(LIBDIR)/pkgconfig/um.pc"
 	$(FILL) packaging/umConfig.cmake.in >"$(D)$(LIBDIR)/cmake/um/umConfig.cmake"
 	$(FILL) packaging/umConfigVersion.cmake.in >"$(D)$(LIBDIR)/cmake/um/umConfigVersion.cmake"
@@ -68,18 +89,22 @@ ifneq ($(and $(PYTHON),$(MODULE)),)
 	install -m 644 $(MODULE) "$(D)$(PYTHON)/um/"
 	ln -srf "$(D)$(LIBDIR)/libum.so.0" "$(D)$(PYTHON)/um/libum.so.0"
 endif
+ifeq ($(D),)
+	@PATH=$$PATH:/usr/sbin:/sbin; ldconfig 2>/dev/null; ldconfig -p 2>/dev/null | grep -qF ' $(LIBDIR)/libum.so.0' || \
+	  echo "make install: programs do not find $(LIBDIR)/libum.so.0 yet: run ldconfig as root, or set LD_LIBRARY_PATH=$(LIBDIR)"
+endif
 
 ## make uninstall  removes what make install installed, with the same PREFIX, LIBDIR and DESTDIR
 uninstall:
 	rm -f "$(D)$(BINDIR)/um" "$(D)$(LIBEXEC)/um" "$(D)$(LIBEXEC)/refused.awk" \
 	  "$(D)$(SHARE)/man/man1/um.1" "$(D)$(SHARE)/bash-completion/completions/um" \
 	  $(foreach header,$(notdir $(HEADERS)),"$(D)$(INCLUDE)/$(header)") "$(D)$(LIBDIR)/libum.a" "$(D)$(LIBDIR)/libum.so" "$(D)$(LIBDIR)/libum.so.0" \
-	  "$(D)$(LIBDIR)/libum.so.$(VERSION)" "$(D)$(LIBDIR)/pkgconfig/um.pc"
+	  "$(D)$(LIBDIR)/libum.so.$(VERSION)" "$(D)$(LIBDIR)/libum_osmo.so" "$(D)$(LIBDIR)/pkgconfig/um.pc"
 	rm -rf "$(D)$(LIBDIR)/cmake/um" $(if $(PYTHON),"$(D)$(PYTHON)/um")
 	-rmdir "$(D)$(LIBEXEC)" 2>/dev/null
 
-## make packages   builds Debian packages for amd64 and arm64 and the source archive in out/packages
+## make packages   builds Debian packages in out/packages/amd64 and out/packages/arm64, and the source archive in out/packages
 packages:
 	packaging/packages out/packages
 
-.PHONY: crate help check prove dist install uninstall packages
+.PHONY: crate help check program prove dist preload install uninstall packages

@@ -2,13 +2,13 @@
 set -eu
 here=$(cd "$(dirname "${BASH_SOURCE[0]}")" && pwd)
 top=$(cd "$here/.." && pwd)
-um=$top/crates/um/out/um
+# the program that the script `um` starts
+um=$(UM_SHOW_PROGRAM=yes "$top/um" code)
 work=$(mktemp -d)
 trap 'rm -rf "$work"' EXIT
 
-# prepare COMMAND: builds the program and the peer with its inputs
+# prepare: builds the peer with its inputs
 prepare() {
-  "$top/um" "$1" </dev/null
   cp "$here"/peer/* "$work/"
   make -s -C "$work"
   (cd "$work" && python3 gen_files.py "$work" ./peer)

@@ -2,7 +2,7 @@
 # Compares `um replay` with a program over libosmocoding that reads the same lines, on 20,000 hard and 20,000 soft blocks.
 # Needs gcc, make, pkg-config, libosmocore-dev, libtalloc-dev, valgrind, python3 and time(1).
 . "$(dirname "${BASH_SOURCE[0]}")/common.sh"
-prepare replay
+prepare
 
 # The peer with its option -c chooses as `um` does. It knows neither the training sequence nor the second line.
 words() {

@@ -1,4 +1,5 @@
 # Functions that the checks share. Each bash script sources this file from the repository's root.
+check=${0##*/}
 
 # dist_is_ours: whether dist/ was built from these sources
 dist_is_ours() {
@@ -15,7 +16,7 @@ find_library() {
     shared=dist/$machine-linux/libum.so.0
     return
   fi
-  command -v rt >/dev/null || return
+  command -v rt >/dev/null || { echo "no library here for this machine, built from these sources" >&2; return 1; }
   (cd crates/um_c && rt lib </dev/null) >&2 || return
   archive=crates/um_c/out/libum_c.a
   shared=crates/um_c/out/libum.so.0
@@ -24,13 +25,14 @@ find_library() {
 
 # exports: the names of the functions that um.h declares
 exports() {
-  cc -E -P -Ibindings/c -xc - <<<'#include "um.h"' | grep -oE '\bum_[a-z0-9_]+ *\(' | tr -d ' (' | LC_ALL=C sort -u
+  sed 's|/\*.*\*/||; /\/\*/,/\*\//d; s|//.*||; /^#/d' bindings/c/um.h | grep -oE '\bum_[a-z0-9_]+ *\(' | tr -d ' (' | LC_ALL=C sort -u
 }
 
-# runs WHAT COMMAND..: runs a part of the check named in $check, and shows its output if it fails. Needs $work and $failed
+# runs WHAT COMMAND..: runs a part of the check, and shows its output if it fails. Needs $work and $failed
 runs() {
   local what=$1
   shift
+  ran=yes
   if "$@" >"$work/log" 2>&1; then
     grep "^$check:" "$work/log" || echo "$check: $what"
   else
@@ -40,9 +42,84 @@ runs() {
   fi
 }
 
-# has TOOL PART
+# skip PART REASON: tells that a part of the check is left out; checks/run counts such lines, and checks/may_skip lists some
+skip() { echo "$check: skipped: $1: $2"; }
+
+# ends: ends a check of parts
+ends() {
+  [ -n "$ran" ] || exit 77
+  exit "$failed"
+}
+
+# skip_all REASON: ends a check that tested nothing
+skip_all() {
+  skip everything "$1"
+  exit 77
+}
+
+# is_here TOOL: whether there is this tool; a Python from 3.9 on
+is_here() {
+  case $1 in
+    *python3) "$1" -c 'import sys; sys.exit(sys.version_info < (3, 9))' 2>/dev/null ;;
+    *) command -v "$1" >/dev/null ;;
+  esac
+}
+
+# has TOOL PART: whether there is this tool; without it the part is left out
 has() {
-  command -v "$1" >/dev/null && return
-  echo "$check: no $1 here, so $2 is skipped"
+  is_here "$1" && return
+  skip "$2" "no $1 here"
   return 1
+}
+
+# needs TOOL..: without one of these tools the check tests nothing
+needs() {
+  local tool
+  for tool; do is_here "$tool" || skip_all "no $tool here"; done
+}
+
+# has_program PART: whether ./um starts a program here; without one the part is left out
+has_program() {
+  local said status
+  said=$(./um make 1 0 2>&1 >/dev/null)
+  status=$?
+  [ "$status" -eq 127 ] || return 0
+  said=${said#um: }
+  said=${said%%, *}
+  skip "$1" "no program here: ${said%%: *}"
+  return 1
+}
+
+# needs_program: without a program the check tests nothing
+needs_program() { has_program everything || exit 77; }
+
+# has_cargo PART: whether there is a cargo that can build the crate
+has_cargo() {
+  local wanted found
+  has cargo "$1" || return
+  wanted=$(sed -n 's/^rust-version = "\(.*\)"$/\1/p' bindings/rust/Cargo.toml)
+  found=$(cargo --version | cut -d ' ' -f 2)
+  [ "$(printf '%s\n' "$wanted" "$found" | sort -V | head -n 1)" = "$wanted" ] && return
+  skip "$1" "cargo is $found here, and the crate needs $wanted"
+  return 1
+}
+
+# the emulator of ARM64, from qemu-user or qemu-user-static
+qemu=qemu-aarch64
+command -v "$qemu" >/dev/null || qemu=qemu-aarch64-static
+
+# osmo_sources: the directory of libosmocore's sources, if there is one
+osmo_sources() {
+  local folder
+  for folder in "${LIBOSMOCORE_SOURCE:-}" ../libosmocore-* /usr/src/libosmocore-*; do
+    [ -f "$folder/tests/coding/coding_test.c" ] && echo "$folder" && return
+  done
+  return 1
+}
+
+# find_program: sets program to the program that was built from these sources. False: there is none for this machine
+find_program() {
+  program=crates/um/out/um
+  ! dist_is_ours || [ ! -x "dist/$(uname -m)-linux/um" ] || program=dist/$(uname -m)-linux/um
+  [ -x "$program" ]
 }

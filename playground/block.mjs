@@ -1,7 +1,7 @@
 // The view Block: 23 octets, their encoding into four bursts, the radio path, and the receiver's result.
-import { soften } from "../bindings/js/um.mjs";
+import { softFromBits } from "../bindings/js/um.mjs";
 import { BLOCK, differs, drawnAsSent, encode, noisy } from "./coding.mjs";
-import { $, complain, h, hex, octetsOf, onWhole, plural, same, save, spaced, valueOf, wholeOf, write } from "./dom.mjs";
+import { $, complain, differ, h, hex, octetsOf, onWhole, plural, same, save, spaced, valueOf, wholeOf, write } from "./dom.mjs";
 import { frameForm } from "./frameform.mjs";
 import { blockLines, burstLine, frameLabel, marginLine, repairLine, softOfHex, wordLine } from "./lines.mjs";
 import { radioPath, rows } from "./path.mjs";
@@ -58,7 +58,7 @@ export class BlockView {
     const report = um.receiveBlock(soft);
     return {
       sent, soft, report,
-      truth: sent && um.receiveBlock(soften(sent)).word,
+      truth: sent && um.receiveBlock(softFromBits(sent)).word,
       among: um.receiveBlockAmong(soft, this.most),
       margin: um.marginBlock(soft),
       repaired: um.repair(report.word.subarray(0, 224)),
@@ -85,7 +85,7 @@ export class BlockView {
 
   #sum() {
     const { report: { wrongCoded }, margin: { margin } } = this.shown;
-    return `The CRC ${this.#crc()[0]}. ${plural(wrongCoded, "coded bit")} differ from the decoded word; margin ${margin}.`;
+    return `The CRC ${this.#crc()[0]}. ${differ(wrongCoded, "coded bit")} from the decoded word; margin ${margin}.`;
   }
 
   #asSent(octets) {

@@ -1,5 +1,5 @@
 #!/usr/bin/env python3
-"""Builds docs/playground.html from the sources in this folder, bindings/js/um.mjs and the WebAssembly module: one self-contained file.
+"""Builds docs/playground.html from the sources in this folder, those in bindings/js and the WebAssembly module: one self-contained file.
 
     playground/build.py [--wasm dist/wasm/um.wasm] [OUT.html]
 
@@ -13,8 +13,9 @@ import pathlib
 import re
 
 HERE = pathlib.Path(__file__).resolve().parent
-MOST = 110_000
+MOST = 130_000
 IMPORT = re.compile(r'^import \{([^}]*)\} from "([^"]+)";\n', re.M)
+PASSED_ON = re.compile(r'^export \{ ([^}]*) \} from "([^"]+)";\n', re.M)
 COMMENT = re.compile(r"^ *(//[^\n]*|/\*\*.*?\*/)\n", re.M | re.S)
 EXPORT = re.compile(r"^export (?:const|class) ([\w$]+)", re.M)
 
@@ -28,10 +29,14 @@ def bundled(path, names):
     if path in names:
         return ""
     text = path.read_text(encoding="utf-8")
-    before = "".join(bundled((path.parent / found[1]).resolve(), names) for found in IMPORT.findall(text))
+    passed_on = PASSED_ON.findall(text)
+    before = "".join(bundled((path.parent / found[1]).resolve(), names) for found in IMPORT.findall(text) + passed_on)
     names[path] = f"m{len(names)}"
-    body = IMPORT.sub(lambda found: f"const {{{found[1]}}} = {names[(path.parent / found[2]).resolve()]};\n", text)
+    body = IMPORT.sub(lambda found: f"const {{{found[1]}}} = {names[(path.parent / found[2]).resolve()]};\n", PASSED_ON.sub("", text))
     exports = EXPORT.findall(body)
+    for given, module in passed_on:
+        pairs = [name.split(" as ") for name in given.split(", ")]
+        exports += [f"{pair[-1]}: {names[(path.parent / module).resolve()]}.{pair[0]}" for pair in pairs]
     body = COMMENT.sub("", re.sub(r"^export ", "", body, flags=re.M))
     if not exports:
         return f"{before}{body}"

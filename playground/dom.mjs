@@ -34,8 +34,8 @@ export const octetsOf = (text, count) => {
   const digits = text.replace(/\s/g, "");
   const bad = digits.match(/[^0-9a-f]/i);
   if (bad) throw new Error(`"${bad[0]}" is not a hexadecimal digit`);
-  if (digits.length % 2) throw new Error(`${digits.length} digits; an octet has two`);
-  if (count !== undefined && digits.length !== 2 * count) throw new Error(`${digits.length / 2} octets; expected ${count}`);
+  if (digits.length % 2) throw new Error(`${plural(digits.length, "digit")}; an octet has two`);
+  if (count !== undefined && digits.length !== 2 * count) throw new Error(`${plural(digits.length / 2, "octet")}; expected ${count}`);
   return Uint8Array.from(digits.match(/../g) ?? [], (pair) => parseInt(pair, 16));
 };
 
@@ -43,7 +43,7 @@ export const bitsOf = (text, count) => {
   const digits = text.replace(/\s/g, "");
   const bad = digits.match(/[^01]/);
   if (bad) throw new Error(`"${bad[0]}" is not a bit; expected ${count} bits, each 0 or 1`);
-  if (digits.length !== count) throw new Error(`${digits.length} bits; expected ${count}`);
+  if (digits.length !== count) throw new Error(`${plural(digits.length, "bit")}; expected ${count}`);
   return Uint8Array.from(digits, Number);
 };
 
@@ -62,6 +62,7 @@ export const octetsOfBits = (bits) => {
 
 export const same = (a, b) => a.length === b.length && a.every((value, i) => value === b[i]);
 export const plural = (count, word) => `${count} ${word}${count === 1 ? "" : "s"}`;
+export const differ = (count, word) => `${plural(count, word)} ${count === 1 ? "differs" : "differ"}`;
 
 /** Shows an error beside its input, and marks the input and the results of its view as outdated; no message clears all. */
 export const complain = (input, message = "") => {

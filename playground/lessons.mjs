@@ -39,7 +39,7 @@ export const LESSONS = [
         and a tail at each end. Here bit 3 of burst 0 is flipped. See which coded bit it is; the block is still decoded.`),
       block({ noise: 3, seed: 5 }, `
         A demodulator outputs soft bits, whose sign is the bit and whose size is the confidence. Here they have white Gaussian noise at an
-        Es/N0 of 3 dB; pale bits are uncertain. The receiver finds the word whose coded bits match best: its path metric is the sum of
+        Es/N0 of 3 dB; faint bits are uncertain. The receiver finds the word whose coded bits match best: its path metric is the sum of
         the soft bits, each added if it agrees and subtracted if not. It is proved that no other word has a greater metric.
 
         Lower the Es/N0 and press New noise a few times. First, wrong bits are corrected; later, blocks are lost.`),

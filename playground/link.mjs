@@ -7,7 +7,7 @@ import { Session } from "./session.mjs";
 const NAMES = { mob: "the mobile", net: "the network", mob3: "the mobile (SAPI 3)", net3: "the network (SAPI 3)", rival: "another mobile" };
 const CALLS = { open: "open", send: "send", unit: "send unacknowledged", close: "release", tick: "T200 expires", idle: "fill frame" };
 const TO = { up: "to the network", down: "to the mobile" };
-const URL_MOST = 12000; // longer sessions are saved as a file
+const URL_MOST = 12000; // characters; longer sessions are saved as a file
 
 const short = (octets) => (octets.length > 8 ? `${hex(octets.slice(0, 6))}.. (${octets.length} octets)` : hex(octets) || "no octets");
 const sapi3 = (who) => (who.endsWith("3") ? " (SAPI 3)" : "");
@@ -329,7 +329,11 @@ export class LinkView {
     this.delay = Math.max(1, Number(params.get("delay") ?? 3) || 3);
     for (const name of ["tsc", "channel", "t200", "delay"]) $(`l-${name}`).value = this[name];
     for (const name of ["t200", "delay"]) complain($(`l-${name}`));
-    this.play((params.get("lines") ?? "").split(".").map((line) => line.replaceAll("_", " ")));
+    const lines = params.get("lines") ?? "";
+    if (lines.length > URL_MOST) {
+      throw new Error(`its session has ${lines.length} characters, and an address at most ${URL_MOST}; paste its lines below`);
+    }
+    this.play(lines.split(".").map((line) => line.replaceAll("_", " ")));
   }
 
   get() {

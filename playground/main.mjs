@@ -45,7 +45,7 @@ class Page {
   show() {
     this.address = location.hash;
     const [name, query = ""] = this.address.slice(1).split("?");
-    const view = this.views[name] ? name : "block";
+    const view = Object.hasOwn(this.views, name) ? name : "block";
     const params = new URLSearchParams(query);
     clearTimeout(this.later);
     if (this.view) this.tab(this.view).href = addressOf(this.view, this.views[this.view].get());

@@ -1,5 +1,5 @@
 // A session of two ends over a radio path, line by line as `um link` runs it: the same lines, the same answers. Independent of the page.
-import { Refused, soften } from "../bindings/js/um.mjs";
+import { Refused, softFromBits } from "../bindings/js/um.mjs";
 import { hex, octetsOfBits, octetsOf, same } from "./dom.mjs";
 import { frameLabel } from "./lines.mjs";
 
@@ -80,7 +80,8 @@ export class Session {
     this.#wantRoom(wayFrom(who));
     if (who === "rival") return this.#rival(event);
     const end = this.ends[who];
-    this.#effects(event, who, call === "tick" ? end.timer() : end[call](octets));
+    const asked = call === "tick" ? "timer" : call === "open" && !octets ? "openBare" : call;
+    this.#effects(event, who, end[asked](octets));
     if (call === "send") this.claims[who].taken.push(octets);
   }
 
@@ -101,7 +102,7 @@ export class Session {
     event.block = queue.shift();
     event.lost = call === "lose";
     if (event.lost) return;
-    const soft = soften(this.um.sendBlock(event.block.octets, this.tsc));
+    const soft = softFromBits(this.um.sendBlock(event.block.octets, this.tsc));
     for (const place of places) soft[place] = -soft[place];
     this.#received(event, way === "up" ? "net" : "mob", this.um.receiveBlock(soft));
   }

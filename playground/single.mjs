@@ -1,7 +1,7 @@
 // The view Bursts: the access burst of RACH and the synchronisation burst of SCH, each sent alone.
-import { soften } from "../bindings/js/um.mjs";
+import { softFromBits } from "../bindings/js/um.mjs";
 import { ACCESS, differs, drawnAsSent, encode, noisy, SYNC } from "./coding.mjs";
-import { $, bitsOf, h, hex, plural, same, save, valueOf, write } from "./dom.mjs";
+import { $, bitsOf, differ, h, hex, same, save, valueOf, write } from "./dom.mjs";
 import { burstLine, singleLine, softOfHex } from "./lines.mjs";
 import { radioPath, rows } from "./path.mjs";
 import { Trace } from "./trace.mjs";
@@ -87,13 +87,13 @@ class SingleBurst {
     const sent = this.recorded ? null : this.#send();
     const soft = path.over(this.recorded ?? noisy(sent, path.db, path.seed));
     const report = this.#receive(soft, this.heard);
-    const truth = sent && this.#receive(soften(sent), this.bsic).word;
+    const truth = sent && this.#receive(softFromBits(sent), this.bsic).word;
     this.shown = { sent, soft, report, truth, coded: encode(report.word) };
     path.show(this.recorded !== null);
     $(this.#id("recorded")).hidden = this.recorded === null;
     this.trace.draw(this.shown);
     const { accepted, wrongCoded } = report;
-    const wrong = `${plural(wrongCoded, "coded bit")} differ from the decoded word`;
+    const wrong = `${differ(wrongCoded, "coded bit")} from the decoded word`;
     write($(this.#id("sum")), `The CRC ${accepted ? "holds" : "fails"}. ${wrong}.`);
     rows($(this.#id("report")), this.#report());
     write(this.program, this.#linesText());

@@ -1,6 +1,6 @@
-# Explains what is wrong with a refused line, and marks the column. Standard input is the line. The environment has number and reason
-# from the program's output, called (the command), own (the forms of its lines), and others (the forms of all commands, each after
-# the command's name). In a form, | separates alternatives, and .. means more words like the last.
+# Explains what is wrong with a refused line, and marks the column if shown is not empty. Standard input is the line. The environment has
+# shown, number and reason from the program's output, called (the command), own (the forms of its lines), and others (the forms of all
+# commands, each after the command's name). In a form, | separates alternatives, and .. means more words like the last.
 
 # the position in a word of the first character that is not one of these, or 0
 function stranger(word, digits,   i) {
@@ -34,8 +34,8 @@ function fit(form,   i, n) {
 
 # prints the fault and, if the column is above 0, the line with a mark under that column; then exits
 function tell(fault, column,   from, shown, margin) {
-  printf "um: line %d was refused (%s): %s\n", number, reason, fault
-  if (column > 0) {
+  printf "%s: line %d was refused (%s): %s\n", called, number, reason, fault
+  if (column > 0 && ENVIRON["shown"]) {
     from = column > 70 ? column - 50 : 1
     shown = substr(line, from, 100)
     gsub(/[^ -~]/, "?", shown)
@@ -104,6 +104,7 @@ function tell_of_words(   part, i, n, most, best, other) {
   }
   if (!best) {
     other = reader_of()
+    if (word[1] == "refused" && word[2] ~ /^[0-9]+$/) tell("the command before this one refused line " word[2] " of its input (" word[3] ")", 1)
     if (other) tell("um " other " reads such lines, but " called " does not", 1)
     tell(quoted(word[1]) " does not start a line of " called "; lines start with " first_words(part, n), 1)
   }

@@ -112,7 +112,7 @@ static void access_bursts(uint64_t seed, double sigma)
 		for (int i = 0; i < 8; i++)
 			info[i] = word >> i & 1;
 		number_to_bits(code_bits, code, 6);
-		um_send_access(info, code_bits, burst);
+		t.coded_otherwise += !um_send_access(info, code_bits, burst);
 		gsm0503_rach_ext_encode(by_osmo, word, code, false);
 		t.coded_otherwise += memcmp(by_osmo, burst + 49, 36) != 0;
 		add_noise(by_osmo, soft + 49, 36, sigma, seed, k);
@@ -139,7 +139,7 @@ static void sync_bursts(uint64_t seed, long count, double sigma)
 			info[i] = drawn(seed, (uint64_t)(2 * k), (uint64_t)i) & 1;
 			sent[i / 8] |= (uint8_t)(info[i] << i % 8);
 		}
-		um_send_sync(info, burst);
+		t.coded_otherwise += !um_send_sync(info, burst);
 		gsm0503_sch_encode(by_osmo, sent);
 		t.coded_otherwise += memcmp(by_osmo, burst + 3, 39) || memcmp(by_osmo + 39, burst + 106, 39);
 		sbit_t data[78];

@@ -146,7 +146,8 @@ static void close_in_time(int link)
 static void code(const struct side *s, const uint8_t block[23], uint8_t bursts[4][148])
 {
 	ubit_t coded[464];
-	um_send_block(block, 5, bursts);
+	if (!um_send_block(block, 5, bursts))
+		abort();
 	if (s->player != &osmo_player)
 		return;
 	gsm0503_xcch_encode(coded, block);

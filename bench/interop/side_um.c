@@ -93,9 +93,23 @@ static bool close_link(struct side *s, int link)
 	return after(s, link, um_end_close(end_of(s, link), &e), &e);
 }
 
+/* The sessions have one mobile and may close SAPI 0 first, and a scene may have SAPI 3 alone, so SAPI 3 is always heard. */
+static void take_sapi3(struct side *s, const uint8_t block[23])
+{
+	channel *c = s->own;
+	um_effects e;
+	if (um_end_take(&c->ends[1], block, &e) == UM_END_DONE)
+		channel_done(c, 1, &e);
+	if (c->expiry[0] && frame_of(c, block).kind != UM_UI)
+		c->expiry[0] += c->block;
+}
+
 static void take(struct side *s, const uint8_t block[23])
 {
-	if (channel_take(s->own, block) == UM_END_NO_FRAME)
+	um_frame f = frame_of(s->own, block);
+	if (f.sapi == 3 && !hears_sapi3(s->own))
+		take_sapi3(s, block);
+	else if (channel_take(s->own, block) == UM_END_NO_FRAME)
 		s->report(s, 0, ERROR, NULL, 0);
 }
 
@@ -131,8 +145,8 @@ static bool plain_next(struct side *s, uint8_t block[23])
 	um_effects e;
 	if (line_next(s, block))
 		return true;
-	um_end_idle(end_of(s, 0), &e);
-	memcpy(block, e.frames[0], 23);
+	if (um_end_idle(end_of(s, 0), &e) == UM_END_DONE)
+		memcpy(block, e.frames[0], 23);
 	return false;
 }
 

@@ -36,7 +36,8 @@ static void fill(int is_noisy)
 		uint8_t sent[4][148];
 		for (int i = 0; i < 23; i++)
 			octets[p][i] = (uint8_t)chance();
-		um_send_block(octets[p], p & 7, sent);
+		if (!um_send_block(octets[p], p & 7, sent))
+			abort();
 		for (int b = 0; b < 4; b++)
 			for (int i = 0; i < 148; i++) {
 				int noise = 0;
@@ -56,7 +57,7 @@ static void send(long calls)
 {
 	uint8_t bursts[4][148];
 	for (long i = 0; i < calls; i++) {
-		um_send_block(octets[i % POOL], i & 7, bursts);
+		sink += um_send_block(octets[i % POOL], i & 7, bursts);
 		sink += bursts[i & 3][i % 148];
 	}
 }
@@ -74,8 +75,7 @@ static void receive(long calls)
 {
 	um_block_report report;
 	for (long i = 0; i < calls; i++) {
-		um_receive_block((const int8_t (*)[148])ours[i % POOL], &report);
-		sink += report.accepted;
+		sink += um_receive_block((const int8_t (*)[148])ours[i % POOL], &report) && report.accepted;
 	}
 }
 

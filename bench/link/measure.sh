@@ -33,15 +33,19 @@ each() {
 
 # inside NAME: the instructions of a function with all that it calls, in the run counted last
 inside() {
-	callgrind_annotate --inclusive=yes "$work/cg" | grep -m 1 -- "$1" | awk '{ gsub(",", "", $1); print $1 }'
+	callgrind_annotate --inclusive=yes "$work/cg" >"$work/annotated"
+	grep -m 1 -- "$1" "$work/annotated" >"$work/line" || { echo "measure.sh: callgrind has no function $1" >&2; exit 1; }
+	awk '{ gsub(",", "", $1); print $1 }' "$work/line"
 }
 
 calls=$(each calls)
 steps=$(each steps)
 echo "a message: $steps instructions by steps, $calls by calls alone, ratio $(awk "BEGIN { printf \"%.2f\", $steps / $calls }")"
 counted steps 600 > "$work/all"
-deliver=$(inside 'links::Links::deliver')
-alone=$(($(inside 'receiving::receive_block') + $(inside 'sending::send_block') / 2))
+deliver=$(inside 'links::WorldState::deliver')
+receive=$(inside 'receiving::receive_block')
+send=$(inside 'sending::send_block')
+alone=$((receive + send / 2))
 echo "a step that delivers a block: ratio $(awk "BEGIN { printf \"%.2f\", $deliver / $alone }") to receiving it and coding what is sent"
 
 for ((turn = 0; turn < ${1:-5}; turn++)); do

@@ -47,7 +47,8 @@ static void transmit(const uint8_t octets[23], uint8_t tsc, double deviation, bl
 {
 	uint8_t sent[4][148];
 	double noise[2];
-	um_send_block(octets, tsc, sent);
+	if (!um_send_block(octets, tsc, sent))
+		abort();
 	for (int i = 0; i < 592; i += 2) {
 		normal(noise);
 		soft[i / 148][i % 148] = heard(sent[i / 148][i % 148], deviation * noise[0]);
@@ -69,10 +70,9 @@ static bool receives(int receiver, block_soft soft, uint8_t octets[23])
 		}
 		return gsm0503_xcch_decode(octets, coded, &errors, &bits) == 0;
 	}
-	if (receiver == ALONE)
-		um_receive_block((bursts)soft, &report);
-	else
-		um_receive_block_among((bursts)soft, tried[receiver - AMONG], &report, &rank);
+	if (receiver == ALONE ? !um_receive_block((bursts)soft, &report)
+			      : !um_receive_block_among((bursts)soft, tried[receiver - AMONG], &report, &rank))
+		abort();
 	memcpy(octets, report.octets, 23);
 	return report.accepted;
 }

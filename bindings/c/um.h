@@ -27,10 +27,18 @@
 #define UM_VERSION_MINOR 2
 #define UM_VERSION_PATCH 0
 
+/* UM_CALL marks a call whose answer must not be ignored: what it writes is not written if it refuses. In gcc and clang an enum that a
+ * call returns has one octet, so that -Wswitch and debuggers know the answer; elsewhere the answer is a uint8_t. */
 #if defined __GNUC__
 #define UM_NONNULL __attribute__((__nonnull__))
+#define UM_CALL __attribute__((__nonnull__, __warn_unused_result__))
+#define UM_OCTET __attribute__((__packed__))
+#define UM_ENUM(name) enum name
 #else
 #define UM_NONNULL
+#define UM_CALL
+#define UM_OCTET
+#define UM_ENUM(name) uint8_t
 #endif
 
 #ifdef __cplusplus
@@ -50,17 +58,35 @@ typedef struct um_block_report {
 } um_block_report;
 
 /* Encodes a block into four normal bursts with training sequence tsc, 0 to 7. False: tsc is above 7. */
-bool um_send_block(const uint8_t octets[23], uint8_t tsc, uint8_t bursts[4][148]) UM_NONNULL;
+bool um_send_block(const uint8_t octets[23], uint8_t tsc, uint8_t bursts[4][148]) UM_CALL;
 
 /* Decodes four normal bursts by maximum likelihood: the word with the greatest metric, and of equal ones the lexicographically first.
  * False: a soft bit is -128. */
-bool um_receive_block(const int8_t bursts[4][148], um_block_report *report) UM_NONNULL;
+bool um_receive_block(const int8_t bursts[4][148], um_block_report *report) UM_CALL;
 
 /* Decodes four normal bursts by list decoding: tries the `most` words with the greatest metrics (1 to 64) in descending order and
  * takes the first whose CRC holds. No other word with a matching CRC has a greater metric. If none matches, the report is that of
- * um_receive_block. Writes the word's rank, 1 for the greatest metric. A wrong word passes the CRC by chance once in 2^40 words.
- * False: a soft bit is -128, or most is 0 or above 64. */
-bool um_receive_block_among(const int8_t bursts[4][148], uint32_t most, um_block_report *report, uint32_t *rank) UM_NONNULL;
+ * um_receive_block. Writes the word's rank, 1 for the greatest metric. The CRC of a random word holds once in 2^40 words; in noise
+ * about one in 10^8 of the blocks that cannot be saved is accepted wrongly. False: a soft bit is -128, or most is 0 or above 64. */
+bool um_receive_block_among(const int8_t bursts[4][148], uint32_t most, um_block_report *report, uint32_t *rank) UM_CALL;
+
+typedef struct um_erasure {
+	uint8_t erased;            /* the burst that was set to zeros, 0 to 3, or 4: none */
+	uint8_t wrong_training[4]; /* bit errors in the 26 training bits of each burst as received, against the sequence detected in all four */
+} um_erasure;
+
+/* Decodes four normal bursts as um_receive_block_among does. If no word's CRC holds, erases bursts: decodes the block again with one
+ * burst set to zeros, for each of at most `erasures` bursts (0 to 4) in turn, the burst with the most wrong training bits first and of
+ * equal ones the earlier, until the CRC of a word holds. The report and the rank are those of um_receive_block_among for the bursts with
+ * that burst set to zeros; if no word's CRC holds, those for the bursts as received. With 0 erasures it is um_receive_block_among.
+ * False: a soft bit is -128, most is 0 or above 64, or erasures is above 4. */
+bool um_receive_block_erasing(const int8_t bursts[4][148], uint32_t most, uint8_t erasures, um_block_report *report, uint32_t *rank,
+	um_erasure *erasure) UM_CALL;
+
+/* Detects the training sequence of four normal bursts without decoding them, and counts the wrong training bits of each burst. Writes the
+ * training sequence, 0 to 7, that um_receive_block would report. The sum of the counts is its wrong_training; docs/RECEIVING.md has what
+ * it was for blocks and for random bits. False: a soft bit is -128. */
+bool um_detect_training(const int8_t bursts[4][148], uint8_t *tsc, uint8_t wrong_training[4]) UM_CALL;
 
 typedef struct um_margin_report {
 	int32_t margin;    /* the word's metric minus the next word's; 0 if and only if another word has the same metric */
@@ -69,9 +95,9 @@ typedef struct um_margin_report {
 } um_margin_report;
 
 /* Decodes four normal bursts and reports the margin between the two most likely words. False: a soft bit is -128. */
-bool um_margin_block(const int8_t bursts[4][148], um_margin_report *report) UM_NONNULL;
+bool um_margin_block(const int8_t bursts[4][148], um_margin_report *report) UM_CALL;
 
-enum um_repaired {
+enum UM_OCTET um_repaired {
 	UM_HOLDS,     /* the CRC holds already */
 	UM_REPAIRED,  /* the word was corrected; the report is written */
 	UM_NO_REPAIR, /* no codeword is that near */
@@ -86,7 +112,7 @@ typedef struct um_repair_report {
 
 /* Corrects a block's word: data 184 and CRC 40, one octet per bit (the first 224 of um_block_report's word). It corrects every error
  * burst of at most 12 bits; at most one codeword is that near. Returns a um_repaired. */
-uint8_t um_repair(const uint8_t word[224], um_repair_report *report) UM_NONNULL;
+UM_ENUM(um_repaired) um_repair(const uint8_t word[224], um_repair_report *report) UM_CALL;
 
 /* Access bursts: RACH (3GPP TS 45.003, 4.6). */
 
@@ -99,12 +125,12 @@ typedef struct um_access_report {
 	uint8_t word[18];        /* data 8, CRC 6 XORed with the BSIC, tail 4 */
 } um_access_report;
 
-/* Encodes eight bits into an access burst for the base station with identity code bsic, most significant bit first.
- * False: an octet is neither 0 nor 1. */
-bool um_send_access(const uint8_t info[8], const uint8_t bsic[6], uint8_t burst[88]) UM_NONNULL;
+/* Encodes the eight bits of RA, least significant first, into an access burst for the base station whose identity code is bsic, most
+ * significant bit first. False: an octet is neither 0 nor 1. */
+bool um_send_access(const uint8_t info[8], const uint8_t bsic[6], uint8_t burst[88]) UM_CALL;
 
 /* Decodes an access burst. False: a soft bit is -128, or an octet of bsic is neither 0 nor 1. */
-bool um_receive_access(const int8_t burst[88], const uint8_t bsic[6], um_access_report *report) UM_NONNULL;
+bool um_receive_access(const int8_t burst[88], const uint8_t bsic[6], um_access_report *report) UM_CALL;
 
 /* Synchronisation bursts: SCH (3GPP TS 45.003, 4.7). */
 
@@ -117,17 +143,143 @@ typedef struct um_sync_report {
 	uint8_t word[39];        /* data 25, CRC 10, tail 4 */
 } um_sync_report;
 
-/* Encodes 25 bits into a synchronisation burst. False: an octet is neither 0 nor 1. */
-bool um_send_sync(const uint8_t info[25], uint8_t burst[148]) UM_NONNULL;
+/* Encodes 25 bits into a synchronisation burst. In frame FN, with s = FN / 1326, m = FN % 26 and r = (FN % 51 - 1) / 10, they are bits 9
+ * and 10 of s, BSIC, bits 1 to 8 of s, bits 1 and 2 of r, m, bit 0 of s, and bit 0 of r, each field least significant bit first
+ * (3GPP TS 44.018, 9.1.30). False: an octet is neither 0 nor 1. */
+bool um_send_sync(const uint8_t info[25], uint8_t burst[148]) UM_CALL;
 
 /* Decodes a synchronisation burst. False: a soft bit is -128. */
-bool um_receive_sync(const int8_t burst[148], um_sync_report *report) UM_NONNULL;
+bool um_receive_sync(const int8_t burst[148], um_sync_report *report) UM_CALL;
+
+/* TDMA frames, SCH and channels (3GPP TS 45.002, 3.3.2, 4.3.3, 6.4 and 7; TS 44.018, 9.1.30). */
+
+#define UM_FRAMES 2715648 /* the frames of a hyperframe: frame numbers are 0 to UM_FRAMES - 1 */
+
+typedef struct um_time {
+	uint16_t t1; /* frame number / 1326: 0 to 2047 */
+	uint8_t t2;  /* frame number % 26 */
+	uint8_t t3;  /* frame number % 51 */
+} um_time;
+
+/* Splits a frame number into T1, T2 and T3. False: there is no such frame number. */
+bool um_time_of_frame(uint32_t frame, um_time *time) UM_CALL;
+
+/* Finds the frame number with this T1, T2 and T3. False: T1 is above 2047, T2 above 25 or T3 above 50. */
+bool um_frame_of_time(const um_time *time, uint32_t *frame) UM_CALL;
+
+typedef struct um_sch {
+	uint32_t frame; /* the frame number; its T3 is 1, 11, 21, 31 or 41 */
+	uint8_t bsic;   /* the base station identity code, 0 to 63: 8 * ncc + bcc */
+	uint8_t ncc;    /* the network colour code, 0 to 7 */
+	uint8_t bcc;    /* the base station colour code, 0 to 7: the training sequence of BCCH and CCCH */
+} um_sch;
+
+/* Reads the 25 data bits of a synchronisation burst (um_sync_report's info). False: an octet is neither 0 nor 1, or no frame number has
+ * these bits: T2 is above 25 or T3' above 4. */
+bool um_read_sch(const uint8_t info[25], um_sch *sch) UM_CALL;
+
+/* Writes the 25 data bits for um_send_sync. False: bsic is above 63, or the frame number does not exist or has no SCH. */
+bool um_write_sch(uint8_t bsic, uint32_t frame, uint8_t info[25]) UM_CALL;
+
+/* Writes an access burst's RA (the octet of CHANNEL REQUEST) as the eight data bits of um_send_access, least significant bit first. */
+void um_write_ra(uint8_t ra, uint8_t info[8]) UM_NONNULL;
+
+/* Reads RA from the data bits of um_access_report. False: an octet is neither 0 nor 1. */
+bool um_read_ra(const uint8_t info[8], uint8_t *ra) UM_CALL;
+
+/* Writes a BSIC as the six bits of um_send_access and um_receive_access, most significant bit first. False: bsic is above 63. */
+bool um_write_bsic(uint8_t bsic, uint8_t bits[6]) UM_CALL;
+
+/* Reads a BSIC from six bits. False: an octet is neither 0 nor 1. */
+bool um_read_bsic(const uint8_t bits[6], uint8_t *bsic) UM_CALL;
+
+/* The channels of a time slot. UM_TCH_F has only the SACCH of a full rate traffic channel. */
+enum um_combination {
+	UM_BCCH_CCCH,        /* FCCH, SCH, BCCH, CCCH; uplink RACH */
+	UM_BCCH_CCCH_SDCCH4, /* the same with SDCCH/4 and its SACCH */
+	UM_SDCCH8,           /* SDCCH/8 and its SACCH */
+	UM_TCH_F             /* SACCH of TCH/F; all other frames carry traffic or are idle */
+};
+enum um_direction { UM_DOWNLINK, UM_UPLINK };
+enum um_common_channel { UM_BCCH = 2, UM_CCCH, UM_FCCH, UM_SCH, UM_RACH }; /* numbered after um_channel, UM_SDCCH and UM_SACCH */
+
+typedef struct um_place {
+	uint32_t first;     /* the frame number of the block's first burst; for FCCH, SCH and RACH that of the burst */
+	uint8_t channel;    /* um_channel or um_common_channel */
+	uint8_t subchannel; /* of SDCCH and SACCH; for CCCH the number of the block in the multiframe, 0 to 8; else 0 */
+	uint8_t burst;      /* which burst of the block, 0 to 3; for FCCH, SCH and RACH 0 */
+} um_place;
+
+enum UM_OCTET um_placing {
+	UM_PLACED,   /* the place is written */
+	UM_UNPLACED, /* the frame has none of these channels: it is idle, or carries traffic */
+	UM_NO_PLACE  /* no such combination, direction, time slot (0 to 7) or frame number */
+};
+
+/* Finds the channel and the burst that a frame of a time slot carries. The time slot matters only for UM_TCH_F. Returns a um_placing. */
+UM_ENUM(um_placing) um_place_frame(uint8_t combination, uint8_t direction, uint8_t timeslot, uint32_t frame, um_place *place) UM_CALL;
+
+/* Finds the first frame number, at or after `frame`, of a block (or burst) of this channel and subchannel. False: the combination has no
+ * such channel in this direction, or there is no such combination, direction, time slot or frame number. */
+bool um_next_block(uint8_t combination, uint8_t direction, uint8_t timeslot, uint8_t channel, uint8_t subchannel, uint32_t frame,
+	uint32_t *first) UM_CALL;
+
+/* A receiver of one time slot: collects the bursts of each block by their frame numbers, and decodes the block.
+ *
+ * The bursts come in the order of their frame numbers, modulo a hyperframe. Frames may be left out: a burst that never came is zeros. A
+ * block is decoded with its fourth burst, or with the first later frame that is of another block; um_slot_miss with such a frame ends the
+ * last one. A block of which no frame was taken or missed is not reported. The bursts of FCCH, SCH, RACH, traffic and idle frames are
+ * ignored, but such a frame keeps the order.
+ *
+ * The state is plain numbers and arrays: it can be copied, or saved and restored. Each call tests it; a soft bit of -128 in it counts as
+ * -127. */
+typedef struct um_slot {
+	uint32_t last;        /* the frame number taken last, or UM_FRAMES: none yet */
+	uint32_t first;       /* the frame number of the first burst of the block being collected, or UM_FRAMES: none */
+	uint8_t combination;  /* um_combination */
+	uint8_t direction;    /* um_direction */
+	uint8_t timeslot;     /* 0 to 7 */
+	uint8_t words;        /* words to try, 1 to 64: um_receive_block_erasing's `most` */
+	uint8_t erasures;     /* bursts to erase, 0 to 4 */
+	uint8_t heard;        /* bursts of the block that came */
+	int8_t bursts[4][148];/* the bursts of the block; zeros where none came */
+} um_slot;
+
+typedef struct um_slot_block {
+	um_block_report report; /* what um_receive_block_erasing reports of the block's four bursts */
+	uint32_t rank;
+	uint32_t first;         /* the frame number of the first burst */
+	uint8_t channel;        /* um_channel or um_common_channel: UM_SDCCH, UM_SACCH, UM_BCCH or UM_CCCH */
+	uint8_t subchannel;     /* as in um_place */
+	uint8_t heard;          /* bursts that came, 0 to 4 */
+	um_erasure erasure;     /* 4 if none was erased, and the wrong training bits of each burst; 26 in one that never came */
+} um_slot_block;
+
+enum UM_OCTET um_taken {
+	UM_SLOT_TAKEN,    /* the frame was taken; no block is complete */
+	UM_SLOT_BLOCK,    /* the frame was taken; a block is complete and written */
+	UM_SLOT_NO_SOFT,  /* a soft bit is -128; this answer and all below write nothing */
+	UM_SLOT_NONE,     /* the state is not valid */
+	UM_SLOT_NO_FRAME, /* there is no such frame number */
+	UM_SLOT_DOUBLED,  /* this frame was taken last */
+	UM_SLOT_LATE      /* this frame is before the one taken last: more than half a hyperframe after it */
+};
+
+/* Initialises a receiver. words is 1 to 64, erasures 0 to 4: with 1 and 0 each report is um_receive_block's. False: no such combination,
+ * direction, time slot, number of words or of erasures. */
+bool um_slot_new(um_slot *slot, uint8_t combination, uint8_t direction, uint8_t timeslot, uint8_t words, uint8_t erasures) UM_NONNULL;
+
+/* Takes the burst of a frame. Returns a um_taken; the first that applies, in the order of the enum. */
+UM_ENUM(um_taken) um_slot_take(um_slot *slot, uint32_t frame, const int8_t burst[148], um_slot_block *block) UM_CALL;
+
+/* Takes a frame whose burst did not come. */
+UM_ENUM(um_taken) um_slot_miss(um_slot *slot, uint32_t frame, um_slot_block *block) UM_CALL;
 
 /* LAPDm frames, formats A and B (3GPP TS 44.006). */
 
 enum um_kind { UM_I, UM_RR, UM_RNR, UM_REJ, UM_SABM, UM_DM, UM_UI, UM_DISC, UM_UA };
 enum um_channel { UM_SDCCH, UM_SACCH };
-enum um_reading {
+enum UM_OCTET um_reading {
 	UM_FRAME,     /* the octets are a frame */
 	UM_LPD,       /* another link protocol */
 	UM_EA,        /* the address field continues: EA is 0 */
@@ -151,11 +303,11 @@ typedef struct um_frame {
 } um_frame;
 
 /* Decodes the frame in a block on a channel. Returns a um_reading. On SACCH the two layer 1 octets at the start are ignored. */
-uint8_t um_read_frame(const uint8_t octets[23], uint8_t channel, um_frame *frame) UM_NONNULL;
+UM_ENUM(um_reading) um_read_frame(const uint8_t octets[23], uint8_t channel, um_frame *frame) UM_CALL;
 
 /* Encodes a frame into its canonical block: layer 1 octets 00, fill octets 2b. In a field of one bit any value but 0 means 1. Fields
  * that the kind does not have are ignored. False: the fields describe no frame that fits the channel. */
-bool um_write_frame(const um_frame *frame, uint8_t channel, uint8_t octets[23]) UM_NONNULL;
+bool um_write_frame(const um_frame *frame, uint8_t channel, uint8_t octets[23]) UM_CALL;
 
 /* Endpoints: one end of a LAPDm link in acknowledged mode (3GPP TS 44.006, 5), the mobile's or the network's.
  *
@@ -166,8 +318,9 @@ bool um_write_frame(const um_frame *frame, uint8_t channel, uint8_t octets[23]) 
  * The state is plain numbers and arrays: it can be copied, or saved and restored. Each call tests it. If the state is not valid, the
  * call returns UM_END_NONE and writes nothing. Each call writes zeros after each count. A count of 252 to 255 octets is refused: a
  * message is then too long, a state invalid. The test also accepts some states that no sequence of calls reaches: `retries` above 5
- * and `repeats` above 23 on SDCCH or 5 on SACCH (N200), where um_end_timer then closes the link, and `rejecting` set while the link
- * is not open. Callers need not read the state: the effects report everything. */
+ * and `repeats` above 23 on SDCCH or 5 on SACCH (N200), where um_end_timer then closes the link, and `rejecting` set before the link
+ * is open. Two states that calls wrote have the same 2581 octets (the rest is padding) if they are states of the same endpoint.
+ * Callers need not read the state: the effects report everything. */
 
 enum um_role { UM_MOBILE, UM_NETWORK };
 enum um_state { UM_IDLE, UM_OPENING, UM_OPEN, UM_CLOSING, UM_CLOSED };
@@ -226,7 +379,7 @@ typedef struct um_effects {
 	uint8_t frames[2][23]; /* the blocks to send, in order; zeros from frame_count on */
 } um_effects;
 
-enum um_answer {
+enum UM_OCTET um_answer {
 	UM_END_DONE,        /* the state and the effects are written; every other answer writes nothing */
 	UM_END_NOT_IDLE,    /* the link was opened already */
 	UM_END_NOT_OPEN,    /* the link is not open */
@@ -236,7 +389,8 @@ enum um_answer {
 	UM_END_FULL,        /* eight messages are not completely acknowledged yet */
 	UM_END_NONE,        /* the state is not valid */
 	UM_END_NO_CALL,     /* this call cannot open the link: wrong SAPI, or SAPI 0 at the network */
-	UM_END_NO_FRAME     /* the octets are not a frame; um_read_frame returns the reason */
+	UM_END_NO_FRAME,    /* the octets are not a frame; um_read_frame returns the reason */
+	UM_END_FREE         /* um_datalink_next: nothing is to be sent in this slot, and the block written is the fill frame */
 };
 
 /* Initialises an endpoint. False: no such role, SAPI (0 or 3) or channel. */
@@ -245,20 +399,20 @@ bool um_end_new(um_end *end, uint8_t role, uint8_t sapi, uint8_t channel) UM_NON
 /* Opens the link of SAPI 0, at the mobile, with contention resolution: info, 1 to 20 octets (18 on SACCH), identifies the mobile.
  * Returns a um_answer, as the other calls do. If several apply, UM_END_NONE and UM_END_NO_CALL come first, then the order of the
  * enum decides. */
-uint8_t um_end_open(um_end *end, const um_message *info, um_effects *effects) UM_NONNULL;
+UM_ENUM(um_answer) um_end_open(um_end *end, const um_message *info, um_effects *effects) UM_CALL;
 
 /* Opens the link of SAPI 3, at either end. */
-uint8_t um_end_open_bare(um_end *end, um_effects *effects) UM_NONNULL;
+UM_ENUM(um_answer) um_end_open_bare(um_end *end, um_effects *effects) UM_CALL;
 
 /* Sends a message of 1 to 251 octets over the open link, in as many I frames as it needs. Each follows once the one before it is
  * acknowledged. */
-uint8_t um_end_send(um_end *end, const um_message *message, um_effects *effects) UM_NONNULL;
+UM_ENUM(um_answer) um_end_send(um_end *end, const um_message *message, um_effects *effects) UM_CALL;
 
 /* Sends 1 to 20 octets (18 on SACCH) in one UI frame, unacknowledged, in any state. */
-uint8_t um_end_unit(const um_end *end, const um_message *message, um_effects *effects) UM_NONNULL;
+UM_ENUM(um_answer) um_end_unit(const um_end *end, const um_message *message, um_effects *effects) UM_CALL;
 
 /* Releases the link. Messages not acknowledged are discarded. */
-uint8_t um_end_close(um_end *end, um_effects *effects) UM_NONNULL;
+UM_ENUM(um_answer) um_end_close(um_end *end, um_effects *effects) UM_CALL;
 
 /* T200 has expired: retransmits the frame that awaits an answer, or gives the link up after N200 retransmissions.
  *
@@ -267,14 +421,14 @@ uint8_t um_end_close(um_end *end, um_effects *effects) UM_NONNULL;
  * while the answer is in transit, messages stay intact, but from then on each I frame is sent twice and every second answer is a REJ,
  * until the endpoint has nothing left to send. If T200 always expires too early, links fail although no frame is lost. To end the
  * doubling, pass each REJ to um_end_take as an RR with the same N(R); delivery is still guaranteed.
- * bindings/c/examples/event_loop.c manages T200 for both links of a channel. */
-uint8_t um_end_timer(um_end *end, um_effects *effects) UM_NONNULL;
+ * A um_datalink (below) manages T200 for both links of a channel. */
+UM_ENUM(um_answer) um_end_timer(um_end *end, um_effects *effects) UM_CALL;
 
 /* Writes the fill frame, for a block in which nothing else is to be sent. */
-uint8_t um_end_idle(const um_end *end, um_effects *effects) UM_NONNULL;
+UM_ENUM(um_answer) um_end_idle(const um_end *end, um_effects *effects) UM_CALL;
 
 /* Processes a received block. */
-uint8_t um_end_take(um_end *end, const uint8_t octets[23], um_effects *effects) UM_NONNULL;
+UM_ENUM(um_answer) um_end_take(um_end *end, const uint8_t octets[23], um_effects *effects) UM_CALL;
 
 /* Sides: both links of a mobile, or of the network, on one channel: SAPI 0 for signalling and SAPI 3 for short messages. Each call
  * acts on the endpoint of its SAPI as the um_end call of the same name does, and leaves the other one unchanged. Each link has its
@@ -291,29 +445,114 @@ typedef struct um_side {
 bool um_side_new(um_side *side, uint8_t role, uint8_t channel) UM_NONNULL;
 
 /* Opens the link of SAPI 0, at the mobile, as um_end_open does. */
-uint8_t um_side_open(um_side *side, const um_message *info, um_effects *effects) UM_NONNULL;
+UM_ENUM(um_answer) um_side_open(um_side *side, const um_message *info, um_effects *effects) UM_CALL;
 
 /* Opens the link of SAPI 3, at either side. */
-uint8_t um_side_open_bare(um_side *side, um_effects *effects) UM_NONNULL;
+UM_ENUM(um_answer) um_side_open_bare(um_side *side, um_effects *effects) UM_CALL;
 
 /* Sends a message of 1 to 251 octets over the open link of this SAPI. */
-uint8_t um_side_send(um_side *side, uint8_t sapi, const um_message *message, um_effects *effects) UM_NONNULL;
+UM_ENUM(um_answer) um_side_send(um_side *side, uint8_t sapi, const um_message *message, um_effects *effects) UM_CALL;
 
 /* Sends 1 to 20 octets (18 on SACCH) in one UI frame of this SAPI, unacknowledged, in any state. */
-uint8_t um_side_unit(const um_side *side, uint8_t sapi, const um_message *message, um_effects *effects) UM_NONNULL;
+UM_ENUM(um_answer) um_side_unit(const um_side *side, uint8_t sapi, const um_message *message, um_effects *effects) UM_CALL;
 
 /* Releases the link of this SAPI. Messages not acknowledged are discarded. */
-uint8_t um_side_close(um_side *side, uint8_t sapi, um_effects *effects) UM_NONNULL;
+UM_ENUM(um_answer) um_side_close(um_side *side, uint8_t sapi, um_effects *effects) UM_CALL;
 
 /* T200 of the link of this SAPI has expired. */
-uint8_t um_side_timer(um_side *side, uint8_t sapi, um_effects *effects) UM_NONNULL;
+UM_ENUM(um_answer) um_side_timer(um_side *side, uint8_t sapi, um_effects *effects) UM_CALL;
 
 /* Writes the fill frame, for a block in which nothing else is to be sent. */
-uint8_t um_side_idle(const um_side *side, um_effects *effects) UM_NONNULL;
+UM_ENUM(um_answer) um_side_idle(const um_side *side, um_effects *effects) UM_CALL;
 
 /* Processes a received block at the endpoint of its SAPI, and writes that SAPI, 0 or 3, to *sapi. A frame of another SAPI is ignored:
  * *sapi is then 0, and the effects are empty. UM_END_NO_FRAME: the octets are not a frame. */
-uint8_t um_side_take(um_side *side, const uint8_t octets[23], uint8_t *sapi, um_effects *effects) UM_NONNULL;
+UM_ENUM(um_answer) um_side_take(um_side *side, const uint8_t octets[23], uint8_t *sapi, um_effects *effects) UM_CALL;
+
+/* Data links: one side of a channel WITH its loop. A data link holds both ends of the side, SAPI 0 and SAPI 3, and decides what goes
+ * into each slot. A slot is the time of one block each way (51 TDMA frames on SDCCH, 102 on SACCH). In each slot call um_datalink_take
+ * with what arrived, if anything did, then the calls of layer 3, then um_datalink_next for the block to send:
+ *
+ *   um_datalink link;
+ *   if (!um_datalink_new(&link, UM_MOBILE, UM_SDCCH, 4, 6) || um_datalink_open(&link, &info) != UM_END_DONE) ..
+ *   for (;;) {
+ *           if (received(block) && um_datalink_take(&link, block, &report) == UM_END_DONE) ..      // handle report
+ *           if (um_datalink_next(&link, layer1, block, &report) != UM_END_NONE) ..                // handle report, transmit block
+ *   }
+ *
+ * There is no queue and no timer: the frame that awaits an answer is made in its slot, and T200 counts slots. T200 is at least 2 + 2d,
+ * where a block arrives d slots later than the slot after it was sent, and the same at both sides; 4 serves d = 0 and 1. For SAPI 3 take
+ * two slots more.
+ *
+ * UI frames stay outside: if um_datalink_next returns UM_END_FREE, the slot is free, and um_datalink_unit makes a block for it.
+ *
+ * The two layer 1 octets of a block on SACCH are the caller's: um_datalink_take ignores them, and um_datalink_next and
+ * um_datalink_unit write the two of `layer1` (on SDCCH they ignore `layer1`).
+ *
+ * At a mobile, a frame of SAPI 3 is dropped while SAPI 0 is not established: on SDCCH the data link knows; on SACCH the caller says it
+ * with um_datalink_main. */
+typedef struct um_timed_end {
+	um_end end;
+	uint8_t t200;       /* T200 in slots, not 0 */
+	uint8_t sent;       /* whether the frame that awaits an answer was sent; any value but 0 means yes */
+	uint8_t clock;      /* slots until that frame is due; 0: due */
+	uint8_t owed;       /* whether `answer` waits for its slot; any value but 0 means yes */
+	uint8_t answer[23]; /* a block with a UA, DM, RR or REJ, as calls write it; zeros if none is owed */
+} um_timed_end;
+
+typedef struct um_datalink {
+	um_timed_end link0; /* SAPI 0 */
+	um_timed_end link3; /* SAPI 3 */
+	uint8_t heard0;     /* whether the last frame taken since um_datalink_next was of SAPI 0 and not UI; any value but 0 means yes */
+	uint8_t main;       /* what um_datalink_main said last; any value but 0 means yes */
+} um_datalink;
+
+typedef struct um_report {
+	um_notice notices[3];   /* the notices in order; zeros from notice_count on */
+	uint8_t sapis[3];       /* the SAPI of each notice, 0 or 3; zeros from notice_count on */
+	uint8_t notice_count;
+} um_report;
+
+/* The calls return a um_answer. Unless it is UM_END_DONE, or UM_END_FREE of um_datalink_next, nothing is written. UM_END_NONE: the
+ * struct is no data link; this comes first. UM_END_NO_CALL: the SAPI is neither 0 nor 3, or um_datalink_open at the network. */
+
+/* Initialises a data link, with T200 of SAPI 0 and of SAPI 3 in slots. False: no such role or channel, or a T200 of 0. */
+bool um_datalink_new(um_datalink *link, uint8_t role, uint8_t channel, uint8_t t200, uint8_t t200_sapi3) UM_CALL;
+
+/* Whether the struct is a data link (one that was stored and read back, say). All other calls test it too. */
+bool um_datalink_valid(const um_datalink *link) UM_CALL;
+
+/* Opens the link of SAPI 0, at the mobile, with contention resolution: info, 1 to 20 octets (18 on SACCH), identifies the mobile. */
+UM_ENUM(um_answer) um_datalink_open(um_datalink *link, const um_message *info) UM_CALL;
+
+/* Opens the link of SAPI 3, at either side. If it is closed, its end starts afresh first; so does an end of SAPI 3 that is closed and
+ * receives the SABM of the other side. */
+UM_ENUM(um_answer) um_datalink_open_bare(um_datalink *link) UM_CALL;
+
+/* Sends a message of 1 to 251 octets over the open link of this SAPI. The link holds at most eight messages that are not acknowledged;
+ * then UM_END_FULL. */
+UM_ENUM(um_answer) um_datalink_send(um_datalink *link, uint8_t sapi, const um_message *message) UM_CALL;
+
+/* Writes a UI frame with 1 to 20 octets (18 on SACCH) to `block`, for a slot in which um_datalink_next returned UM_END_FREE. */
+UM_ENUM(um_answer) um_datalink_unit(const um_datalink *link, uint8_t sapi, const um_message *message, const uint8_t layer1[2],
+                                    uint8_t block[23]) UM_CALL;
+
+/* Releases the link of this SAPI. Messages not acknowledged are discarded. */
+UM_ENUM(um_answer) um_datalink_close(um_datalink *link, uint8_t sapi) UM_CALL;
+
+/* Local end release: the end of this SAPI starts afresh (idle, nothing held). Nothing is sent and nothing reported. */
+UM_ENUM(um_answer) um_datalink_close_local(um_datalink *link, uint8_t sapi) UM_CALL;
+
+/* At a mobile on SACCH: says whether SAPI 0 of the main channel is established (not said: no). On SDCCH and at the network it has no
+ * effect. */
+UM_ENUM(um_answer) um_datalink_main(um_datalink *link, bool established) UM_CALL;
+
+/* Processes a received block. UM_END_NO_FRAME: the octets are not a frame. */
+UM_ENUM(um_answer) um_datalink_take(um_datalink *link, const uint8_t block[23], um_report *report) UM_CALL;
+
+/* Writes the block for this slot. UM_END_DONE: a frame of SAPI 0 or 3. UM_END_FREE: nothing is to be sent, and the block is the fill
+ * frame. The report has the links that were given up (UM_ENDED, UM_FAILED). */
+UM_ENUM(um_answer) um_datalink_next(um_datalink *link, const uint8_t layer1[2], uint8_t block[23], um_report *report) UM_CALL;
 
 #ifdef __cplusplus
 }

@@ -65,7 +65,8 @@ static inline void um_osmo_bsic(uint8_t bits[6], uint8_t bsic)
 static inline int um_xcch_encode(ubit_t *bursts, const uint8_t *l2_data)
 {
 	uint8_t whole[4][148];
-	um_send_block(l2_data, 0, whole);
+	if (!um_send_block(l2_data, 0, whole))
+		return -1;
 	for (int i = 0; i < 4; i++) {
 		memcpy(bursts + 116 * i, whole[i] + 3, 58);
 		memcpy(bursts + 116 * i + 58, whole[i] + 87, 58);
@@ -73,24 +74,33 @@ static inline int um_xcch_encode(ubit_t *bursts, const uint8_t *l2_data)
 	return 0;
 }
 
-/* 0 if the CRC holds, else -1 with l2_data unchanged. n_errors counts against the most likely word in both cases. */
-static inline int um_xcch_decode(uint8_t *l2_data, const sbit_t *bursts, int *n_errors, int *n_bits_total)
+/* 0 if the CRC holds, else -1 with l2_data unchanged. n_errors counts against the accepted word, or the most likely one. A call of our
+ * own: `most`, 1 to 64, is the number of words that are tried (um_receive_block_among); with another number the answer is -1. */
+static inline int um_xcch_decode_among(uint8_t *l2_data, const sbit_t *bursts, int most, int *n_errors, int *n_bits_total)
 {
 	int8_t whole[4][148] = { { 0 } };
 	um_block_report report;
+	uint32_t rank;
 	for (int i = 0; i < 4; i++) {
 		um_osmo_soft(whole[i] + 3, bursts + 116 * i, 58);
 		um_osmo_soft(whole[i] + 87, bursts + 116 * i + 58, 58);
 	}
-	um_receive_block((const int8_t (*)[148])whole, &report);
+	bool is_read = most == 1 ? um_receive_block((const int8_t (*)[148])whole, &report)
+		: um_receive_block_among((const int8_t (*)[148])whole, (uint32_t)most, &report, &rank);
 	if (n_errors)
-		*n_errors = (int)report.wrong_coded;
+		*n_errors = is_read ? (int)report.wrong_coded : 456;
 	if (n_bits_total)
 		*n_bits_total = 456;
-	if (!report.accepted)
+	if (!is_read || !report.accepted)
 		return -1;
 	memcpy(l2_data, report.octets, 23);
 	return 0;
+}
+
+/* Decides by the most likely word, as libosmocoding does. */
+static inline int um_xcch_decode(uint8_t *l2_data, const sbit_t *bursts, int *n_errors, int *n_bits_total)
+{
+	return um_xcch_decode_among(l2_data, bursts, 1, n_errors, n_bits_total);
 }
 
 /* Writes the 36 coded bits of an access burst of 8 bits. */
@@ -99,7 +109,8 @@ static inline int um_rach_encode(ubit_t *burst, const uint8_t *ra, uint8_t bsic)
 	uint8_t info[8], code[6], whole[88];
 	um_osmo_bits(info, *ra, 8);
 	um_osmo_bsic(code, bsic);
-	um_send_access(info, code, whole);
+	if (!um_send_access(info, code, whole))
+		return -1;
 	memcpy(burst, whole + 49, 36);
 	return 0;
 }
@@ -111,12 +122,12 @@ static inline int um_rach_decode_ber(uint8_t *ra, const sbit_t *burst, uint8_t b
 	um_access_report report;
 	um_osmo_soft(whole + 49, burst, 36);
 	um_osmo_bsic(code, bsic);
-	um_receive_access(whole, code, &report);
+	bool is_read = um_receive_access(whole, code, &report);
 	if (n_errors)
-		*n_errors = (int)report.wrong_coded;
+		*n_errors = is_read ? (int)report.wrong_coded : 36;
 	if (n_bits_total)
 		*n_bits_total = 36;
-	if (!report.accepted)
+	if (!is_read || !report.accepted)
 		return -1;
 	*ra = (uint8_t)um_osmo_number(report.info, 8);
 	return 0;
@@ -134,7 +145,8 @@ static inline int um_sch_encode(ubit_t *burst, const uint8_t *sb_info)
 	for (int i = 0; i < 3; i++)
 		um_osmo_bits(info + 8 * i, sb_info[i], 8);
 	info[24] = sb_info[3] & 1;
-	um_send_sync(info, whole);
+	if (!um_send_sync(info, whole))
+		return -1;
 	memcpy(burst, whole + 3, 39);
 	memcpy(burst + 39, whole + 106, 39);
 	return 0;
@@ -147,8 +159,7 @@ static inline int um_sch_decode(uint8_t *sb_info, const sbit_t *burst)
 	um_sync_report report;
 	um_osmo_soft(whole + 3, burst, 39);
 	um_osmo_soft(whole + 106, burst + 39, 39);
-	um_receive_sync(whole, &report);
-	if (!report.accepted)
+	if (!um_receive_sync(whole, &report) || !report.accepted)
 		return -1;
 	for (int i = 0; i < 3; i++)
 		sb_info[i] = (uint8_t)um_osmo_number(report.info + 8 * i, 8);

@@ -1,13 +1,22 @@
-"""Packs libum.so.0 into the wheel. The wheel depends on the platform, but not on the version of Python.
+"""Packs the shared library and the loops in C into the wheel. The wheel depends on the platform, but not on the version of Python.
 
-The library comes from dist/ARCH-linux, where ARCH is this machine's or UM_WHEEL_ARCH (x86_64, aarch64); UM_SO overrides the path. Builds
-are reproducible: the same sources and library yield the same wheel, bit for bit."""
+Without a C compiler, or for another machine, the wheel has no loops in C, and the package loops in Python.
+
+The library comes from a folder of dist/: this machine's, or UM_WHEEL (x86_64-linux, aarch64-linux, x86_64-windows, x86_64-macos,
+arm64-macos); UM_SO overrides the path. Builds are reproducible: the same sources and library yield the same wheel, bit for bit."""
 import os
 import pathlib
 import platform
 import shutil
 
-from setuptools import Distribution, setup
+import setuptools
+
+if int(setuptools.__version__.split(".")[0]) < 61:
+    raise SystemExit(
+        f"um: setuptools is {setuptools.__version__}; expected 61 or later, which reads pyproject.toml. Without --no-build-isolation pip "
+        f"fetches one; without a network set PYTHONPATH=bindings/python, which needs no installation.")
+
+from setuptools import Distribution, Extension, setup
 from setuptools.command.build_py import build_py
 
 try:
@@ -16,8 +25,21 @@ except ImportError:
     from wheel.bdist_wheel import bdist_wheel
 
 ROOT = pathlib.Path(__file__).resolve().parents[2]
-ARCH = os.environ.get("UM_WHEEL_ARCH", platform.machine())
-LIBRARY = pathlib.Path(os.environ.get("UM_SO", str(ROOT / "dist" / f"{ARCH}-linux" / "libum.so.0")))
+SYSTEM = {"Windows": "windows", "Darwin": "macos"}.get(platform.system(), "linux")
+HERE = platform.machine().replace("AMD64", "x86_64") + "-" + SYSTEM
+FOLDER = os.environ.get("UM_WHEEL", HERE)
+# by the folder in dist/: the library, and the platform of the wheel
+WHEELS = {
+    "x86_64-linux": ("libum.so.0", "manylinux2014_x86_64"),
+    "aarch64-linux": ("libum.so.0", "manylinux2014_aarch64"),
+    "x86_64-windows": ("um.dll", "win_amd64"),
+    "x86_64-macos": ("libum.0.dylib", "macosx_11_0_x86_64"),
+    "arm64-macos": ("libum.0.dylib", "macosx_11_0_arm64"),
+}
+if FOLDER not in WHEELS:
+    raise SystemExit(f"um: there is no library for {FOLDER}; UM_WHEEL is one of {', '.join(WHEELS)}")
+NAME, PLATFORM = WHEELS[FOLDER]
+LIBRARY = pathlib.Path(os.environ.get("UM_SO", str(ROOT / "dist" / FOLDER / NAME)))
 os.environ.setdefault("SOURCE_DATE_EPOCH", "315532800")  # 1980, the earliest timestamp that a wheel can have
 
 
@@ -28,15 +50,16 @@ class WithLibrary(build_py):
             return
         if not LIBRARY.exists():
             raise SystemExit(
-                f"um: {LIBRARY}, which the wheel contains, is missing. A release has it in dist/{ARCH}-linux; UM_SO overrides the path. "
+                f"um: {LIBRARY}, which the wheel contains, is missing. A release has it in dist/{FOLDER}; UM_SO overrides the path. "
                 f"bindings/python/um/_library.py describes how to build it. pip must be 21.3 or later, which builds in the checkout.")
-        for source, name in ((LIBRARY, "libum.so.0"), (ROOT / "LICENSE", "LICENSE")):
+        for source, name in ((LIBRARY, NAME), (ROOT / "LICENSE", "LICENSE")):
             shutil.copyfile(source, os.path.join(self.build_lib, "um", name))
 
 
 class PlatformWheel(bdist_wheel):
     def get_tag(self):
-        return "py3", "none", f"manylinux2014_{ARCH}"
+        in_c = any(file.suffix in (".so", ".pyd") for file in pathlib.Path(self.bdist_dir, "um").glob("_loops.*"))
+        return (*(("cp38", "abi3") if in_c else ("py3", "none")), PLATFORM)
 
 
 class OfAPlatform(Distribution):
@@ -44,4 +67,11 @@ class OfAPlatform(Distribution):
         return True
 
 
-setup(cmdclass={"bdist_wheel": PlatformWheel, "build_py": WithLibrary}, distclass=OfAPlatform)
+# without debug information, which has the path of the build
+LOOPS = Extension(
+    "um._loops", ["um/_loops.c"], include_dirs=[str(ROOT / "bindings" / "c")], extra_compile_args=["-O2", "-g0"], py_limited_api=True,
+    optional=True)
+
+setup(
+    cmdclass={"bdist_wheel": PlatformWheel, "build_py": WithLibrary}, distclass=OfAPlatform,
+    ext_modules=[LOOPS] if FOLDER == HERE else [])

@@ -1,12 +1,9 @@
 /* Decodes LAPDm frames from blocks of SDCCH and SACCH. On SACCH two layer 1 octets come first: power level and timing advance.
  *
  *   cc -Ibindings/c examples/c/frames.c dist/x86_64-linux/libum.a -o frames && ./frames */
-#include "um.h"
+#include "um_more.h"
 #include <stdio.h>
 #include <string.h>
-
-static const char *const kinds[] = { "i", "rr", "rnr", "rej", "sabm", "dm", "ui", "disc", "ua" };
-static const char *const readings[] = { "", "lpd", "ea", "control", "el", "length", "empty", "more" };
 
 /* The first octets of each block; fill octets 2b follow. */
 static const struct { uint8_t channel; const char *first; } blocks[] = {
@@ -36,14 +33,14 @@ int main(void)
 		um_frame frame;
 		read_octets(blocks[i].first, octets);
 		printf("%s: ", channel == UM_SACCH ? "SACCH" : "SDCCH");
-		uint8_t reading = um_read_frame(octets, channel, &frame);
+		enum um_reading reading = um_read_frame(octets, channel, &frame);
 		if (reading != UM_FRAME) {
-			printf("not a frame (%s)\n", readings[reading]);
+			printf("not a frame (%s)\n", um_reading_name(reading));
 			continue;
 		}
 		if (channel == UM_SACCH)
 			printf("power level %u, timing advance %u, ", octets[0] & 31u, octets[1]);
-		printf("%s sapi %u cr %u pf %u ns %u nr %u more %u info ", kinds[frame.kind], frame.sapi, frame.cr, frame.pf, frame.ns,
+		printf("%s sapi %u cr %u pf %u ns %u nr %u more %u info ", um_kind_name(frame.kind), frame.sapi, frame.cr, frame.pf, frame.ns,
 			frame.nr, frame.more);
 		for (int k = 0; k < frame.count; k++)
 			printf("%02x", frame.info[k]);

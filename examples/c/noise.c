@@ -4,6 +4,7 @@
 #include "air.h"
 #include "um.h"
 #include <stdio.h>
+#include <stdlib.h>
 #include <string.h>
 
 static void run(int strength)
@@ -16,15 +17,17 @@ static void run(int strength)
 		uint32_t rank;
 		for (int i = 0; i < 23; i++)
 			octets[i] = (uint8_t)(air_random() >> 24);
-		um_send_block(octets, 7, bursts);
+		if (!um_send_block(octets, 7, bursts))
+			abort();
 		for (int b = 0; b < 4; b++)
 			for (int i = 0; i < 148; i++)
 				soft[b][i] = air_soft(bursts[b][i], strength);
-		um_receive_block((const int8_t (*)[148])soft, &report);
-		alone += report.accepted;
-		um_receive_block_among((const int8_t (*)[148])soft, 64, &report, &rank);
-		among += report.accepted;
-		wrong += report.accepted && memcmp(report.octets, octets, 23) != 0;
+		if (um_receive_block((const int8_t (*)[148])soft, &report) && report.accepted)
+			alone++;
+		if (um_receive_block_among((const int8_t (*)[148])soft, 64, &report, &rank) && report.accepted) {
+			among++;
+			wrong += memcmp(report.octets, octets, 23) != 0;
+		}
 	}
 	printf("noise %d: of 100 blocks %d by the most likely word, %d among 64 words, %d wrong\n", strength, alone, among, wrong);
 }

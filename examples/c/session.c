@@ -6,7 +6,7 @@
  *
  *   cc -Ibindings/c examples/c/session.c dist/x86_64-linux/libum.a -o session && ./session */
 #include "air.h"
-#include "um.h"
+#include "um_more.h"
 #include <stdio.h>
 #include <string.h>
 
@@ -20,7 +20,6 @@ typedef struct {
 	int opened, got, acked, closed;
 } side;
 
-static const char *const kinds[] = { "i", "rr", "rnr", "rej", "sabm", "dm", "ui", "disc", "ua" };
 static int now;
 
 static um_message message_of(int count)
@@ -64,13 +63,15 @@ static bool is_received(const uint8_t sent[23], uint8_t octets[23])
 	uint8_t bursts[4][148];
 	int8_t soft[4][148];
 	um_block_report report;
-	um_send_block(sent, 7, bursts);
+	if (!um_send_block(sent, 7, bursts))
+		return false;
 	for (int b = 0; b < 4; b++)
 		for (int i = 0; i < 148; i++)
 			soft[b][i] = air_soft(bursts[b][i], strength);
-	um_receive_block((const int8_t (*)[148])soft, &report);
+	if (!um_receive_block((const int8_t (*)[148])soft, &report) || !report.accepted)
+		return false;
 	memcpy(octets, report.octets, 23);
-	return report.accepted;
+	return true;
 }
 
 /* Runs one slot of an endpoint: T200 may expire, and the first queued block goes on the air. */
@@ -86,10 +87,11 @@ static void slot(side *s, side *other)
 	if (s->queued == 0)
 		return;
 	bool is_there = is_received(s->queue[0], octets);
-	um_read_frame(s->queue[0], UM_SDCCH, &frame);
-	printf("%5d ms  %-7s sends %s%s\n", now, s->name, kinds[frame.kind], is_there ? "" : ", which is lost");
-	if (frame.kind == UM_SABM || frame.kind == UM_DISC || frame.kind == UM_I)
-		s->timer = T200;
+	if (um_read_frame(s->queue[0], UM_SDCCH, &frame) == UM_FRAME) {
+		printf("%5d ms  %-7s sends %s%s\n", now, s->name, um_kind_name(frame.kind), is_there ? "" : ", which is lost");
+		if (frame.kind == UM_SABM || frame.kind == UM_DISC || frame.kind == UM_I)
+			s->timer = T200;
+	}
 	memmove(s->queue[0], s->queue[1], sizeof s->queue - 23);
 	s->queued--;
 	if (is_there && um_end_take(&other->end, octets, &effects) == UM_END_DONE)
@@ -103,8 +105,8 @@ int main(void)
 	um_effects effects;
 	um_end_new(&mobile.end, UM_MOBILE, 0, UM_SDCCH);
 	um_end_new(&network.end, UM_NETWORK, 0, UM_SDCCH);
-	um_end_open(&mobile.end, &info, &effects);
-	queue(&mobile, &effects);
+	if (um_end_open(&mobile.end, &info, &effects) == UM_END_DONE)
+		queue(&mobile, &effects);
 	for (int line = 0; line < LINES && !(mobile.closed && network.closed); line++, now += SLOT) {
 		int mobile_was = mobile.opened, network_was = network.opened, done = mobile.acked == 2 && network.acked == 1;
 		slot(&mobile, &network);

@@ -1,12 +1,8 @@
 // A noisy radio path for the examples: converts hard bits to noisy soft bits. Every language's example draws the same numbers.
 #ifndef AIR_HPP
 #define AIR_HPP
+#include "um.hpp"
 #include <algorithm>
-#include <array>
-#include <cstdint>
-
-using Octets = std::array<std::uint8_t, 23>;
-using Soft = std::int8_t[4][148];
 
 class Air {
 public:
@@ -28,11 +24,11 @@ public:
 		return static_cast<std::int8_t>(std::clamp((bit ? -64 : 64) + noise * strength / 148, -127, 127));
 	}
 
-	void soften(const std::uint8_t (&bursts)[4][148], int strength, Soft &values)
+	um::block_soft soften(const um::block_bits &bits, int strength)
 	{
-		for (int b = 0; b < 4; b++)
-			for (int i = 0; i < 148; i++)
-				values[b][i] = soft(bursts[b][i], strength);
+		um::block_soft values;
+		std::transform(bits.begin(), bits.end(), values.begin(), [&](std::uint8_t bit) { return soft(bit, strength); });
+		return values;
 	}
 
 private:

@@ -6,113 +6,92 @@
 //
 //   c++ -std=c++17 -Ibindings/c examples/cpp/session.cpp dist/x86_64-linux/libum.a -o session && ./session
 #include "air.hpp"
-#include "um.h"
 #include <cstdio>
 #include <deque>
 #include <numeric>
-#include <optional>
 #include <string>
+#include <vector>
 
 constexpr int slot_ms = 235, t200_slots = 4, most_slots = 200;
 
-static um_message message_of(std::uint8_t count)
+static std::vector<std::uint8_t> message_of(std::size_t count)
 {
-	um_message message = {};
-	message.count = count;
-	std::iota(message.octets, message.octets + count, std::uint8_t(0));
-	return message;
+	std::vector<std::uint8_t> octets(count);
+	std::iota(octets.begin(), octets.end(), std::uint8_t(0));
+	return octets;
 }
 
 // Sends a block over the noisy path; one in four fades.
-static std::optional<Octets> received(Air &air, const Octets &sent)
+static std::optional<um::block> received(Air &air, const um::block &sent)
 {
 	const int strength = air.random() >> 30 == 0 ? 250 : 40;
-	std::uint8_t bursts[4][148];
-	Soft soft;
-	um_block_report report;
-	um_send_block(sent.data(), 7, bursts);
-	air.soften(bursts, strength, soft);
-	um_receive_block(soft, &report);
-	if (!report.accepted)
-		return std::nullopt;
-	Octets octets;
-	std::copy(report.octets, report.octets + 23, octets.begin());
-	return octets;
+	return um::receive_block(air.soften(*um::send_block(sent, 7), strength))->data();
 }
 
 class Side {
 public:
 	int opened = 0, got = 0, acked = 0, closed = 0;
 
-	Side(um_role role, std::string name) : name(std::move(name)) { um_end_new(&end, role, 0, UM_SDCCH); }
+	explicit Side(um::role role) : end(role), name(um::name(role)) {}
 
-	void open(const um_message &info) { done(um_end_open(&end, &info, &effects)); }
-	void send(const um_message &message) { done(um_end_send(&end, &message, &effects)); }
-	void close() { done(um_end_close(&end, &effects)); }
+	void open(const um::message &info) { done(end.open(info)); }
+	void send(const um::message &message) { done(end.send(message)); }
+	void close() { done(end.close()); }
 
 	// Runs one slot of an endpoint: T200 may expire, and the first queued block goes on the air.
 	void slot(Air &air, Side &other, int time)
 	{
 		now = other.now = time;
-		if (timer && --timer == 0 && um_end_timer(&end, &effects) == UM_END_DONE) {
+		if (timer && --timer == 0 && end.timer_runs()) {
 			say("T200 expires");
-			take_effects();
+			done(end.timer());
 		}
 		if (queue.empty())
 			return;
-		const Octets sent = queue.front();
+		const um::block sent = queue.front();
 		queue.pop_front();
 		const auto there = received(air, sent);
-		um_frame frame;
-		um_read_frame(sent.data(), UM_SDCCH, &frame);
-		static const char *const kinds[] = {"i", "rr", "rnr", "rej", "sabm", "dm", "ui", "disc", "ua"};
-		say(std::string("sends ") + kinds[frame.kind] + (there ? "" : ", which is lost"));
-		if (frame.kind == UM_SABM || frame.kind == UM_DISC || frame.kind == UM_I)
+		const auto frame = um::read_frame(sent);
+		say("sends " + std::string(um::name(frame->type())) + (there ? "" : ", which is lost"));
+		if (frame->awaits_answer())
 			timer = t200_slots;
 		if (there)
-			other.done(um_end_take(&other.end, there->data(), &other.effects));
+			other.done(other.end.take(*there));
 	}
 
 private:
+	um::end end;
 	std::string name;
-	um_end end;
-	um_effects effects;
-	std::deque<Octets> queue;
+	std::deque<um::block> queue;
 	int now = 0, timer = 0; // `timer`: slots until T200 expires, or 0 if it does not run
 
 	void say(const std::string &what) const { std::printf("%5d ms  %-7s %s\n", now, name.c_str(), what.c_str()); }
 
-	void done(std::uint8_t answer)
+	void done(const um::effects &effects)
 	{
-		if (answer == UM_END_DONE)
-			take_effects();
+		for (const um::block &octets : effects.frames())
+			queue.push_back(octets);
+		for (const um::notice &notice : effects.notices())
+			tell(notice);
 	}
 
-	void take_effects()
-	{
-		for (int i = 0; i < effects.frame_count; i++) {
-			queue.emplace_back();
-			std::copy(effects.frames[i], effects.frames[i] + 23, queue.back().begin());
-		}
-		for (int i = 0; i < effects.notice_count; i++)
-			tell(effects.notices[i]);
-	}
-
-	void tell(const um_notice &notice)
+	void tell(const um::notice &notice)
 	{
 		switch (notice.kind) {
-		case UM_OPENED:
+		case um::notice_kind::opened:
 			opened++;
 			return say("is open");
-		case UM_GOT:
+		case um::notice_kind::got:
 			got++;
-			return say("got a message of " + std::to_string(notice.message.count) + " octets");
-		case UM_ACKED:
+			return say("got a message of " + std::to_string(notice.count) + " octets");
+		case um::notice_kind::acked:
 			acked++;
 			return say("has message " + std::to_string(notice.number) + " acknowledged");
-		case UM_ENDED:
+		case um::notice_kind::closed:
 			closed++;
-			return say(notice.reason == UM_RELEASED ? "is closed" : "has failed");
+			return say(notice.reason == um::reason::released ? "is closed" : "has failed");
+		default:
+			return;
 		}
 	}
 };
@@ -120,7 +99,7 @@ private:
 int main()
 {
 	Air air;
-	Side mobile(UM_MOBILE, "mobile"), network(UM_NETWORK, "network");
+	Side mobile(um::role::mobile), network(um::role::network);
 	mobile.open(message_of(9));
 	for (int at = 0; at < most_slots && !(mobile.closed && network.closed); at++) {
 		const int mobile_was = mobile.opened, network_was = network.opened;

@@ -9,7 +9,10 @@ keeps, for each link, a transmit queue and the time at which T200 expires:
 - SAPI 0 has priority over SAPI 3.
 - T200 starts when a SABM, DISC or I frame goes on the air. It does not run while the frame is queued.
 - T200 exceeds the round trip: one block for the answer, and one for a frame that the peer may have queued before it. A received block of
-  the other link took the slot of the answer, so it extends T200 by one block.
+  the other link took the slot of the answer, so it extends T200 by one block. A UI frame took no slot: the peer sends fill, system
+  information or a measurement report only if nothing else is queued.
+- A mobile drops frames of SAPI 3 until SAPI 0 is open, and after it has ended: they may be for another mobile, with which it contends for
+  the channel. On SACCH the SAPI 0 that counts is that of SDCCH, so there the caller decides.
 - The window is one frame. So a SABM, DISC or I frame replaces the one still queued, which is a copy or already acknowledged.
 - A REJ is passed to the endpoint as an RR with the same N(R). With a window of one frame, a REJ asks for a frame that T200 retransmits
   anyway, or for the frame after a duplicate, which need not be repeated. Delivery is still guaranteed (law_rr_may_replace_rej of lapdm_link).
@@ -21,7 +24,9 @@ To the peer, a frame dropped from the queue looks like a block lost on the air. 
 import um
 
 SAPIS = (0, 3)
-LEAST_BLOCKS = 4  # T200: one block for the frame, one for the answer, one queued before it, and one in reserve
+# T200: one block for the frame, one for the answer, one queued before it, and one in reserve. osmo-bts answers in the next block and its
+# network soon gives up, so a mobile of such a network sets t200 to two blocks afterwards (docs/INTEROP.md).
+LEAST_BLOCKS = 4
 SUPERVISORY = ("rr", "rnr", "rej")
 STARTS_T200 = ("i", "sabm", "disc")
 
@@ -67,14 +72,19 @@ class Channel:
     def take(self, block):
         """Processes a received block. ValueError if the octets are not a frame."""
         frame = um.read_frame(block, self.channel)
-        fill = frame.kind == "ui" and not frame.info
         if frame.kind == "rej":
             block = um.write_frame(frame._replace(kind="rr"), self.channel)
         for sapi in SAPIS:
             if sapi == frame.sapi:
+                if sapi == 3 and not self._hears_sapi3():
+                    continue
                 self.done(sapi, self.ends[sapi].take(block))
-            elif self.expiry[sapi] is not None and not fill:
+            elif self.expiry[sapi] is not None and frame.kind != "ui":
                 self.expiry[sapi] += self.block
+
+    def _hears_sapi3(self):
+        end = self.ends[0]
+        return end.role == "network" or self.channel == um.SACCH or end.state in ("open", "closing")
 
     def next(self, now):
         """The frame and the block to send now; None and the fill frame if nothing is queued."""

@@ -5,11 +5,13 @@
 RECORDING is a .npy array, n x 4 x 148 or n x 592, or a raw file of int8, 592 octets per block: the normal bursts of n blocks, from -127
 (certainly 1) to 127 (certainly 0); 0 means unknown. Floats are taken as log-likelihood ratios, ln P(0)/P(1). Blocks are decoded by list
 decoding with 64 words. Needs numpy."""
+import signal
 import sys
 
 import numpy
 import um
 
+signal.signal(signal.SIGPIPE, signal.SIG_DFL)  # end quietly when the reader ends
 BURST, GAP, ROW, LEFT = 222, 6, 14, 36
 SURE = ("#dbe5ee", "#a9c1d6", "#6f97b9", "#2f6690")
 WRONG, LOST = "#d1495b", "#f2f2f2"

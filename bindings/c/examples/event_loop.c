@@ -8,7 +8,10 @@
  *   - SAPI 0 has priority over SAPI 3.
  *   - T200 starts when a SABM, DISC or I frame goes on the air. It does not run while the frame is queued.
  *   - T200 exceeds the round trip: one block for the answer, and one for a frame that the peer may have queued before it. A received
- *     block of the other link took the slot of the answer, so it extends T200 by one block.
+ *     block of the other link took the slot of the answer, so it extends T200 by one block. A UI frame took no slot: the peer sends
+ *     fill, system information or a measurement report only if nothing else is queued.
+ *   - A mobile drops frames of SAPI 3 until SAPI 0 is open, and after it has ended: they may be for another mobile, with which it
+ *     contends for the channel. On SACCH the SAPI 0 that counts is that of SDCCH, so there the caller decides.
  *   - The window is one frame. So a SABM, DISC or I frame replaces the one still queued, which is a copy or already acknowledged.
  *   - A REJ is passed to the endpoint as an RR with the same N(R). With a window of one frame, a REJ asks for a frame that T200
  *     retransmits anyway, or for the frame after a duplicate, which need not be repeated. Delivery is still guaranteed
@@ -17,7 +20,7 @@
  *     I frame is. A frame with F = 1 answers a poll and stays.
  *
  * To the peer, a frame dropped from the queue looks like a block lost on the air. Times are in TDMA frames of 60/13 ms. */
-#include "um.h"
+#include "um_more.h"
 #include <stdio.h>
 #include <string.h>
 
@@ -34,7 +37,8 @@ typedef struct channel {
 	void *context;                    /* for the caller */
 } channel;
 
-/* T200 is at least four blocks: one for the frame, one for the answer, one queued before it, and one in reserve. */
+/* T200 is at least four blocks: one for the frame, one for the answer, one queued before it, and one in reserve. osmo-bts answers in the
+ * next block and its network soon gives up, so a mobile of such a network sets t200 to two blocks afterwards (docs/INTEROP.md). */
 static void channel_new(channel *c, uint8_t role, uint8_t on, long t200, void (*report)(channel *, int, const um_notice *), void *context)
 {
 	memset(c, 0, sizeof *c);
@@ -69,9 +73,8 @@ static bool is_outdated(const um_frame *old, const um_frame *later)
 
 static um_frame frame_of(const channel *c, const uint8_t block[23])
 {
-	um_frame f = { .kind = UM_UI };
-	um_read_frame(block, c->ends[0].channel, &f);
-	return f;
+	um_frame f;
+	return um_read_frame(block, c->ends[0].channel, &f) == UM_FRAME ? f : (um_frame){ .kind = UM_UI };
 }
 
 static void drop(channel *c, int link, int at)
@@ -112,6 +115,13 @@ static void channel_done(channel *c, int link, const um_effects *done)
 		c->report(c, link, &done->notices[i]);
 }
 
+static bool hears_sapi3(const channel *c)
+{
+	const um_end *signalling = &c->ends[0];
+	return signalling->role == UM_NETWORK || signalling->channel == UM_SACCH || signalling->state == UM_OPEN ||
+	       signalling->state == UM_CLOSING;
+}
+
 /* Processes a received block. Returns the answer of um_end_take for its link. */
 static uint8_t channel_take(channel *c, const uint8_t block[23])
 {
@@ -123,15 +133,17 @@ static uint8_t channel_take(channel *c, const uint8_t block[23])
 	memcpy(heard, block, 23);
 	if (f.kind == UM_REJ) {
 		f.kind = UM_RR;
-		um_write_frame(&f, c->ends[0].channel, heard);
+		if (!um_write_frame(&f, c->ends[0].channel, heard))
+			return UM_END_NO_FRAME;
 	}
-	bool fill = f.kind == UM_UI && f.count == 0;
 	for (int link = 0; link < LINKS; link++) {
 		if (SAPIS[link] == f.sapi) {
+			if (link == 1 && !hears_sapi3(c))
+				continue;
 			answer = um_end_take(&c->ends[link], heard, &done);
 			if (answer == UM_END_DONE)
 				channel_done(c, link, &done);
-		} else if (c->expiry[link] && !fill)
+		} else if (c->expiry[link] && f.kind != UM_UI)
 			c->expiry[link] += c->block;
 	}
 	return answer;
@@ -173,8 +185,7 @@ static void channel_timers(channel *c, long now)
 
 static void say(channel *c, int link, const um_notice *n)
 {
-	static const char *const kinds[] = { "", "opened", "got", "unit", "acked", "oversize", "closed" };
-	printf("%s SAPI %d: %s", (const char *)c->context, SAPIS[link], kinds[n->kind]);
+	printf("%s SAPI %d: %s", (const char *)c->context, SAPIS[link], um_notice_name(n->kind));
 	if (n->kind == UM_GOT)
 		printf(" %d octets", n->message.count);
 	putchar('\n');
@@ -198,8 +209,8 @@ int main(void)
 
 	channel_new(&mobile, UM_MOBILE, UM_SDCCH, 204, say, "mobile");
 	channel_new(&network, UM_NETWORK, UM_SDCCH, 204, say, "network");
-	um_end_open(&mobile.ends[0], &info, &done);
-	channel_done(&mobile, 0, &done);
+	if (um_end_open(&mobile.ends[0], &info, &done) == UM_END_DONE)
+		channel_done(&mobile, 0, &done);
 	for (int place = 0; place < 80; place++) {
 		long now = place * mobile.block;
 		channel *sides[2] = { &mobile, &network };

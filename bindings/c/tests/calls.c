@@ -95,7 +95,7 @@ static void among(void)
 	int8_t soft[4][148];
 
 	memset(octets + 3, 0x2b, 20);
-	um_send_block(octets, 7, sent);
+	check(um_send_block(octets, 7, sent), "a block is encoded");
 	soften(sent[0], soft[0], 592);
 	for (int i = 0; i < 4; i++)
 		soft[places[i][0]][places[i][1]] *= -1;

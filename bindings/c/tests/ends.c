@@ -274,6 +274,25 @@ static void is_none(const um_end *spoiled, const char *what)
 
 #define SPOILED(from, change, what) do { um_end s = (from).end; change; is_none(&s, what); } while (0)
 
+/* Two mobiles that differ only in how often they repeated their SABM have the same state once the link is open. */
+static void equal(void)
+{
+	place once, thrice, network;
+	um_message info = { .count = 1, .octets = { 7 } };
+	um_effects sabm, ua;
+
+	memset(&once, 0, sizeof once);
+	memset(&thrice, 0, sizeof thrice);
+	begin(&network, UM_NETWORK, 0, UM_SDCCH);
+	check(um_end_new(&once.end, UM_MOBILE, 0, UM_SDCCH) && um_end_new(&thrice.end, UM_MOBILE, 0, UM_SDCCH), "two mobiles");
+	check(um_end_open(&once.end, &info, &sabm) == UM_END_DONE && um_end_open(&thrice.end, &info, &sabm) == UM_END_DONE, "two SABMs");
+	check(um_end_timer(&thrice.end, &sabm) == UM_END_DONE && um_end_timer(&thrice.end, &sabm) == UM_END_DONE, "the SABM twice more");
+	check(um_end_take(&network.end, sabm.frames[0], &ua) == UM_END_DONE && ua.frame_count == 1, "the UA");
+	check(um_end_take(&once.end, ua.frames[0], &sabm) == UM_END_DONE && um_end_take(&thrice.end, ua.frames[0], &sabm) == UM_END_DONE,
+		"the UA at both");
+	check(thrice.end.state == UM_OPEN && !memcmp(&once.end, &thrice.end, sizeof once.end), "states of the same endpoint are equal");
+}
+
 static void spoiled(void)
 {
 	static const uint8_t octets[41];
@@ -313,6 +332,15 @@ static void spoiled(void)
 	SPOILED(idle, s.part = UM_PART_OVER, "a message too long before the link is open");
 	SPOILED(idle, s.vs = 1, "a segment sent before the link is open");
 	SPOILED(bare, s.kept.count = 1, "information kept on SAPI 3");
+	SPOILED(idle, s.kept.count = 1, "information kept before the link was opened");
+	SPOILED(idle, s.part = UM_PART_WHOLE, "a whole message without octets");
+	SPOILED(idle, s.retries = 1, "a SABM repeated before the link was opened");
+	SPOILED(idle, s.repeats = 1, "an I frame repeated before the link was opened");
+	SPOILED(idle, s.state = UM_OPENING, "a SABM of SAPI 0 without information");
+	SPOILED(mobile, s.kept.count = 0, "an open link of SAPI 0 without information");
+	SPOILED(mobile, s.retries = 1, "a SABM repeated on an open link");
+	SPOILED(network, s.repeats = 1, "an I frame repeated that is not outstanding");
+	SPOILED(network, s.state = UM_OPENING, "a network that opens SAPI 0");
 	um_effects last;
 	um_end closing = mobile.end;
 	check(um_end_close(&closing, &last) == UM_END_DONE, "a link that is closed with a message held");
@@ -321,6 +349,7 @@ static void spoiled(void)
 	closed.end = closing;
 	SPOILED(closed, s.held_count = 0, "an outstanding segment of no message, after the link was open");
 	SPOILED(closed, s.place = 1, "a segment skipped, after the link was open");
+	SPOILED(closed, s.repeats = 1, "an I frame repeated while the link is closed");
 
 	memset(&idle, 0xa5, sizeof idle);
 	check(!um_end_new(&idle.end, 2, 0, UM_SDCCH) && !um_end_new(&idle.end, UM_MOBILE, 1, UM_SDCCH)
@@ -351,7 +380,8 @@ int main(void)
 	session(UM_SACCH);
 	short_messages();
 	spoiled();
+	equal();
 	if (!failed)
-		printf("library: endpoints from C: sessions on both channels and SAPIs, each refusal, 29 invalid states\n");
+		printf("library: endpoints from C: sessions on both channels and SAPIs, each refusal, 39 invalid states\n");
 	return failed;
 }

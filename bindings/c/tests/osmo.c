@@ -1,10 +1,20 @@
-/* Tests um_osmo.h, with libosmocoding's names, on the repository's vectors, which libosmocoding made: the encoded bits, decoding with
- * erased bits and with -128 for a certain 1, the counts, and that a refusal writes nothing.
+/* Tests um_osmo.h (with UM_OSMO_OWN_NAMES: libum_osmo.so) on the repository's vectors, which libosmocoding made, under libosmocoding's
+ * names: the encoded bits, decoding with erased bits and with -128 for a certain 1, the counts, and that a refusal writes nothing.
  *
  *   osmo CODE.IN CODE.OUT */
 #include "um_osmo.h"
 #include <stdio.h>
 #include <stdlib.h>
+
+#ifdef UM_OSMO_OWN_NAMES
+int gsm0503_xcch_encode(ubit_t *bursts, const uint8_t *l2_data);
+int gsm0503_xcch_decode(uint8_t *l2_data, const sbit_t *bursts, int *n_errors, int *n_bits_total);
+int gsm0503_rach_encode(ubit_t *burst, const uint8_t *ra, uint8_t bsic);
+int gsm0503_rach_decode(uint8_t *ra, const sbit_t *burst, uint8_t bsic);
+int gsm0503_rach_decode_ber(uint8_t *ra, const sbit_t *burst, uint8_t bsic, int *n_errors, int *n_bits_total);
+int gsm0503_sch_encode(ubit_t *burst, const uint8_t *sb_info);
+int gsm0503_sch_decode(uint8_t *sb_info, const sbit_t *burst);
+#endif
 
 static int failed, counts[3];
 

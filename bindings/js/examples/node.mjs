@@ -1,13 +1,13 @@
 // Sends a block over a noisy channel, and a message over a link that loses a frame.
 //
 //   cp dist/wasm/um.wasm bindings/js/ && node bindings/js/examples/node.mjs
-import { load, soften } from "um-gsm";
+import { load, softFromBits } from "um-gsm";
 
 const um = await load();
 const hex = (octets) => Buffer.from(octets).toString("hex");
 
 const octets = um.writeFrame({ kind: "i", ns: 5, nr: 2, info: [6, 1] });
-const soft = soften(um.sendBlock(octets, 7));
+const soft = softFromBits(um.sendBlock(octets, 7));
 for (const place of [3, 200, 410]) soft[place] = -soft[place];
 soft.fill(0, 148, 296); // the second burst is lost
 const { accepted, tsc, wrongCoded } = um.receiveBlock(soft);

@@ -1,6 +1,7 @@
 /* Prints the native library's answers for compare.mjs, one per line: 2,000 noisy blocks, then 20,000 calls of endpoints and 20,000 of
  * sides. Both programs draw the same random numbers by xorshift and use only integers, so rounding cannot make them differ. */
 #include "um.h"
+#include <stddef.h>
 #include <stdio.h>
 #include <string.h>
 
@@ -203,11 +204,14 @@ static int call_side(struct sides *s, int who, uint8_t *taken, um_effects *effec
 	}
 }
 
-static uint32_t hash(const void *bytes, size_t count)
+/* The fields of one or two ends, without the padding. */
+static uint32_t hash(const void *ends, size_t links)
 {
+	enum { FIELDS = offsetof(um_end, held) + 8 * sizeof(um_message) };
 	uint32_t h = 2166136261u;
-	for (size_t i = 0; i < count; i++)
-		h = (h ^ ((const uint8_t *)bytes)[i]) * 16777619u;
+	for (size_t link = 0; link < links; link++)
+		for (size_t i = 0; i < FIELDS; i++)
+			h = (h ^ ((const uint8_t *)ends)[link * sizeof(um_end) + i]) * 16777619u;
 	return h;
 }
 
@@ -224,9 +228,9 @@ static void put_effects(const um_effects *e)
 	}
 }
 
-static void put_call(const char *name, int answer, const void *state, size_t size, const um_effects *effects)
+static void put_call(const char *name, int answer, const void *ends, size_t links, const um_effects *effects)
 {
-	printf("%s %d %u", name, answer, hash(state, size));
+	printf("%s %d %u", name, answer, hash(ends, links));
 	if (answer == UM_END_DONE)
 		put_effects(effects);
 }
@@ -241,7 +245,7 @@ static void calls_of_ends(void)
 		if (draw(300) == 0)
 			begin_ends(&s);
 		int answer = call_end(&s, who, &effects);
-		put_call("end", answer, &s.ends[who], sizeof s.ends[who], &effects);
+		put_call("end", answer, &s.ends[who], 1, &effects);
 		putchar('\n');
 		if (answer == UM_END_DONE)
 			add(&s.air, who, &effects);
@@ -259,7 +263,7 @@ static void calls_of_sides(void)
 		if (draw(300) == 0)
 			begin_sides(&s);
 		int answer = call_side(&s, who, &taken, &effects);
-		put_call("side", answer, &s.sides[who], sizeof s.sides[who], &effects);
+		put_call("side", answer, &s.sides[who], 2, &effects);
 		printf(" %d\n", answer == UM_END_DONE ? taken : 9);
 		if (answer == UM_END_DONE)
 			add(&s.air, who, &effects);

@@ -1,9 +1,18 @@
 // Tests that um.mjs refuses invalid arguments, with messages that state what was expected, and that it discards an instance that trapped.
 import assert from "node:assert/strict";
-import { Refused, soften, Um } from "../um.mjs";
+import { Refused, softFromBits, softFromLlr, softFromSbits, softFromTrx, Um } from "../um.mjs";
 
 const zeros = (count) => new Array(count).fill(0);
 const change = (list, at, value) => list.map((old, i) => (i === at ? value : old));
+
+const rowsOf = (bursts) => [0, 1, 2, 3].map((i) => bursts.slice(148 * i, 148 * i + 148));
+const holed = (list, at) => {
+  const rows = new Array(list.length);
+  list.forEach((row, i) => (i === at ? undefined : (rows[i] = row)));
+  return rows;
+};
+const HARD = "bursts has hard bits, each 0 or 1; expected soft bits from -127 to 127, as softFromBits(bits) returns them";
+const ROW = "is undefined; expected an array of 148 soft bits";
 
 const WRONG = (um) => [
   [() => um.sendBlock(zeros(22), 0), RangeError, "octets has 22 values; expected 23 octets, integers from 0 to 255"],
@@ -25,12 +34,25 @@ const WRONG = (um) => [
   [() => um.receiveBlock([zeros(148), zeros(148), zeros(147), zeros(148)]), RangeError, "bursts[2] has 147 values; expected 148 soft bits"],
   [() => um.receiveBlock([zeros(148)]), RangeError, "bursts has 1 values; expected 592 soft bits"],
   [() => um.receiveBlock(new Float32Array(592).fill(0.25)), RangeError, "bursts[0] is 0.25"],
-  [() => um.receiveBlock(um.sendBlock(zeros(23), 1)), RangeError, "bursts has hard bits, each 0 or 1; expected soft bits"],
+  [() => um.receiveBlock(um.sendBlock(zeros(23), 1)), RangeError, HARD],
+  [() => um.receiveBlock(Int8Array.from(um.sendBlock(zeros(23), 1))), RangeError, HARD],
+  [() => um.receiveBlock(rowsOf(um.sendBlock(zeros(23), 1))), RangeError, HARD],
+  [() => um.receiveBlockAmong(Array.from(um.sendBlock(zeros(23), 1)), 64), RangeError, HARD],
+  [() => um.marginBlock(Int8Array.from(um.sendBlock(zeros(23), 1))), RangeError, HARD],
+  [() => um.receiveBlock(change(zeros(592), 591, 1)), RangeError, HARD],
+  [() => um.receiveAccess(Int8Array.from(um.sendAccess(zeros(8), zeros(6))), zeros(6)), RangeError, "burst has hard bits"],
+  [() => um.receiveSync(Int8Array.from(um.sendSync(zeros(25)))), RangeError, "burst has hard bits"],
+  [() => um.receiveBlock(new Array(4)), TypeError, `bursts[0] ${ROW}`],
+  [() => um.receiveBlockAmong(holed(rowsOf(zeros(592)), 2), 64), TypeError, `bursts[2] ${ROW}`],
+  [() => um.marginBlock(holed(rowsOf(new Int8Array(592)), 3)), TypeError, `bursts[3] ${ROW}`],
+  [() => um.receiveSync(new Array(1)), TypeError, `burst[0] ${ROW}`],
+  [() => um.receiveBlock(new Array(592)), RangeError, "bursts[0] is undefined"],
+  [() => um.receiveBlock(rowsOf(Int8Array.from(change(zeros(592), 300, -128)))), RangeError, "bursts[2][4] is -128"],
   [() => um.end("mobile", 3, "sacch"), TypeError, "options is 3; expected an object"],
   [() => um.end("mobile", { SAPI: 3 }), RangeError, 'options has a member "SAPI"; expected sapi, channel'],
   [() => um.side("mobile", "sacch"), TypeError, 'options is "sacch"; expected an object'],
   [() => um.writeFrame({ kind: "ui", data: [1] }), RangeError, 'frame has a member "data"'],
-  [() => um.restoreSide(change(Array.from(um.side("mobile").bytes), 2584 + 13, 9)), Refused, "the state is not valid"],
+  [() => um.sideFromBytes(change(Array.from(um.side("mobile").toBytes()), 4 + 2581 + 13, 9)), Refused, "the state is not valid"],
   [() => um.receiveBlockAmong(zeros(592), 0), RangeError, "most is 0; expected an integer from 1 to 64"],
   [() => um.receiveBlockAmong(zeros(592), 65), RangeError, "most is 65"],
   [() => um.receiveBlockAmong(zeros(592), 2 ** 32 + 1), RangeError, "most is 4294967297"],
@@ -57,13 +79,20 @@ const WRONG = (um) => [
   [() => um.end("mobile", { channel: 0 }), RangeError, "channel is 0"],
   [() => um.end("mobile").take(zeros(22)), RangeError, "octets has 22 values"],
   [() => um.end("mobile").send([300]), RangeError, "octets[0] is 300"],
-  [() => um.restoreEnd(zeros(2583)), RangeError, "bytes has 2583 values; expected 2584 octets"],
+  [() => um.endFromBytes(zeros(2584)), RangeError, "octets has 2584 values; expected 2585 octets"],
+  [() => um.endFromBytes(um.end("mobile").toBytes().fill(0x32, 3, 4)), RangeError, 'octets begins with "umE2"; expected "umE1"'],
+  [() => um.sideFromBytes(new Uint8Array(5166)), RangeError, 'octets begins with "\\u0000'],
   [() => um.side("phone"), RangeError, 'role is "phone"'],
   [() => um.side("mobile").send(1, [1]), RangeError, "sapi is 1; expected 0 or 3"],
   [() => um.side("mobile").timer(256), RangeError, "sapi is 256"],
   [() => um.side("mobile").take(zeros(24)), RangeError, "octets has 24 values"],
-  [() => um.restoreSide(zeros(2584)), RangeError, "bytes has 2584 values; expected 5168 octets"],
-  [() => soften([0, 1, 2]), RangeError, "bits[2] is 2; expected an integer from 0 to 1"],
+  [() => um.sideFromBytes(zeros(5168)), RangeError, "octets has 5168 values; expected 5166 octets"],
+  [() => softFromLlr([0, NaN]), RangeError, "values[1] is NaN; expected a number"],
+  [() => softFromLlr([1], { scale: 0 }), RangeError, "scale is 0; expected a finite number above 0"],
+  [() => softFromLlr("1"), TypeError, 'values is "1"; expected an array of numbers'],
+  [() => softFromSbits([-129]), RangeError, "sbits[0] is -129; expected an integer from -128 to 127"],
+  [() => softFromTrx([0, 256]), RangeError, "octets[1] is 256; expected an integer from 0 to 255"],
+  [() => softFromBits([0, 1, 2]), RangeError, "bits[2] is 2; expected an integer from 0 to 1"],
 ];
 
 const REFUSED = (um) => [
@@ -73,15 +102,15 @@ const REFUSED = (um) => [
   ["toolong", () => um.end("mobile").open(zeros(21)), "; send takes at most 251 octets, open and unit 20 (18 on SACCH)"],
   ["toolong", () => um.end("mobile").unit(new Uint8Array(1000))],
   ["nocall", () => um.end("network").open([1])],
-  ["nocall", () => um.end("mobile").open()],
+  ["nocall", () => um.end("mobile").openBare()],
   ["noframe", () => um.end("mobile").take(new Uint8Array(23))],
-  ["noend", () => um.restoreEnd(new Uint8Array(2584).fill(255))],
+  ["noend", () => um.endFromBytes(um.end("mobile").toBytes().fill(255, 4))],
   ["notopen", () => um.side("mobile").send(3, [1])],
-  ["noend", () => um.restoreSide(new Uint8Array([...um.end("mobile").bytes, ...um.end("mobile").bytes]))],
+  ["noend", () => um.sideFromBytes(um.side("mobile").toBytes().copyWithin(4 + 2581, 4, 4 + 2581))],
   ["notidle", () => {
     const mobile = um.end("mobile", { sapi: 3 });
-    mobile.open();
-    mobile.open();
+    mobile.openBare();
+    mobile.openBare();
   }],
   ["full", () => {
     const [mobile, network] = [um.end("mobile"), um.end("network")];
@@ -94,26 +123,62 @@ const states = (um) => {
   const mobile = um.end("mobile", { sapi: 3, channel: "sacch" });
   assert.deepEqual([mobile.role, mobile.sapi, mobile.channel, mobile.state, mobile.timerRuns], ["mobile", 3, "sacch", "idle", false]);
   const saved = mobile.copy();
-  mobile.open();
+  mobile.openBare();
   assert.deepEqual([mobile.state, mobile.timerRuns, saved.state], ["opening", true, "idle"]);
-  assert.deepEqual(um.restoreEnd(mobile.bytes).bytes, mobile.bytes);
-  mobile.bytes.fill(255);
+  const octets = mobile.toBytes();
+  assert.deepEqual([octets.length, ...octets.subarray(0, 12)], [2585, 0x75, 0x6d, 0x45, 0x31, ...zeros(8)]);
+  // role, SAPI, channel and state; the kept octets come after 21 octets of numbers
+  assert.deepEqual([...octets.subarray(12, 16)], [0, 3, 1, 1]);
+  assert.deepEqual(um.endFromBytes(octets).toBytes(), octets);
+  octets.fill(255);
   assert.equal(mobile.state, "opening");
 };
 
 const sides = (um) => {
   const [mobile, network] = [um.side("mobile"), um.side("network")];
-  const { sapi, frames, notices } = network.take(mobile.open().frames[0]);
+  const { sapi, frames, notices } = network.take(mobile.openBare().frames[0]);
   assert.deepEqual([sapi, notices[0].kind, network.end(3).state, network.end(0).state], [3, "opened", "open", "idle"]);
   assert.equal(mobile.take(frames[0]).sapi, 3);
   assert.deepEqual([mobile.end(3).state, mobile.role, mobile.channel, mobile.end(3).timerRuns], ["open", "mobile", "sdcch", false]);
   mobile.end(3).close();
   assert.equal(mobile.end(3).state, "open");
-  assert.deepEqual(um.restoreSide(mobile.copy().bytes).bytes, mobile.bytes);
+  assert.deepEqual([mobile.timerRuns(3), network.timerRuns(0), mobile.copy().timerRuns(0)], [false, false, false]);
+  const octets = mobile.copy().toBytes();
+  assert.deepEqual([octets.length, ...octets.subarray(0, 4)], [5166, 0x75, 0x6d, 0x53, 0x31]);
+  assert.deepEqual([octets.subarray(4, 2585), octets.subarray(2585)], [0, 3].map((sapi) => mobile.end(sapi).toBytes().subarray(4)));
+  assert.deepEqual(um.sideFromBytes(octets).toBytes(), octets);
+};
+
+// every form of the same soft bits answers the same; a lost burst with one weak bit is not taken for hard bits
+const forms = (um) => {
+  const soft = softFromBits(um.sendBlock(zeros(23), 6)).fill(0, 148, 296);
+  soft[200] = 1;
+  const wanted = um.receiveBlock(soft);
+  assert.equal(wanted.accepted.length, 23);
+  const list = Array.from(soft);
+  for (const form of [list, Int16Array.from(soft), rowsOf(soft), rowsOf(list), rowsOf(Int32Array.from(soft)), Object.freeze(list)]) {
+    assert.deepEqual(um.receiveBlock(form), wanted);
+  }
+};
+
+// the same values as in Python's tests
+const conversions = () => {
+  assert.deepEqual([...softFromLlr([8, 99, -1e30, 3.25, 0.03, 0.625, 0.875, -0.625])], [32, 127, -127, 13, 0, 2, 4, -2]);
+  assert.deepEqual([...softFromLlr(Float32Array.of(0.5, -1, Infinity), { scale: 50, positive: 1 })], [-25, 50, -127]);
+  assert.deepEqual([...softFromSbits([-128, -127, 0, 127])], [-127, -127, 0, 127]);
+  assert.deepEqual([...softFromTrx([0, 126, 127, 128, 254, 255])], [127, 1, 0, -1, -127, -127]);
+};
+
+// a message that is too long is refused without reading all of it
+const longMessage = (um) => {
+  const start = performance.now();
+  assert.throws(() => um.end("mobile").unit(new Uint8Array(2 ** 26)), (error) => error.reason === "toolong");
+  assert.throws(() => um.end("mobile").unit(new Int32Array(2 ** 22)), (error) => error.reason === "toolong");
+  assert.ok(performance.now() - start < 1000);
 };
 
 const trap = (um) => {
-  const fine = () => um.receiveBlock(soften(um.sendBlock(zeros(23), 6))).tsc;
+  const fine = () => um.receiveBlock(softFromBits(um.sendBlock(zeros(23), 6))).tsc;
   const before = um.exports;
   assert.throws(() => um.exports.um_send_block(2n ** 31n, 0, 2n ** 31n), WebAssembly.RuntimeError);
   assert.throws(fine, /um_send_block trapped in WebAssembly .*; the instance was discarded/);
@@ -130,6 +195,9 @@ export const tryArguments = (um) => {
   }
   states(um);
   sides(um);
+  forms(um);
+  conversions();
+  longMessage(um);
   trap(um);
   assert.ok(um instanceof Um);
   return WRONG(um).length + REFUSED(um).length;

@@ -1,6 +1,6 @@
 // Compares the module's answers with the vectors, with the repairs, and with the native library's answers (answers.c) to 2,000 noisy
 // blocks, 20,000 calls of endpoints and 20,000 of sides. It runs in node and, in a page and in a Worker, in browsers.
-import { Refused, soften } from "../um.mjs";
+import { REASONS, NOTICES, REFUSALS, Refused, softFromBits } from "../um.mjs";
 
 const hex = (octets) => Array.from(octets, (octet) => octet.toString(16).padStart(2, "0")).join("");
 const octetsOf = (digits) => Uint8Array.from(digits.match(/../g) ?? [], (pair) => parseInt(pair, 16));
@@ -20,13 +20,13 @@ const sentFor = (um, [kind, first, second]) => {
 
 const receivedAs = (um, [kind, first, second]) => {
   if (kind === "block") {
-    const { accepted, tsc, metric } = um.receiveBlock(soften(um.sendBlock(octetsOf(second), Number(first))));
+    const { accepted, tsc, metric } = um.receiveBlock(softFromBits(um.sendBlock(octetsOf(second), Number(first))));
     return hex(accepted ?? []) === second && tsc === Number(first) && metric === 57912;
   }
   const access = kind === "rach";
   const report = access
-    ? um.receiveAccess(soften(um.sendAccess(bitsOf(first), bitsOf(second))), bitsOf(second))
-    : um.receiveSync(soften(um.sendSync(bitsOf(first))));
+    ? um.receiveAccess(softFromBits(um.sendAccess(bitsOf(first), bitsOf(second))), bitsOf(second))
+    : um.receiveSync(softFromBits(um.sendSync(bitsOf(first))));
   return (report.accepted ?? []).join("") === first && report.metric === (access ? 4572 : 9906);
 };
 
@@ -94,10 +94,6 @@ const blockLines = (um, number) => {
   ];
 };
 
-const ANSWERS = ["notidle", "notopen", "notrunning", "empty", "toolong", "full", "noend", "nocall", "noframe"];
-const NOTICES = ["opened", "got", "unit", "acked", "oversize", "closed"];
-const REASONS = ["contention", "failed", "refused", "released"];
-
 // one in eight blocks is lost, and one in thirty of the others has a wrong bit
 const arrived = (queue) => {
   const octets = queue.shift();
@@ -122,7 +118,7 @@ const begunSides = (um) => {
 
 const END_CALLS = [
   (end) => end.open(drawOctets(draw(22))),
-  (end) => end.open(),
+  (end) => end.openBare(),
   (end) => end.send(drawOctets(draw(256))),
   (end) => end.send(drawOctets(draw(60))),
   (end) => end.unit(drawOctets(draw(23))),
@@ -132,7 +128,7 @@ const END_CALLS = [
 ];
 const SIDE_CALLS = [
   (side) => side.open(drawOctets(draw(22))),
-  (side) => side.open(),
+  (side) => side.openBare(),
   (side, sapi) => side.send(sapi, drawOctets(draw(256))),
   (side, sapi) => side.send(sapi, drawOctets(draw(60))),
   (side, sapi) => side.unit(sapi, drawOctets(draw(23))),
@@ -149,7 +145,7 @@ const called = (calls, { states, queues }, who) => {
     const octets = arrived(queues[1 - who]);
     return octets === null ? { answer: -1 } : { answer: 0, ...states[who].take(octets) };
   } catch (error) {
-    if (error instanceof Refused) return { answer: 1 + ANSWERS.indexOf(error.reason) };
+    if (error instanceof Refused) return { answer: 1 + REFUSALS.indexOf(error.reason) };
     throw error;
   }
 };
@@ -165,7 +161,7 @@ const callLine = (calls, session, begin) => {
   const { answer, frames = [], notices = [], sapi = 9 } = called(calls, session, who);
   for (const frame of frames) if (session.queues[who].length < 16) session.queues[who].push(Uint8Array.from(frame));
   const said = notices.map(noticeWords).join("") + frames.map((frame) => ` ${hex(frame)}`).join("");
-  const line = `${answer} ${hash(session.states[who].bytes)}${said}`;
+  const line = `${answer} ${hash(session.states[who].toBytes().subarray(4))}${said}`;
   return calls === SIDE_CALLS ? `side ${line} ${sapi}` : `end ${line}`;
 };
 

@@ -6,6 +6,9 @@ import { isMainThread, parentPort, Worker, workerData } from "node:worker_thread
 import { load } from "../um.mjs";
 import { compare, times } from "./compare.mjs";
 import { tryArguments } from "./arguments.mjs";
+import { tryDataLinks } from "./datalinks.mjs";
+import { tryHostile } from "./hostile.mjs";
+import { trySlots } from "./slots.mjs";
 
 const [wasm, folder, answers, timed] = isMainThread ? process.argv.slice(2) : workerData;
 const read = (path) => readFileSync(path, "utf8");
@@ -29,6 +32,11 @@ if (!isMainThread) {
   for (const part of wrong) console.log("js: node:", JSON.stringify(part));
   if (wrong.length === 0) console.log(`js: node ${process.versions.node}, also in a Worker: ${found.map((part) => part.name).join(", ")}`);
   console.log(`js: ${tryArguments(um)} invalid calls are refused, and an instance that trapped is discarded`);
+  console.log(`js: ${tryHostile(um, 3000)} calls with hostile arguments are refused, or answered as what they stand for`);
+  trySlots(um);
+  console.log("js: time slots, SCH and random access are as the standard's tables have them");
+  tryDataLinks(um);
+  console.log("js: two data links deliver every message over a path that loses one block in ten");
   if (timed) console.log("js: us per call in node:", JSON.stringify(times(um)));
   process.exitCode = wrong.length ? 1 : 0;
 }

@@ -1,10 +1,10 @@
-// Tests what um.d.ts allows and forbids: compiled by tsc, never run.
-import { End, Frame, load, Refused, Side, soften, Um } from "um-gsm";
+// Tests what um.d.ts allows and forbids, without the library of a browser: compiled by tsc, never run.
+import { End, Frame, load, NOTICES, Refused, REFUSALS, Side, softFromBits, Um } from "um-gsm";
 
 const use = async (): Promise<void> => {
-  const um: Um = await load(fetch("um.wasm"));
+  const um: Um = await load("um.wasm");
   const bursts: Uint8Array = um.sendBlock([1, 2, 3], 7);
-  const { accepted, tsc, rank } = um.receiveBlockAmong([soften(bursts), [0], new Int8Array(148), []], 64);
+  const { accepted, tsc, rank } = um.receiveBlockAmong([softFromBits(bursts), [0], new Int8Array(148), []], 64);
   const frame = um.readFrame(accepted ?? new Uint8Array(23), "sacch");
   if (frame.unread !== undefined) throw new Error(frame.unread);
   const read: Frame = frame;
@@ -18,11 +18,22 @@ const use = async (): Promise<void> => {
   }
   const { span } = um.repair(new Uint8Array(224)) ?? { span: 0 };
   const refusal = new Refused("full", `${span} ${end.variables.vs}`);
-  console.log(refusal.reason === "full", um.receiveSync(new Int8Array(148)).word.length, um.restoreEnd(end.bytes).timerRuns);
+  const facts: boolean[] = [refusal.reason === "full", um.endFromBytes(end.toBytes()).timerRuns];
+  facts.push(um.receiveSync(new Int8Array(148)).word.length > 0);
+  facts.push((await load(new Uint8Array(8))) === um, REFUSALS.includes("notidle"), NOTICES.includes("closed"));
   const side: Side = um.side("mobile", { channel: "sacch" });
   side.send(3, [1]).frames.concat(side.take(bursts).frames, side.end(0).idle().frames);
+  const block = um.slot("sdcch8", { words: 16, erasures: 4 }).take(3, new Int8Array(148));
+  if (block?.accepted && block.channel === "sacch") facts.push(um.readFrame(block.accepted, block.channel).unread === "ea");
+  facts.push(um.placeFrame("bcch_ccch", "uplink", 0, 7)?.channel === "rach", um.readSch([])?.bsic === 1);
+  // @ts-expect-error no such combination
+  um.slot("sdcch");
   // @ts-expect-error no such SAPI
   side.timer(1);
+  // @ts-expect-error a link of SAPI 0 opens with information
+  end.open();
+  // @ts-expect-error a number is no source
+  await load(5);
   // @ts-expect-error no such kind
   um.writeFrame({ kind: "xid" });
   // @ts-expect-error no such channel

@@ -18,10 +18,10 @@ An endpoint does no I/O and has no timer:
     >>> mobile, network = um.End("mobile"), um.End("network")
     >>> answer = network.take(mobile.open(b"\\1\\2").frames[0])
     >>> answer.notices, mobile.take(answer.frames[0]).notices
-    ([Notice(kind='opened', value=b'\\x01\\x02')], [Notice(kind='opened', value=b'\\x01\\x02')])
+    ([Received(kind='opened', message=b'\\x01\\x02')], [Received(kind='opened', message=b'\\x01\\x02')])
     >>> got = network.take(mobile.send(b"hello").frames[0])
     >>> got.notices, mobile.take(got.frames[0]).notices
-    ([Notice(kind='got', value=b'hello')], [Notice(kind='acked', value=1)])
+    ([Received(kind='got', message=b'hello')], [Acked(kind='acked', number=1)])
 
 A hard bit is 0 or 1. A soft bit is an int from -127 (certainly 1) to 127 (certainly 0); 0 means unknown. An invalid argument raises
 ValueError or TypeError, and the message names the argument:
@@ -30,20 +30,33 @@ ValueError or TypeError, and the message names the argument:
     Traceback (most recent call last):
     ValueError: bursts: 3 bursts; expected 4
 
-With numpy, `send_blocks`, `receive_blocks` and `receive_blocks_among` process many blocks in one call."""
+With numpy, `receive_blocks` and other calls process many blocks, bursts, words or frames in one call."""
 from ._version import __version__
 from .blocks import (
     Margin, Repair, Report, margin_block, receive_access, receive_block, receive_block_among, receive_sync, repair, send_access,
     send_block, send_sync,
 )
-from .ends import ANSWERS, NOTICES, REASONS, ROLES, STATES, Effects, End, Notice, Refused, Side
-from .frames import KINDS, REFUSALS, SACCH, SDCCH, Channel, Frame, NoFrame, read_frame, write_frame
-from .many import receive_blocks, receive_blocks_among, send_blocks
-from .soft import soft_from_bits, soft_from_llr
+from .datalink import DataLink, LinkNotice, Sent
+from .effects import NOTICES, REASONS, REFUSALS, SLOT_REFUSALS, Acked, Closed, Effects, Notice, Oversize, Received, Refused
+from .ends import ROLES, STATES, End, Side
+from .frames import KINDS, SACCH, SDCCH, UNREAD, Channel, Frame, NoFrame, read_frame, write_frame
+from .many import (
+    margin_blocks, read_frames, receive_accesses, receive_blocks, receive_blocks_among, receive_syncs, repair_words, send_blocks,
+)
+from .slot import Erasure, Slot, SlotBlock, detect_training, receive_block_erasing
+from .soft import soft_from_bits, soft_from_llr, soft_from_sbits, soft_from_trx
+from .tdma import (
+    COMBINATIONS, DIRECTIONS, FRAMES, Place, Sch, Time, frame_of_time, next_block, place_frame, read_bsic, read_ra, read_sch, time_of_frame,
+    write_bsic, write_ra, write_sch,
+)
 
 __all__ = [
-    "ANSWERS", "Channel", "Effects", "End", "Frame", "KINDS", "Margin", "NOTICES", "NoFrame", "Notice", "REASONS", "REFUSALS", "ROLES",
-    "Refused", "Repair", "Report", "SACCH", "SDCCH", "STATES", "Side", "__version__", "margin_block", "read_frame", "receive_access",
-    "receive_block", "receive_block_among", "receive_blocks", "receive_blocks_among", "receive_sync", "repair", "send_access",
-    "send_block", "send_blocks", "send_sync", "soft_from_bits", "soft_from_llr", "write_frame",
+    "Acked", "COMBINATIONS", "Channel", "Closed", "DIRECTIONS", "DataLink", "Effects", "End", "Erasure", "FRAMES", "Frame", "KINDS",
+    "LinkNotice", "Margin", "NOTICES", "NoFrame", "Notice", "Oversize", "Place", "REASONS", "REFUSALS", "ROLES", "Received", "Refused",
+    "Repair", "Report", "SACCH", "SDCCH", "SLOT_REFUSALS", "STATES", "Sch", "Sent", "Side", "Slot", "SlotBlock", "Time", "UNREAD",
+    "__version__", "detect_training", "frame_of_time", "margin_block", "margin_blocks", "next_block", "place_frame", "read_bsic",
+    "read_frame", "read_frames", "read_ra", "read_sch", "receive_access", "receive_accesses", "receive_block", "receive_block_among",
+    "receive_block_erasing", "receive_blocks", "receive_blocks_among", "receive_sync", "receive_syncs", "repair", "repair_words",
+    "send_access", "send_block", "send_blocks", "send_sync", "soft_from_bits", "soft_from_llr", "soft_from_sbits", "soft_from_trx",
+    "time_of_frame", "write_bsic", "write_frame", "write_ra", "write_sch",
 ]

@@ -2,19 +2,22 @@
 import ctypes
 import os
 import platform
-from typing import List
+from typing import Any, Dict, List, Tuple
 
-_NAME = "libum.so.0"
+# by the name of the system: the library, and what follows the processor in the name of its folder in dist/
+_SYSTEMS = {"Windows": ("um.dll", "windows"), "Darwin": ("libum.0.dylib", "macos")}
+_NAME, _SYSTEM = _SYSTEMS.get(platform.system(), ("libum.so.0", "linux"))
+_FOLDER = platform.machine().replace("AMD64", "x86_64") + "-" + _SYSTEM
 _MAKE = (
-    "\nA release has it in dist/{arch}-linux, and the wheel contains it. To build it in the repository, with the Rattle kit on the PATH:"
+    "\nA release has it in dist/" + _FOLDER + ", and the wheel contains it. To build it in the repository, on Linux with the Rattle kit on"
+    " the PATH:"
     "\n    (cd crates/um_c && rt lib)"
-    "\n    cc -shared -o bindings/python/um/" + _NAME +
-    " -Wl,--whole-archive crates/um_c/out/libum_c.a -Wl,--no-whole-archive"
+    "\n    cc -shared -o bindings/python/um/libum.so.0 -Wl,--whole-archive crates/um_c/out/libum_c.a -Wl,--no-whole-archive"
     "\nThe environment variable UM_SO overrides the path."
 )
 
 _POINTER, _U8, _U32, _BOOL = ctypes.c_void_p, ctypes.c_uint8, ctypes.c_uint32, ctypes.c_bool
-_CALLS = {
+_CALLS: Dict[str, Tuple[Any, Tuple[Any, ...]]] = {
     "um_send_block": (_BOOL, (_POINTER, _U8, _POINTER)),
     "um_receive_block": (_BOOL, (_POINTER, _POINTER)),
     "um_receive_block_among": (_BOOL, (_POINTER, _U32, _POINTER, _POINTER)),
@@ -44,6 +47,32 @@ _CALLS = {
     "um_side_timer": (_U8, (_POINTER, _U8, _POINTER)),
     "um_side_idle": (_U8, (_POINTER, _POINTER)),
     "um_side_take": (_U8, (_POINTER, _POINTER, _POINTER, _POINTER)),
+    "um_receive_block_erasing": (_BOOL, (_POINTER, _U32, _U8, _POINTER, _POINTER, _POINTER)),
+    "um_detect_training": (_BOOL, (_POINTER, _POINTER, _POINTER)),
+    "um_time_of_frame": (_BOOL, (_U32, _POINTER)),
+    "um_frame_of_time": (_BOOL, (_POINTER, _POINTER)),
+    "um_read_sch": (_BOOL, (_POINTER, _POINTER)),
+    "um_write_sch": (_BOOL, (_U8, _U32, _POINTER)),
+    "um_write_ra": (None, (_U8, _POINTER)),
+    "um_read_ra": (_BOOL, (_POINTER, _POINTER)),
+    "um_write_bsic": (_BOOL, (_U8, _POINTER)),
+    "um_read_bsic": (_BOOL, (_POINTER, _POINTER)),
+    "um_place_frame": (_U8, (_U8, _U8, _U8, _U32, _POINTER)),
+    "um_next_block": (_BOOL, (_U8, _U8, _U8, _U8, _U8, _U32, _POINTER)),
+    "um_slot_new": (_BOOL, (_POINTER, _U8, _U8, _U8, _U8, _U8)),
+    "um_slot_take": (_U8, (_POINTER, _U32, _POINTER, _POINTER)),
+    "um_slot_miss": (_U8, (_POINTER, _U32, _POINTER)),
+    "um_datalink_new": (_BOOL, (_POINTER, _U8, _U8, _U8, _U8)),
+    "um_datalink_valid": (_BOOL, (_POINTER,)),
+    "um_datalink_open": (_U8, (_POINTER, _POINTER)),
+    "um_datalink_open_bare": (_U8, (_POINTER,)),
+    "um_datalink_send": (_U8, (_POINTER, _U8, _POINTER)),
+    "um_datalink_unit": (_U8, (_POINTER, _U8, _POINTER, _POINTER, _POINTER)),
+    "um_datalink_close": (_U8, (_POINTER, _U8)),
+    "um_datalink_close_local": (_U8, (_POINTER, _U8)),
+    "um_datalink_main": (_U8, (_POINTER, _BOOL)),
+    "um_datalink_take": (_U8, (_POINTER, _POINTER, _POINTER)),
+    "um_datalink_next": (_U8, (_POINTER, _POINTER, _POINTER, _POINTER)),
 }
 
 
@@ -52,8 +81,7 @@ def _places() -> List[str]:
     if "UM_SO" in os.environ:
         return [os.environ["UM_SO"]]
     here = os.path.dirname(os.path.abspath(__file__))
-    dist = os.path.join(here, "..", "..", "..", "dist", f"{platform.machine()}-linux")
-    return [os.path.join(here, _NAME), os.path.normpath(os.path.join(dist, _NAME)), _NAME]
+    return [os.path.join(here, _NAME), os.path.normpath(os.path.join(here, "..", "..", "..", "dist", _FOLDER, _NAME)), _NAME]
 
 
 def _declared(place: str) -> ctypes.CDLL:
@@ -71,7 +99,7 @@ def _load() -> ctypes.CDLL:
             return _declared(place)
         except (OSError, AttributeError) as error:  # missing, or an older library that lacks a call
             tried.append(f"\n    {place}: {error}")
-    raise ImportError("um: no " + _NAME + ". Tried:" + "".join(tried) + _MAKE.format(arch=platform.machine()))
+    raise ImportError("um: no " + _NAME + ". Tried:" + "".join(tried) + _MAKE)
 
 
 lib = _load()

@@ -1,12 +1,9 @@
 """Converts arguments to what the library expects. An invalid argument raises ValueError or TypeError; the message names the argument, the
 value given and what was expected."""
 import array
-import ctypes
+import collections.abc
 import operator
-from typing import Any, Iterable, List, Optional, Union
-
-# What the library reads from: bytes, or the caller's memory, which ctypes wraps without a copy.
-Pointer = Union[bytes, "ctypes.Array[Any]"]
+from typing import Any, Iterable, List, Optional
 
 _NO_SOFT = {
     "float": "um.soft_from_llr converts floats to soft bits",
@@ -33,6 +30,16 @@ def view_of(values: Any) -> Optional[memoryview]:
     except (TypeError, ValueError, BufferError):
         return None
     return view if view.ndim else None
+
+
+def form_of(view: memoryview) -> str:
+    """The type of a buffer's elements, without the byte order that ctypes and numpy may put before it."""
+    return view.format.lstrip("@=<>!")
+
+
+def is_row(value: Any) -> bool:
+    """Whether a value has elements, so that it may be a row of numbers."""
+    return hasattr(value, "__iter__") and not isinstance(value, (str, collections.abc.Set, collections.abc.Mapping))
 
 
 def number(name: str, value: Any, low: int, high: int) -> int:
@@ -66,7 +73,7 @@ def octets(name: str, values: Any, count: Optional[int] = None) -> bytes:
 def bits(name: str, values: Any, count: int) -> bytes:
     """`count` bits, one octet per bit."""
     view = view_of(values)
-    if view is not None and view.format in ("?", "b") and view.ndim == 1:
+    if view is not None and form_of(view) in ("?", "b") and view.ndim == 1:
         values = view.tobytes()
     wanted = f"{count} bits, each 0 or 1"
     data = _octets(name, values, f"{wanted}, in a one-dimensional array of uint8, int8 or bool", wanted)
@@ -78,30 +85,39 @@ def bits(name: str, values: Any, count: int) -> bytes:
     return data
 
 
-def soft(name: str, values: Any, rows: int, places: int) -> Pointer:
-    """Soft bits: `rows` bursts of `places` each. C-contiguous int8 memory and bytes are not copied."""
-    if not isinstance(values, (bytes, bytearray)):
-        view = view_of(values)
-        if view is not None:
-            return _soft_memory(name, values, view, rows, places)
-        values = _soft_rows(name, values, rows, places)
-    data = bytes(values)
-    if len(data) != rows * places:
-        raise ValueError(f"{name}: {len(data)} soft bits; expected {_shape(rows, places)}")
-    refuse_bits(name, data)
+def soft(name: str, values: Any, rows: int, places: int) -> bytes:
+    """Soft bits: `rows` bursts of `places` each, as octets in two's complement. Hard bits are refused."""
+    data = soft_values(name, values, rows, places)
+    if are_hard_bits(data):
+        raise hard_bits(name)
     return data
 
 
-def refuse_bits(name: str, pointer: Pointer) -> None:
-    """Refuses soft bits that are all 0 or 1, with at least one 1: the caller passed hard bits by mistake."""
-    data = bytes(pointer)
-    if 1 in data and not data.translate(None, b"\0\1"):
-        raise ValueError(f"{name}: each value is 0 or 1, so these are hard bits; {_NO_SOFT['bits']}")
+def soft_values(name: str, values: Any, rows: int, places: int) -> bytes:
+    """Soft bits, also if they may be hard bits."""
+    view = view_of(values)
+    if view is None:
+        return _soft_rows(name, values, rows, places)
+    if not isinstance(values, (bytes, bytearray)):
+        return _soft_memory(name, values, view, rows, places)
+    if view.nbytes != rows * places:
+        raise ValueError(f"{name}: {view.nbytes} soft bits; expected {_shape(rows, places)}")
+    return view.tobytes()
 
 
-def refuse_128(name: str, pointer: Pointer, rows: int, places: int) -> ValueError:
+def are_hard_bits(data: bytes) -> bool:
+    """Whether soft bits are all 0 or 1, with a 1 among them: the caller passed hard bits by mistake."""
+    return not data.strip(b"\0\1") and 1 in data
+
+
+def hard_bits(name: str) -> ValueError:
+    """The error for soft bits that are hard bits."""
+    return ValueError(f"{name}: each value is 0 or 1, so these are hard bits; {_NO_SOFT['bits']}")
+
+
+def minus_128(name: str, data: bytes, rows: int, places: int) -> ValueError:
     """The error for a soft bit of -128, which the library refuses."""
-    at = bytes(pointer).index(0x80)
+    at = data.index(0x80)
     where = f"{name}[{at // places}][{at % places}]" if rows > 1 else f"{name}[{at}]"
     return ValueError(f"{where}: -128; expected a soft bit from -127 to 127")
 
@@ -116,44 +132,37 @@ def _shape(rows: int, places: int) -> str:
     return f"{rows} x {places}" if rows > 1 else str(places)
 
 
-def _soft_memory(name: str, values: Any, view: memoryview, rows: int, places: int) -> Pointer:
-    if view.format != "b":
-        raise no_soft(name, values, view.format, _shape(rows, places))
+def _soft_memory(name: str, values: Any, view: memoryview, rows: int, places: int) -> bytes:
+    if form_of(view) != "b":
+        raise no_soft(name, values, form_of(view), _shape(rows, places))
     if view.shape != (rows, places) and view.shape != (rows * places,):
         raise ValueError(f"{name}: {name_of(values)}; expected {_shape(rows, places)}, or one row of {rows * places}")
-    if not view.c_contiguous:
-        return view.tobytes()
-    memory = ctypes.c_int8 * (rows * places)
-    if not view.readonly:
-        return memory.from_buffer(view)
-    if hasattr(values, "__array_interface__"):  # the caller keeps the array alive during the call
-        return memory.from_address(values.__array_interface__["data"][0])
-    return view.obj if isinstance(view.obj, bytes) and len(view.obj) == view.nbytes else view.tobytes()
+    return view.tobytes()
 
 
 def _soft_rows(name: str, values: Any, rows: int, places: int) -> bytes:
     wanted = f"{_shape(rows, places)} soft bits: int8 memory, or ints from -127 to 127"
-    if isinstance(values, (str, int, float)) or not hasattr(values, "__iter__"):
+    if not is_row(values):
         raise TypeError(f"{name}: {name_of(values)}; expected {wanted}")
     values = list(values)
-    if not values or isinstance(values[0], (int, float)) or rows == 1:
-        return _numbers(name, values, "b", wanted).tobytes()
+    if rows == 1 or not values or not is_row(values[0]):
+        data = _numbers(name, values, "b", wanted).tobytes()
+        if len(data) != rows * places:
+            raise ValueError(f"{name}: {len(data)} soft bits; expected {_shape(rows, places)}")
+        return data
     if len(values) != rows:
         raise ValueError(f"{name}: {len(values)} bursts; expected {rows}")
     return b"".join(_soft_row(f"{name}[{i}]", row, places) for i, row in enumerate(values))
 
 
 def _soft_row(name: str, row: Any, places: int) -> bytes:
-    if isinstance(row, (bytes, bytearray)):
-        data = bytes(row)
+    view = view_of(row)
+    if view is None:
+        data = _numbers(name, row, "b", f"{places} soft bits, ints from -127 to 127").tobytes()
+    elif form_of(view) != "b" and not isinstance(row, (bytes, bytearray)):
+        raise no_soft(name, row, form_of(view), str(places))
     else:
-        view = view_of(row)
-        if view is None:
-            data = _numbers(name, row, "b", f"{places} soft bits, ints from -127 to 127").tobytes()
-        elif view.format != "b":
-            raise no_soft(name, row, view.format, str(places))
-        else:
-            data = view.tobytes()
+        data = view.tobytes()
     if len(data) != places:
         raise ValueError(f"{name}: {len(data)} soft bits; expected {places}")
     return data
@@ -161,19 +170,19 @@ def _soft_row(name: str, row: Any, places: int) -> bytes:
 
 def _octets(name: str, values: Any, wanted_buffer: str, wanted_list: str) -> bytes:
     """Octets from bytes, a buffer of unsigned octets, or a list of ints."""
-    if isinstance(values, bytes):
+    if type(values) is bytes:
         return values
     view = view_of(values)
     if view is None:
         return _numbers(name, values, "B", wanted_list).tobytes()
-    if view.format != "B" or view.ndim != 1:
+    if form_of(view) != "B" or view.ndim != 1:
         raise TypeError(f"{name}: {name_of(values)}; expected {wanted_buffer}")
     return view.tobytes()
 
 
 def _numbers(name: str, values: Any, code: str, wanted: str) -> "array.array[int]":
     """A row of integers, as an array.array of type `code`."""
-    if isinstance(values, (str, int, float)) or not hasattr(values, "__iter__"):
+    if not is_row(values):
         raise TypeError(f"{name}: {name_of(values)}; expected {wanted}")
     numbers: List[Any] = list(values)
     try:

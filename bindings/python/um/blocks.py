@@ -4,10 +4,13 @@ A bit is 0 or 1 in the order of sending. Soft bits are int8 memory (a numpy arra
 or ints, in a row for each burst or all in one row."""
 import ctypes
 import struct
-from typing import Any, List, NamedTuple, Optional, Tuple
+from typing import TYPE_CHECKING, Any, List, NamedTuple, Optional, Tuple
 
 from ._library import lib
-from ._values import Pointer, bits, number, octets as octets_of, refuse_128, refuse_bits, soft
+from ._values import bits, minus_128, number, octets as octets_of, soft
+
+if TYPE_CHECKING:
+    from ._types import Bits, Octets, SoftBits, SoftRow
 
 # the structs of um.h
 _BLOCK = struct.Struct("<iIIBB23s228s3x")
@@ -54,40 +57,40 @@ class Repair(NamedTuple):
     """The number of bits from the first wrong one to the last, both included; 0 if none was wrong."""
 
 
-def send_block(octets: Any, tsc: int) -> List[bytes]:
+def send_block(octets: "Octets", tsc: int) -> List[bytes]:
     """Encodes a block of 23 octets into four bursts of 148 bits, with training sequence 0 to 7."""
     bursts = ctypes.create_string_buffer(592)
     lib.um_send_block(octets_of("octets", octets, 23), number("tsc", tsc, 0, 7), bursts)
     return [bursts.raw[at : at + 148] for at in range(0, 592, 148)]
 
 
-def receive_block(bursts: Any) -> Report:
+def receive_block(bursts: "SoftBits") -> Report:
     """Decodes four bursts of 148 soft bits by maximum likelihood. The block is accepted if its CRC holds."""
     values, raw = soft("bursts", bursts, 4, 148), ctypes.create_string_buffer(268)
     if not lib.um_receive_block(values, raw):
-        raise refuse_128("bursts", values, 4, 148)
-    return _block_report(values, raw)
+        raise minus_128("bursts", values, 4, 148)
+    return block_report(raw)
 
 
-def receive_block_among(bursts: Any, most: int) -> Tuple[Report, int]:
+def receive_block_among(bursts: "SoftBits", most: int) -> Tuple[Report, int]:
     """Decodes four bursts by list decoding: the first of the `most` likeliest words (1 to 64) whose CRC holds, or the most likely word
     if none matches. Returns the report and the word's rank, 1 for the most likely word."""
     values, tried = soft("bursts", bursts, 4, 148), number("most", most, 1, 64)
     raw, rank = ctypes.create_string_buffer(268), ctypes.c_uint32()
     if not lib.um_receive_block_among(values, tried, raw, ctypes.byref(rank)):
-        raise refuse_128("bursts", values, 4, 148)
-    return _block_report(values, raw), rank.value
+        raise minus_128("bursts", values, 4, 148)
+    return block_report(raw), rank.value
 
 
-def margin_block(bursts: Any) -> Margin:
+def margin_block(bursts: "SoftBits") -> Margin:
     """Decodes four bursts and reports the margin between the two most likely words."""
     values, raw = soft("bursts", bursts, 4, 148), ctypes.create_string_buffer(460)
     if not lib.um_margin_block(values, raw):
-        raise refuse_128("bursts", values, 4, 148)
+        raise minus_128("bursts", values, 4, 148)
     return Margin(*_MARGIN.unpack(raw))
 
 
-def repair(word: Any) -> Optional[Repair]:
+def repair(word: "Bits") -> Optional[Repair]:
     """Corrects a word of 224 bits, data and CRC, with an error burst of at most twelve bits. None if no codeword is that near."""
     given, raw = bits("word", word, 224), ctypes.create_string_buffer(226)
     answer = lib.um_repair(given, raw)
@@ -99,45 +102,47 @@ def repair(word: Any) -> Optional[Repair]:
     return None
 
 
-def send_access(info: Any, bsic: Any) -> bytes:
-    """Encodes eight bits into an access burst of 88 bits for a base station's identity code (six bits)."""
+def send_access(info: "Bits", bsic: "Bits") -> bytes:
+    """Encodes the eight bits of RA, least significant first, into an access burst of 88 bits.
+
+    `bsic` is the base station's identity code, six bits, most significant first."""
     burst = ctypes.create_string_buffer(88)
     lib.um_send_access(bits("info", info, 8), bits("bsic", bsic, 6), burst)
     return burst.raw
 
 
-def receive_access(burst: Any, bsic: Any) -> Report:
-    """Decodes an access burst of 88 soft bits for a base station's identity code."""
+def receive_access(burst: "SoftRow", bsic: "Bits") -> Report:
+    """Decodes an access burst of 88 soft bits for a base station's identity code; the orders of bits are those of send_access."""
     values, raw = soft("burst", burst, 1, 88), ctypes.create_string_buffer(40)
     if not lib.um_receive_access(values, bits("bsic", bsic, 6), raw):
-        raise refuse_128("burst", values, 1, 88)
-    return _burst_report(_ACCESS, values, raw)
+        raise minus_128("burst", values, 1, 88)
+    return _burst_report(_ACCESS, raw)
 
 
-def send_sync(info: Any) -> bytes:
-    """Encodes 25 bits into a synchronisation burst of 148 bits."""
+def send_sync(info: "Bits") -> bytes:
+    """Encodes 25 bits into a synchronisation burst of 148 bits.
+
+    In frame FN, with s = FN // 1326, m = FN % 26 and r = (FN % 51 - 1) // 10, they are bits 9 and 10 of s, BSIC, bits 1 to 8 of s, bits
+    1 and 2 of r, m, bit 0 of s, and bit 0 of r, each field least significant bit first."""
     burst = ctypes.create_string_buffer(148)
     lib.um_send_sync(bits("info", info, 25), burst)
     return burst.raw
 
 
-def receive_sync(burst: Any) -> Report:
+def receive_sync(burst: "SoftRow") -> Report:
     """Decodes a synchronisation burst of 148 soft bits."""
     values, raw = soft("burst", burst, 1, 148), ctypes.create_string_buffer(80)
     if not lib.um_receive_sync(values, raw):
-        raise refuse_128("burst", values, 1, 148)
-    return _burst_report(_SYNC, values, raw)
+        raise minus_128("burst", values, 1, 148)
+    return _burst_report(_SYNC, raw)
 
 
-def _block_report(values: Pointer, raw: Any) -> Report:
+def block_report(raw: Any) -> Report:
+    """The report in a um_block_report."""
     metric, wrong_training, wrong_coded, tsc, accepted, data, word = _BLOCK.unpack(raw)
-    if not accepted:
-        refuse_bits("bursts", values)
     return Report(data if accepted else None, metric, wrong_training, wrong_coded, word, tsc)
 
 
-def _burst_report(form: struct.Struct, values: Pointer, raw: Any) -> Report:
+def _burst_report(form: struct.Struct, raw: Any) -> Report:
     metric, wrong_training, wrong_coded, accepted, data, word = form.unpack(raw)
-    if not accepted:
-        refuse_bits("burst", values)
     return Report(data if accepted else None, metric, wrong_training, wrong_coded, word)

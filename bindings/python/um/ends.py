@@ -2,62 +2,30 @@
 timer."""
 import ctypes
 import struct
-from typing import Any, List, NamedTuple, Tuple, Union
+from typing import TYPE_CHECKING, Any, Tuple, Type, TypeVar
 
 from ._library import lib
 from ._values import choice, octets as octets_of
+from .effects import EFFECTS_SIZE, REFUSALS, Effects, Refused, effects_of
 from .frames import SDCCH, Channel, NoFrame, channel_number, read_frame
 
-ROLES = ("mobile", "network")
-STATES = ("idle", "opening", "open", "closing", "closed")
-NOTICES = ("opened", "got", "unit", "acked", "oversize", "closed")
-REASONS = ("contention", "failed", "refused", "released")
-ANSWERS = ("not idle", "not open", "not running", "empty", "too long", "full", "no end", "no call", "no frame")
-_WHY = {
-    "not idle": "the link was opened already",
-    "not open": "the link is not open",
-    "not running": "no frame awaits an answer",
-    "empty": "the message is empty; expected at least one octet",
-    "too long": "send takes at most 251 octets; open and unit take 20, or 18 on SACCH",
-    "full": "eight messages are not completely acknowledged yet",
-    "no end": "the state is not valid",
-    "no call": "the mobile opens the link of SAPI 0 with open; either end opens the link of SAPI 3 with open_bare",
-}
+if TYPE_CHECKING:
+    from typing import Literal
 
-# the structs of um.h; um_end starts with the number of messages, role, SAPI, channel and state
+    from ._types import Octets
+
+    Role = Literal["mobile", "network"]
+    State = Literal["idle", "opening", "open", "closing", "closed"]
+    Sapi = Literal[0, 3]
+
+ROLES: "Tuple[Role, ...]" = ("mobile", "network")
+STATES: "Tuple[State, ...]" = ("idle", "opening", "open", "closing", "closed")
+
+# A um_end starts with the number of messages, role, SAPI, channel and state, and ends with three octets of padding. The saved form has no
+# padding, after a head of four octets.
 _END = struct.Struct("<8x4B")
 _END_SIZE, _END_FIELDS = 2584, 2581
-_NOTICE = struct.Struct("<QBBB255s6x")
-_EFFECTS_SIZE, _COUNTS, _FRAMES = 864, 816, 818
-
-
-class Notice(NamedTuple):
-    """An event that an endpoint reports."""
-
-    kind: str
-    """One of NOTICES."""
-    value: Union[bytes, int, str, None]
-    """The octets for opened, got and unit; the message's number, from 1, for acked; one of REASONS for closed; None for oversize."""
-
-
-class Effects(NamedTuple):
-    """The result of a call: blocks to send, and notices."""
-
-    frames: List[bytes]
-    """At most two blocks of 23 octets, in the order in which to send them."""
-    notices: List[Notice]
-    """At most three."""
-
-
-class Refused(ValueError):
-    """An endpoint refused a call; its state is unchanged. `reason` is one of ANSWERS."""
-
-    def __init__(self, call: str, reason: str, why: str):
-        super().__init__(f"{call}: {reason}: {why}")
-        self.call, self.reason, self.why = call, reason, why
-
-    def __reduce__(self) -> Any:
-        return Refused, (self.call, self.reason, self.why)
+_Any = TypeVar("_Any", bound="_Endpoint")
 
 
 class _Endpoint:
@@ -65,31 +33,35 @@ class _Endpoint:
 
     __slots__ = ("_state",)
     __hash__ = None  # type: ignore[assignment]
-    _calls, _links = "", 0
+    _calls, _links, _head = "", 0, b""
 
     def __init__(self) -> None:
         self._state = ctypes.create_string_buffer(_END_SIZE * self._links)
 
     @classmethod
-    def from_bytes(cls, octets: bytes) -> Any:
-        """Restores what `to_bytes` saved. ValueError if the octets are not a valid state."""
-        data = octets_of("octets", octets, _END_FIELDS * cls._links)
-        end = cls.__new__(cls)
-        _Endpoint.__init__(end)
-        for link in range(cls._links):
-            ctypes.memmove(ctypes.addressof(end._state) + link * _END_SIZE, data[link * _END_FIELDS :], _END_FIELDS)
-        # um_side_idle tests only one of the links, so test each by itself
-        for link in range(cls._links):
-            one = End.__new__(End)
-            one._state = ctypes.create_string_buffer(end._state.raw[link * _END_SIZE : (link + 1) * _END_SIZE], _END_SIZE)
-            one.idle()
+    def from_bytes(cls: "Type[_Any]", octets: "Octets") -> "_Any":
+        """Restores what `to_bytes`, or the call of another language, saved. ValueError if the octets are not a valid state."""
+        data = octets_of("octets", octets, len(cls._head) + _END_FIELDS * cls._links)
+        if not data.startswith(cls._head):
+            raise ValueError(f"octets: begins with {data[:4]!r}; expected {cls._head!r}, as to_bytes writes it")
+        fields = range(len(cls._head), len(data), _END_FIELDS)
+        states = [data[at : at + _END_FIELDS].ljust(_END_SIZE, b"\0") for at in fields]
+        for state in states:
+            End._of(state).idle()  # um_side_idle tests only one of the links, so test each by itself
+        end = cls._of(b"".join(states))
         end.idle()
         return end
 
+    @classmethod
+    def _of(cls: "Type[_Any]", state: bytes) -> "_Any":
+        end = cls.__new__(cls)
+        end._state = ctypes.create_string_buffer(state, len(state))
+        return end
+
     def to_bytes(self) -> bytes:
-        """The state, for `from_bytes`."""
+        """The state in the form that all languages read, for `from_bytes`."""
         raw = self._state.raw
-        return b"".join(raw[at : at + _END_FIELDS] for at in range(0, len(raw), _END_SIZE))
+        return self._head + b"".join(raw[at : at + _END_FIELDS] for at in range(0, len(raw), _END_SIZE))
 
     def __reduce__(self) -> Any:
         return type(self).from_bytes, (self.to_bytes(),)
@@ -98,7 +70,7 @@ class _Endpoint:
         return isinstance(other, type(self)) and self.to_bytes() == other.to_bytes()
 
     @property
-    def role(self) -> str:
+    def role(self) -> "Role":
         """One of ROLES."""
         return ROLES[self._numbers()[0]]
 
@@ -115,12 +87,16 @@ class _Endpoint:
         return _END.unpack_from(self._state)
 
     def _call(self, name: str, *arguments: Any) -> Effects:
-        raw = ctypes.create_string_buffer(_EFFECTS_SIZE)
+        raw = ctypes.create_string_buffer(EFFECTS_SIZE)
         answer = getattr(lib, self._calls + name)(self._state, *arguments, raw)
         if answer:
-            reason = ANSWERS[answer - 1]
-            raise Refused(name, reason, _WHY[reason] if reason in _WHY else self._why_no_frame(arguments[0]))
-        return _effects_of(raw.raw)
+            reason = REFUSALS[answer - 1]
+            raise Refused(name, reason, self._why_no_frame(arguments[0]) if reason == "noframe" else "")
+        return effects_of(raw.raw)
+
+    def _timer_runs(self, *sapi: int) -> bool:
+        state = ctypes.create_string_buffer(self._state.raw, len(self._state))
+        return not getattr(lib, self._calls + "timer")(state, *sapi, ctypes.create_string_buffer(EFFECTS_SIZE))
 
     def _why_no_frame(self, octets: bytes) -> str:
         try:
@@ -138,11 +114,11 @@ class End(_Endpoint):
     raises Refused, a ValueError."""
 
     __slots__ = ()
-    _calls, _links = "um_end_", 1
+    _calls, _links, _head = "um_end_", 1, b"umE1"
 
-    def __init__(self, role: str, sapi: int = 0, channel: int = SDCCH):
+    def __init__(self, role: "Role", sapi: "Sapi" = 0, channel: int = SDCCH):
         super().__init__()
-        lib.um_end_new(self._state, choice("role", role, ROLES), _sapi(sapi), channel_number(channel))
+        lib.um_end_new(self._state, choice("role", role, ROLES), sapi_number(sapi), channel_number(channel))
 
     def __repr__(self) -> str:
         return f"<um.End {self.role}, SAPI {self.sapi}, {self.channel.name}, {self.state}>"
@@ -153,25 +129,30 @@ class End(_Endpoint):
         return self._numbers()[1]
 
     @property
-    def state(self) -> str:
+    def state(self) -> "State":
         """One of STATES."""
         return STATES[self._numbers()[3]]
 
-    def open(self, info: Any) -> Effects:
+    @property
+    def timer_runs(self) -> bool:
+        """Whether a frame awaits an answer, so that T200 runs."""
+        return self._timer_runs()
+
+    def open(self, info: "Octets") -> Effects:
         """Opens the link of SAPI 0, at the mobile, with 1 to 20 octets of information (18 on SACCH)."""
-        return self._call("open", _message("info", info))
+        return self._call("open", message_of("info", info))
 
     def open_bare(self) -> Effects:
         """Opens the link of SAPI 3, at either end."""
         return self._call("open_bare")
 
-    def send(self, message: Any) -> Effects:
+    def send(self, message: "Octets") -> Effects:
         """Sends a message of 1 to 251 octets over the link."""
-        return self._call("send", _message("message", message))
+        return self._call("send", message_of("message", message))
 
-    def unit(self, message: Any) -> Effects:
+    def unit(self, message: "Octets") -> Effects:
         """Sends 1 to 20 octets (18 on SACCH) in one UI frame, unacknowledged, in any state."""
-        return self._call("unit", _message("message", message))
+        return self._call("unit", message_of("message", message))
 
     def close(self) -> Effects:
         """Releases the link. Messages not acknowledged are discarded."""
@@ -181,7 +162,7 @@ class End(_Endpoint):
         """T200 has expired: retransmits the frame that awaits an answer, or gives the link up after N200 retransmissions."""
         return self._call("timer")
 
-    def take(self, octets: Any) -> Effects:
+    def take(self, octets: "Octets") -> Effects:
         """Processes a received block of 23 octets."""
         return self._call("take", octets_of("octets", octets, 23))
 
@@ -192,46 +173,48 @@ class Side(_Endpoint):
     Each call acts on the endpoint of its SAPI, as the call of End does, and leaves the other one unchanged. Each link has its own T200."""
 
     __slots__ = ()
-    _calls, _links = "um_side_", 2
+    _calls, _links, _head = "um_side_", 2, b"umS1"
 
-    def __init__(self, role: str, channel: int = SDCCH):
+    def __init__(self, role: "Role", channel: int = SDCCH):
         super().__init__()
         lib.um_side_new(self._state, choice("role", role, ROLES), channel_number(channel))
 
     def __repr__(self) -> str:
         return f"<um.Side {self.role}, {self.channel.name}, SAPI 0 {self.end(0).state}, SAPI 3 {self.end(3).state}>"
 
-    def end(self, sapi: int) -> End:
+    def end(self, sapi: "Sapi") -> End:
         """A copy of the endpoint of a SAPI."""
-        octets = self.to_bytes()
-        end: End = End.from_bytes(octets[_END_FIELDS:] if _sapi(sapi) else octets[:_END_FIELDS])
-        return end
+        return End._of(self._state.raw[_END_SIZE:] if sapi_number(sapi) else self._state.raw[:_END_SIZE])
 
-    def open(self, info: Any) -> Effects:
+    def timer_runs(self, sapi: "Sapi") -> bool:
+        """Whether a frame of a SAPI awaits an answer, so that its T200 runs."""
+        return self._timer_runs(sapi_number(sapi))
+
+    def open(self, info: "Octets") -> Effects:
         """Opens the link of SAPI 0, at the mobile, with 1 to 20 octets of information (18 on SACCH)."""
-        return self._call("open", _message("info", info))
+        return self._call("open", message_of("info", info))
 
     def open_bare(self) -> Effects:
         """Opens the link of SAPI 3, at either side."""
         return self._call("open_bare")
 
-    def send(self, sapi: int, message: Any) -> Effects:
+    def send(self, sapi: "Sapi", message: "Octets") -> Effects:
         """Sends a message of 1 to 251 octets over the link of a SAPI."""
-        return self._call("send", _sapi(sapi), _message("message", message))
+        return self._call("send", sapi_number(sapi), message_of("message", message))
 
-    def unit(self, sapi: int, message: Any) -> Effects:
+    def unit(self, sapi: "Sapi", message: "Octets") -> Effects:
         """Sends 1 to 20 octets (18 on SACCH) in one UI frame of a SAPI, unacknowledged, in any state."""
-        return self._call("unit", _sapi(sapi), _message("message", message))
+        return self._call("unit", sapi_number(sapi), message_of("message", message))
 
-    def close(self, sapi: int) -> Effects:
+    def close(self, sapi: "Sapi") -> Effects:
         """Releases the link of a SAPI. Messages not acknowledged are discarded."""
-        return self._call("close", _sapi(sapi))
+        return self._call("close", sapi_number(sapi))
 
-    def timer(self, sapi: int) -> Effects:
+    def timer(self, sapi: "Sapi") -> Effects:
         """T200 of the link of a SAPI has expired."""
-        return self._call("timer", _sapi(sapi))
+        return self._call("timer", sapi_number(sapi))
 
-    def take(self, octets: Any) -> Tuple[int, Effects]:
+    def take(self, octets: "Octets") -> Tuple[int, Effects]:
         """Processes a received block of 23 octets. Returns the SAPI of its endpoint, and the effects. A frame of a SAPI other than 0 and 3
         is ignored: the SAPI is then 0, and the effects are empty."""
         sapi = ctypes.c_uint8()
@@ -239,25 +222,14 @@ class Side(_Endpoint):
         return sapi.value, effects
 
 
-def _sapi(sapi: Any) -> int:
-    if sapi not in (0, 3) or isinstance(sapi, (bool, float)):
+def sapi_number(sapi: Any) -> int:
+    """The number of a SAPI, 0 or 3."""
+    if isinstance(sapi, bool) or not hasattr(sapi, "__index__") or sapi not in (0, 3):
         raise ValueError(f"sapi: {sapi!r}; expected 0 or 3")
     return int(sapi)
 
 
-def _message(name: str, values: Any) -> bytes:
+def message_of(name: str, values: Any) -> bytes:
     """A um_message. It is cut at 255 octets, which the library refuses as too long."""
     data = octets_of(name, values)[:255]
     return bytes([len(data)]) + data.ljust(255, b"\0")
-
-
-def _effects_of(raw: bytes) -> Effects:
-    notice_count, frame_count = raw[_COUNTS], raw[_COUNTS + 1]
-    frames = [raw[at : at + 23] for at in range(_FRAMES, _FRAMES + 23 * frame_count, 23)]
-    notices = [_notice_of(*_NOTICE.unpack_from(raw, at)) for at in range(0, _NOTICE.size * notice_count, _NOTICE.size)]
-    return Effects(frames, notices)
-
-
-def _notice_of(number: int, kind: int, reason: int, count: int, octets: bytes) -> Notice:
-    data = octets[:count]
-    return Notice(NOTICES[kind - 1], (data, data, data, number, None, REASONS[reason])[kind - 1])

@@ -2,13 +2,21 @@
 import ctypes
 import enum
 import struct
-from typing import Any, NamedTuple
+from typing import TYPE_CHECKING, Any, NamedTuple, Tuple
 
 from ._library import lib
 from ._values import choice, name_of, number, octets as octets_of
 
-KINDS = ("i", "rr", "rnr", "rej", "sabm", "dm", "ui", "disc", "ua")
-REFUSALS = ("lpd", "ea", "control", "el", "length", "empty", "more")
+if TYPE_CHECKING:
+    from typing import Literal
+
+    from ._types import Octets
+
+    Kind = Literal["i", "rr", "rnr", "rej", "sabm", "dm", "ui", "disc", "ua"]
+    Unread = Literal["lpd", "ea", "control", "el", "length", "empty", "more"]
+
+KINDS: "Tuple[Kind, ...]" = ("i", "rr", "rnr", "rej", "sabm", "dm", "ui", "disc", "ua")
+UNREAD: "Tuple[Unread, ...]" = ("lpd", "ea", "control", "el", "length", "empty", "more")
 _REASONS = {
     "lpd": "another link protocol",
     "ea": "the address field continues (EA is 0); is this a block of SACCH, with two layer 1 octets first?",
@@ -22,10 +30,16 @@ _FRAME = struct.Struct("<8B20s")
 
 
 class Channel(enum.IntEnum):
-    """The channel, which decides where the frame starts in its block: on SACCH two layer 1 octets come first."""
+    """The channel. SDCCH or SACCH decides where the frame starts in its block: on SACCH two layer 1 octets come first. A time slot has
+    others too, whose blocks carry no LAPDm."""
 
     SDCCH = 0
     SACCH = 1
+    BCCH = 2
+    CCCH = 3
+    FCCH = 4
+    SCH = 5
+    RACH = 6
 
 
 SDCCH, SACCH = Channel.SDCCH, Channel.SACCH
@@ -34,7 +48,7 @@ SDCCH, SACCH = Channel.SDCCH, Channel.SACCH
 class Frame(NamedTuple):
     """The fields of a frame. Fields that the kind does not have are 0, and `info` is empty."""
 
-    kind: str
+    kind: "Kind"
     """One of KINDS."""
     sapi: int = 0
     cr: int = 0
@@ -45,14 +59,14 @@ class Frame(NamedTuple):
     nr: int = 0
     more: int = 0
     """M of an I frame."""
-    info: bytes = b""
+    info: "Octets" = b""
     """At most 20 octets on SDCCH, 18 on SACCH."""
 
 
 class NoFrame(ValueError):
-    """The octets are not a frame; `reason` is one of REFUSALS."""
+    """The octets are not a frame; `reason` is one of UNREAD."""
 
-    def __init__(self, reason: str):
+    def __init__(self, reason: "Unread"):
         super().__init__(f"octets: not an LAPDm frame ({reason}): {_REASONS[reason]}")
         self.reason = reason
 
@@ -62,17 +76,17 @@ class NoFrame(ValueError):
 
 def channel_number(channel: Any) -> int:
     """The number of a Channel, 0 or 1."""
-    if channel not in (0, 1) or isinstance(channel, (bool, float)):
+    if isinstance(channel, bool) or not hasattr(channel, "__index__") or channel not in (0, 1):
         raise ValueError(f"channel: {channel!r}; expected um.SDCCH or um.SACCH")
     return int(channel)
 
 
-def read_frame(octets: Any, channel: int = SDCCH) -> Frame:
+def read_frame(octets: "Octets", channel: int = SDCCH) -> Frame:
     """Decodes the frame in a block of 23 octets. Raises NoFrame, a ValueError, if the octets are not a frame."""
     raw = ctypes.create_string_buffer(28)
     answer = lib.um_read_frame(octets_of("octets", octets, 23), channel_number(channel), raw)
     if answer:
-        raise NoFrame(REFUSALS[answer - 1])
+        raise NoFrame(UNREAD[answer - 1])
     kind, sapi, cr, pf, ns, nr, more, count, info = _FRAME.unpack(raw)
     return Frame(KINDS[kind], sapi, cr, pf, ns, nr, more, info[:count])
 

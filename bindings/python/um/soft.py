@@ -1,81 +1,171 @@
-"""Converts a demodulator's output, or hard bits, to soft bits.
+"""Converts what receivers write to soft bits: hard bits, log-likelihood ratios, libosmocore's sbit_t, and octets of the TRX protocol.
 
-A soft bit is an int from -127 (certainly 1) to 127 (certainly 0); 0 means unknown.
+A soft bit is an int from -127 (certainly 1) to 127 (certainly 0); 0 means unknown. A numpy array yields an int8 array of its shape; a row
+yields array('b'), a list of rows a list of them.
 
-    >>> from um.soft import soft_from_llr, soft_from_bits
-    >>> soft_from_llr([8.0, -0.5, 0.0, float("inf")])
-    array('b', [127, -8, 0, 127])
-    >>> soft_from_llr([0.5, -1.0], scale=127, positive=1)
-    array('b', [-64, 127])
+    >>> from um.soft import soft_from_bits, soft_from_llr, soft_from_sbits, soft_from_trx
     >>> soft_from_bits([b"\\0\\1", b"\\1\\1"])
     [array('b', [127, -127]), array('b', [-127, -127])]
+    >>> soft_from_llr([30.0, -0.5, 0.0, float("inf")])
+    array('b', [120, -2, 0, 127])
+    >>> soft_from_llr([0.5, -1.0], scale=50, positive=1)
+    array('b', [-25, 50])
+    >>> soft_from_sbits(b"\\x80\\x7f"), soft_from_trx(b"\\0\\x7f\\xff")
+    (array('b', [-127, 127]), array('b', [127, 0, -127]))
 """
 import array
+import math
 import numbers
-from typing import Any, Callable, List
+from typing import TYPE_CHECKING, Any, Callable, List, Sequence, Union, overload
 
 from ._values import bits as _bits
-from ._values import name_of, number, view_of
+from ._values import is_row, name_of, number, octets, view_of
+
+if TYPE_CHECKING:
+    from ._types import Array, Integers, Reals, SoftArray
+
+    Row = array.array[int]
+
+# How many numbers soft_from_llr works on at a time: their floats stay in the cache.
+_AT_ONCE = 1 << 15
 
 
-def soft_from_llr(values: Any, scale: float = 16.0, positive: int = 0) -> Any:
+@overload
+def soft_from_llr(values: "Array", scale: float = ..., positive: int = ...) -> "SoftArray": ...
+@overload
+def soft_from_llr(values: "Reals", scale: float = ..., positive: int = ...) -> "Row": ...
+@overload
+def soft_from_llr(values: "Sequence[Reals]", scale: float = ..., positive: int = ...) -> "List[Row]": ...
+def soft_from_llr(values: Any, scale: float = 4.0, positive: int = 0) -> Any:
     """Converts log-likelihood ratios, ln P(0)/P(1), or other numbers whose magnitude is the confidence in a bit: multiplies by `scale`,
-    rounds, and clips to -127 to 127. `positive` is the bit that a positive number represents. For numbers from -1 to 1 use a scale of
-    127.
+    rounds to the nearest integer (ties to even), and clips to -127 to 127. `positive` is the bit that a positive number represents. Scale a
+    demodulator's samples so that a usual one is 32 to 64, with one factor for a block.
 
-    A numpy array yields an int8 array of its shape; a row yields array('b'), a list of rows a list of them. NaN raises ValueError;
-    bytes raise TypeError, since they may be signed or unsigned."""
-    if not scale > 0:
-        raise ValueError(f"scale: {scale!r}; expected a number above 0")
-    factor = -scale if number("positive", positive, 0, 1) else scale
+    NaN raises ValueError; bytes raise TypeError, since they may be signed or unsigned."""
+    factor = _scale(scale)
+    factor = -factor if number("positive", positive, 0, 1) else factor
     if hasattr(values, "dtype"):
         return _scaled_array(values, factor)
-    return _rows("values", values, lambda name, row: _scaled_row(name, row, factor))
+    return _rows("values", values, "numbers", lambda name, row: _scaled_row(name, row, factor))
 
 
+@overload
+def soft_from_bits(bits: "Array", sure: int = ...) -> "SoftArray": ...
+@overload
+def soft_from_bits(bits: "Integers", sure: int = ...) -> "Row": ...
+@overload
+def soft_from_bits(bits: "Sequence[Integers]", sure: int = ...) -> "List[Row]": ...
 def soft_from_bits(bits: Any, sure: int = 127) -> Any:
-    """Converts hard bits to soft bits: `sure` for a 0, -`sure` for a 1.
-
-    A numpy array yields an int8 array of its shape; a row yields array('b'), a list of rows (as from `send_block`) a list of them."""
+    """Converts hard bits to soft bits: `sure` for a 0, -`sure` for a 1."""
     number("sure", sure, 1, 127)
-    if hasattr(bits, "dtype"):
-        import numpy
+    if not hasattr(bits, "dtype"):
+        return _rows("bits", bits, "bits", lambda name, row: _soft_row(name, row, sure))
+    if bits.dtype.kind not in "bui" or bits.size and (bits.max() > 1 or bits.min() < 0):
+        raise ValueError(f"bits: {name_of(bits)}; expected only 0 and 1")
+    import numpy
 
-        if bits.dtype.kind not in "bui" or numpy.any((bits != 0) & (bits != 1)):
-            raise ValueError(f"bits: {name_of(bits)}; expected only 0 and 1")
-        return numpy.where(bits == 0, numpy.int8(sure), numpy.int8(-sure))
-    return _rows("bits", bits, lambda name, row: _soft_row(name, row, sure))
-
-
-def _rows(name: str, values: Any, row_of: Callable[[str, Any], "array.array[int]"]) -> Any:
-    if isinstance(values, (str, int, float)) or not hasattr(values, "__iter__"):
-        raise TypeError(f"{name}: {name_of(values)}; expected numbers, or rows of them")
-    if view_of(values) is None:
-        rows: List[Any] = list(values)
-        if rows and hasattr(rows[0], "__iter__"):
-            return [row_of(f"{name}[{i}]", row) for i, row in enumerate(rows)]
-        values = rows
-    return row_of(name, values)
+    soft = bits.astype(numpy.int8)
+    soft *= -2
+    soft += 1
+    soft *= numpy.int8(sure)
+    return soft
 
 
-def _soft_row(name: str, row: Any, sure: int) -> "array.array[int]":
+@overload
+def soft_from_sbits(sbits: "Array") -> "SoftArray": ...
+@overload
+def soft_from_sbits(sbits: "Integers") -> "Row": ...
+@overload
+def soft_from_sbits(sbits: "Sequence[Integers]") -> "List[Row]": ...
+def soft_from_sbits(sbits: Any) -> Any:
+    """Converts libosmocore's sbit_t, from -128 to 127, to soft bits: -128 becomes -127. Bytes are in two's complement."""
+    if not hasattr(sbits, "dtype"):
+        return _rows("sbits", sbits, "sbit_t", _sbit_row)
+    import numpy
+
+    if sbits.dtype != numpy.int8:
+        raise TypeError(f"sbits: {name_of(sbits)}; expected int8")
+    return numpy.maximum(sbits, numpy.int8(-127))
+
+
+@overload
+def soft_from_trx(octets: "Array") -> "SoftArray": ...
+@overload
+def soft_from_trx(octets: "Integers") -> "Row": ...
+@overload
+def soft_from_trx(octets: "Sequence[Integers]") -> "List[Row]": ...
+def soft_from_trx(octets: Any) -> Any:
+    """Converts the soft bits of the TRX protocol, octets from 0 (certainly 0) to 255 (certainly 1): 127 minus the octet, at least -127."""
+    if not hasattr(octets, "dtype"):
+        return _rows("octets", octets, "octets", _trx_row)
+    import numpy
+
+    if octets.dtype != numpy.uint8:
+        raise TypeError(f"octets: {name_of(octets)}; expected uint8")
+    return (numpy.uint8(127) - numpy.minimum(octets, numpy.uint8(254))).view(numpy.int8)
+
+
+def _scale(scale: Any) -> float:
+    try:
+        factor = float(scale)
+    except OverflowError:
+        factor = math.inf
+    except (TypeError, ValueError):
+        raise TypeError(f"scale: {name_of(scale)}; expected a number above 0") from None
+    if not 0 < factor < math.inf:
+        raise ValueError(f"scale: {name_of(scale)}; expected a finite number above 0")
+    return factor
+
+
+def _rows(name: str, values: Any, what: str, row_of: "Callable[[str, Any], Row]") -> "Union[Row, List[Row]]":
+    view = view_of(values)
+    if view is not None and view.ndim > 1:
+        values = view.tolist()
+    elif view is not None:
+        return row_of(name, values)
+    if not is_row(values):
+        raise TypeError(f"{name}: {name_of(values)}; expected {what}, or rows of them")
+    rows: List[Any] = list(values)
+    if rows and is_row(rows[0]):
+        return [row_of(f"{name}[{i}]", row) for i, row in enumerate(rows)]
+    return row_of(name, rows)
+
+
+def _soft_row(name: str, row: Any, sure: int) -> "Row":
     row = row if isinstance(row, bytes) else list(row)
     return array.array("b", (-sure if bit else sure for bit in _bits(name, row, len(row))))
 
 
-def _scaled_row(name: str, row: Any, factor: float) -> "array.array[int]":
+def _sbit_row(name: str, row: Any) -> "Row":
+    if isinstance(row, (bytes, bytearray)):
+        sbits: List[Any] = list(array.array("b", bytes(row)))
+    else:
+        sbits = [number(f"{name}[{at}]", value, -128, 127) for at, value in enumerate(row)]
+    return array.array("b", (max(sbit, -127) for sbit in sbits))
+
+
+def _trx_row(name: str, row: Any) -> "Row":
+    return array.array("b", (max(127 - octet, -127) for octet in octets(name, row)))
+
+
+def _scaled_row(name: str, row: Any, factor: float) -> "Row":
     if isinstance(row, (bytes, bytearray)):
         raise TypeError(f"{name}: {name_of(row)}; expected numbers: array.array('b', octets) reads octets as signed")
-    scaled = array.array("b")
-    for at, value in enumerate(row):
-        if not isinstance(value, numbers.Real):
-            raise TypeError(f"{name}[{at}]: {name_of(value)}; expected a number")
+    return array.array("b", (_scaled(f"{name}[{at}]", value, factor) for at, value in enumerate(row)))
+
+
+def _scaled(name: str, value: Any, factor: float) -> int:
+    if not isinstance(value, numbers.Real):
+        raise TypeError(f"{name}: {name_of(value)}; expected a number")
+    try:
         # as a float: a small numpy integer would overflow
         real = float(value) * factor
-        if real != real:
-            raise ValueError(f"{name}[{at}]: NaN; expected a number")
-        scaled.append(round(max(-127.0, min(127.0, real))))
-    return scaled
+    except OverflowError:
+        # beyond the largest float: the sign alone matters
+        real = -math.inf if (value < 0) == (factor > 0) else math.inf
+    if real != real:
+        raise ValueError(f"{name}: NaN; expected a number")
+    return round(max(-127.0, min(127.0, real)))
 
 
 def _scaled_array(values: Any, factor: float) -> Any:
@@ -83,8 +173,19 @@ def _scaled_array(values: Any, factor: float) -> Any:
 
     if values.dtype.kind not in "fiu":
         raise TypeError(f"values: {name_of(values)}; expected floats or ints")
-    # as floats: small integers would overflow
-    scaled = values.astype(float) * factor
-    if numpy.isnan(scaled).any():
-        raise ValueError(f"values: NaN at {tuple(map(int, numpy.argwhere(numpy.isnan(scaled))[0]))}; expected numbers")
-    return numpy.clip(numpy.rint(scaled), -127, 127).astype(numpy.int8)
+    soft: Any = numpy.empty(values.shape, numpy.int8)
+    given, made = values.reshape(-1), soft.reshape(-1)
+    # as floats of eight octets: small integers would overflow, and products of four octets would be rounded twice
+    work = numpy.empty(min(_AT_ONCE, given.size), numpy.float64)
+    for at in range(0, given.size, _AT_ONCE):
+        part = given[at : at + _AT_ONCE]
+        scaled = work[: part.size]
+        with numpy.errstate(over="ignore"):  # clipped below
+            numpy.multiply(part, factor, out=scaled, casting="unsafe")
+        numpy.rint(scaled, out=scaled)
+        numpy.clip(scaled, -127, 127, out=scaled)
+        if numpy.isnan(scaled.sum()):
+            where = numpy.unravel_index(at + int(numpy.isnan(scaled).argmax()), values.shape)
+            raise ValueError(f"values: NaN at {tuple(map(int, where))}; expected numbers")
+        made[at : at + _AT_ONCE] = scaled
+    return soft

@@ -80,7 +80,10 @@ fn margin_and_repair() -> Result<(), Invalid> {
     let mut word: [u8; 224] = core::array::from_fn(|i| u8::from(i >= 184)); // the CRC of 23 octets of zeros is 40 ones
     assert_eq!(um::repair(&word)?, Repair::Holds);
     (word[184], word[195]) = (0, 0);
-    let Repair::Repaired(report) = um::repair(&word)? else { panic!("a burst of twelve places is put right") };
+    let report = match um::repair(&word)? {
+        Repair::Repaired(report) => report,
+        other => panic!("a burst of twelve places is put right, not {other:?}"),
+    };
     assert_eq!((report.first, report.span, report.word[184], report.word[195]), (184, 12, 1, 1));
     word[0] = 1;
     assert_eq!(um::repair(&word)?, Repair::NoRepair);
@@ -112,7 +115,7 @@ fn session() -> Result<(), Box<dyn Error>> {
     assert_eq!(mobile.take(&[0; 23]), Err(Refused::NoFrame));
     let mut full = mobile;
     for _ in 0..8 {
-        full.send(&[1])?;
+        assert!(full.send(&[1]).is_ok());
     }
     assert_eq!(full.send(&[1]), Err(Refused::Full));
     assert_ne!(full, mobile);
@@ -142,7 +145,7 @@ fn both_links() -> Result<(), Box<dyn Error>> {
         assert_eq!((sapi, opened.notices().next()), (wanted, Some(Notice::Opened(info))));
     }
     let up = mobile.send(Sapi::Signalling, b"up")?;
-    network.send(Sapi::ShortMessages, b"down")?;
+    assert_eq!(network.send(Sapi::ShortMessages, b"down")?.frames().len(), 1);
     assert_eq!(mobile.timer(Sapi::ShortMessages), Err(Refused::NotRunning));
     let (sapi, got) = mobile.take(&network.timer(Sapi::ShortMessages)?.frames()[0])?;
     assert_eq!((sapi, got.notices().next()), (Sapi::ShortMessages, Some(Notice::Got(b"down"))));

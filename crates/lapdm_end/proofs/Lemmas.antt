@@ -2,9 +2,9 @@
 -- calls implement.
 use Rattle.{
   lapdm_end.specs.{
-    Abstraction.{RepresentsInState, Represents},
+    Abstraction.{Represents, command_repeats, role_of, segment_repeats_in},
     Addresses.{IsAddressOf, spec_role_of},
-    Parts.{AreConsistent, EndpointValues, IsWindowInitialBeforeOpen, IsInitialWindow, values_of},
+    Parts.{AreConsistent, EndpointValues, HasNoRepeats, IsWindowInitialBeforeOpen, IsInitialWindow, values_of},
     Refinement.AppendsOutcome,
     Sides.{CarriesOutStep, Represents as SideRepresents, StepRefines, channel_of, endpoint_of, other},
     Windows.{AppendsOutcomeInOpen, RepresentsOpenEndpoint, answers_out_of_sequence_segment, sends_outstanding_segment, takes_segment},
@@ -12,15 +12,14 @@ use Rattle.{
   },
   lapdm_frame.specs.{Content.Frame, Frames.octets_of, Layout.n201},
   lapdm_window.{
-    proofs.{
-      Lemmas.{HasSameStateVariables-values, by_sapi, counted, evaluates_nr-is},
-      segmenting.Lemmas.{completed_message_after-last, message_if_fits-some},
-    },
+    proofs.Lemmas.{HasSameStateVariables-values, by_sapi, counted, evaluates_nr-is, one_window},
+    proofs.segmenting.Lemmas.{completed_message_after-last, message_if_fits-some},
     specs.{
       Abstraction.{HasSameStateVariables, HoldsUnackedMessages, Represents as WindowRepresents},
       Answers.{acknowledgement_by_nr, t200_result},
-      Calls.{frame_to_retransmit, t200_expiry},
-      Ends.{EndpointState, IsBeforeOpen, IsValidEndpoint, Outcome, Role, awaits_ack, n200, sends_frame, vr, ◌then◌},
+      Calls.{awaited_frame, t200_expiry},
+      Ends.{EndpointState, HasWindowOfOne, IsBeforeOpen, IsPossibleSabmInfo, IsValidEndpoint, Outcome, Role, awaits_ack, n200, no_effect},
+      Ends.{sends_frame, vr, ◌then◌},
       Rules.{accepts_segment, answers_segment, evaluates_nr, has_segment_to_send, reject_is_due, segment_notices, sends_next_segment},
       Rules.{sends_segment, takes_i_frame, with_reject_condition, with_segment_sent},
       Sides.{SideState, endpoint_with_sapi, endpoint_step, step_for_frame},
@@ -33,8 +32,8 @@ use Rattle.{
     },
   },
   std.proofs.{
-    Common.{Bool, IsTrue, List, [], append_assoc, ap, arith, false, if◌then◌else◌, length, map, nat_eq, nat_lt, refl, subst, sym},
-    Common.{true, unwrap_or, ℕ, ◌++◌, ◌+◌, ◌<◌, ◌∙◌, ◌∷◌, ◌≡◌, ◌≢◌, ◌≤◌},
+    Common.{Bool, List, [], append_assoc, ap, arith, false, if◌then◌else◌, length, map, nat_eq, nat_lt, refl, subst, sym, true},
+    Common.{unwrap_or, ℕ, ◌++◌, ◌+◌, ◌<◌, ◌∙◌, ◌∷◌, ◌≡◌, ◌≢◌, ◌≤◌},
     lemmas.{Bool.Decides.nat_tests, List.{append-nil, map-append}},
   },
 }
@@ -46,8 +45,11 @@ use Rattle.lapdm_window.specs.declared.Notice.TheVariants as N
 use Rattle.lapdm_window.specs.declared.Reason.TheVariants as R
 use Rattle.lapdm_window.specs.declared.Timer.TheVariants as T
 use Rattle.lapdm_window.specs.Abstraction as W
+use Rattle.lapdm_window.specs.Ends as E
 use Rattle.lapdm_window.specs.Parts as P
 use Rattle.lapdm_end.specs.Abstraction as L
+use Rattle.lapdm_end.specs.declared.Role as Rust
+use Rattle.lapdm_end.specs.declared.Role.TheVariants as V0
 use Rattle.lapdm_end.specs.Refinement as F
 
 -- ## Rules: The rules of the specification, split into the parts that the Rust functions carry out one after another.
@@ -103,6 +105,9 @@ awaits_ack-next e h = grind arith
 pub sends_next_segment-yes : (e : EndpointState) → e.state ≡ Open → has_segment_to_send e ≡ true
     → sends_next_segment e ≡ sends_segment e
 sends_next_segment-yes e o h = rw (o, h)
+
+pub sends_next_segment-no : (e : EndpointState) → has_segment_to_send e ≡ false → sends_next_segment e ≡ no_effect e
+sends_next_segment-no e h = grind arith
 
 sends_segment-is : (e : EndpointState) → has_segment_to_send e ≡ true →
     sends_segment e ≡ sends_outstanding_segment false (with_segment_sent e)
@@ -184,34 +189,58 @@ with_fields role sapi s k r e = record e { role = role; sapi = sapi; state = s; 
 abbrev pub moved : State → Message → ℕ → EndpointState → EndpointState
 moved s k r e = with_fields e.role e.sapi s k r e
 
--- a window still represents an endpoint whose role, SAPI, link state or SABM information changes; the retry count may change only if no
--- segment is outstanding
-module _ {role : Role} {sapi : Sapi} {s : State} {k : Message} {r : ℕ} {e : EndpointState} where
-  pub Holds-other : {held : List Message} {place : ℕ} → HoldsUnackedMessages held place e →
-      HoldsUnackedMessages held place (with_fields role sapi s k r e)
-  Holds-other h = grind arith
-
-  pub Window-other : {w : Window} → (IsTrue (awaits_ack e) → e.retries ≡ r) → W.Represents w e →
-      W.Represents w (with_fields role sapi s k r e)
-  Window-other same h = grind arith
+-- a window still holds the unacknowledged messages of an endpoint whose role, SAPI, link state, SABM information or retry count changes
+pub Holds-other : {role : Role} {sapi : Sapi} {s : State} {k : Message} {r place : ℕ} {e : EndpointState} {held : List Message} →
+    HoldsUnackedMessages held place e → HoldsUnackedMessages held place (with_fields role sapi s k r e)
+Holds-other h = grind arith
 
 -- an `Endpoint` with link state s, SABM information k and retry count r represents endpoint e after s, k and r replace the corresponding
 -- values of e
 pub Represents-moved : {m : Endpoint} {s : State} {k : Message} {r : ℕ} {e : EndpointState} → IsValidEndpoint e →
-    IsAddressOf m.address e →
-    HasSameStateVariables m.window e → m.state ≡ s → m.sabm_info ≡ k → length k ≤ n201 e.channel →
-    (e.sapi ≡ Three → k ≡ []) →
-    (IsBeforeOpen s → IsBeforeOpen e.state) → RepresentsInState m.state m.window m.retries (moved s k r e) →
-    Represents m (moved s k r e)
-Represents-moved end link variables state kept fits empty_on_sapi3 back now = grind arith
+    IsAddressOf m.address e → HasSameStateVariables m.window e →
+    HoldsUnackedMessages m.window.held.items m.window.segment_index e → m.state ≡ s → m.sabm_info ≡ k →
+    length k ≤ n201 e.channel → IsPossibleSabmInfo s e.sapi k → (s ≡ Opening → e.sapi ≡ Zero → e.role ≡ E.Mobile) →
+    (IsBeforeOpen s → IsBeforeOpen e.state) →
+    m.retries ≡ command_repeats s r → m.window.retries ≡ segment_repeats_in s (moved s k r e) → Represents m (moved s k r e)
+Represents-moved {m} {s} {k} {r} {e} end link variables holds state kept fits possible opens back retries repeats = record {
+  valid = grind arith;
+  address = grind arith;
+  state = state;
+  sabm_info = kept;
+  variables = grind arith;
+  unacked_messages = Holds-other holds;
+  retries = retries;
+  segment_repeats = repeats;
+}
 
-pub unopened-moved : {w : Window} {s : State} {k : Message} {r : ℕ} {e : EndpointState} → e.messages ≡ [] → W.Represents w e →
-    W.Represents w (moved s k r e)
-unopened-moved taken h = grind arith
+-- SABM information that is possible in a state other than Idle is possible in each of them
+pub possible_later : (s t : State) (sapi : Sapi) (info : Message) → s ≢ Idle → t ≢ Idle → IsPossibleSabmInfo s sapi info →
+    IsPossibleSabmInfo t sapi info
+possible_later s t sapi info begun later possible = grind arith
 
--- the SABM information that an endpoint keeps is empty on SAPI 3
-pub sabm_info-sapi3 : {m : Endpoint} {e : EndpointState} → Represents m e → m.address.sapi ≡ Three → e.sabm_info ≡ []
-sabm_info-sapi3 h three = grind arith
+-- no segment of an endpoint without messages is outstanding
+pub unopened : (e : EndpointState) → e.messages ≡ [] → HasWindowOfOne e → awaits_ack e ≡ false
+unopened e taken window = grind arith
+
+-- the variables of a window, and the messages that it holds, do not depend on its count of repetitions
+pub stopped : (w v : Window) {e : EndpointState} → P.values_of v ≡ record (P.values_of w) { retries = 0 } →
+    HasSameStateVariables w e → HasSameStateVariables v e
+stopped w v same h = grind arith
+
+pub stopped_holds : (w v : Window) {e : EndpointState} → P.values_of v ≡ record (P.values_of w) { retries = 0 } →
+    HoldsUnackedMessages w.held.items w.segment_index e → HoldsUnackedMessages v.held.items v.segment_index e
+stopped_holds w v same h = grind arith
+
+pub stopped_retries : (w v : Window) → P.values_of v ≡ record (P.values_of w) { retries = 0 } → v.retries ≡ 0
+stopped_retries w v same = ap (λ (x : P.WindowValues). x.retries) same
+
+-- in Open, the SABM information that an endpoint keeps is possible, and no SABM or DISC has been repeated
+pub kept_in_open : {m : Endpoint} {e : EndpointState} → m.state ≡ Open → Represents m e →
+    IsPossibleSabmInfo Open m.address.sapi e.sabm_info
+kept_in_open is_now h = grind arith
+
+pub unrepeated_in_open : {m : Endpoint} {e : EndpointState} → m.state ≡ Open → Represents m e → m.retries ≡ 0
+unrepeated_in_open {m} {e} is_now h = h.retries ∙ ap (λ s. command_repeats s e.retries) (sym h.state ∙ is_now)
 
 -- if A holds and A implies B, both A and B hold
 pub both : {A B : Type 0} → A → (A → B) → A × B
@@ -221,24 +250,51 @@ pub as_outcome : {m : Endpoint} {effects : Effects} (e : EndpointState) {o p : O
     Represents m p.new_state × HasEffects effects e.channel p → Represents m o.new_state × HasEffects effects e.channel o
 as_outcome e same h = grind arith
 
--- in every link state, the window of an `Endpoint` holds the unacknowledged messages
-pub window_holds_unacked : (w : Window) (r : ℕ) (e : EndpointState) (s : State) → RepresentsInState s w r e →
-    HoldsUnackedMessages w.held.items w.segment_index e
-window_holds_unacked w r e s h = grind arith
-
 -- in Open, if an `Endpoint` represents an abstract endpoint, so does its window; therefore a rule proved for the window holds for the
 -- `Endpoint`
 pub Runs-open : {m : Endpoint} {e : EndpointState} → m.state ≡ Open → Represents m e → RepresentsOpenEndpoint m.address m.window e
-Runs-open {m} {e} is_now h = grind arith
+Runs-open {m} {e} is_now h =
+    let open_now : e.state ≡ Open = sym h.state ∙ is_now in
+    record {
+      address = h.address;
+      state = open_now;
+      window = record {
+        window_of_one = h.valid.window;
+        variables = h.variables;
+        unacked_messages = h.unacked_messages;
+        retries = h.segment_repeats ∙ ap (λ s. segment_repeats_in s e) open_now;
+      };
+    }
 
-pub refines-open : {a b : Effects} {e : EndpointState} {o : Outcome} (m : Endpoint) → m.state ≡ Open → m.sabm_info ≡ e.sabm_info →
-    (m.address.sapi ≡ Three → e.sabm_info ≡ []) → a.frames ≡ [] → a.notices ≡ [] → m.address.channel ≡ e.channel →
-    AppendsOutcomeInOpen m.address m.window a b e o → Represents m o.new_state × HasEffects b e.channel o
-refines-open m is_now kept empty_on_sapi3 fs ns channel g = (grind arith, grind arith)
+represents_in_open : {m : Endpoint} {e : EndpointState} {info : Message} → m.state ≡ Open → m.sabm_info ≡ info →
+    IsPossibleSabmInfo Open m.address.sapi info → m.retries ≡ 0 → e.sabm_info ≡ info →
+    RepresentsOpenEndpoint m.address m.window e → Represents m e
+represents_in_open {m} {e} is_now kept possible none same h = record {
+  valid = grind arith;
+  address = h.address;
+  state = is_now ∙ sym h.state;
+  sabm_info = kept ∙ sym same;
+  variables = h.window.variables;
+  unacked_messages = h.window.unacked_messages;
+  retries = none ∙ ap (λ s. command_repeats s e.retries) (sym h.state);
+  segment_repeats = h.window.retries ∙ ap (λ s. segment_repeats_in s e) (sym h.state);
+}
 
 pub Adds-open : {a b : Effects} {e : EndpointState} {o : Outcome} (m : Endpoint) → m.state ≡ Open → m.sabm_info ≡ e.sabm_info →
-    (m.address.sapi ≡ Three → e.sabm_info ≡ []) → AppendsOutcomeInOpen m.address m.window a b e o → AppendsOutcome m a b o
-Adds-open m is_now kept empty_on_sapi3 g = grind arith
+    IsPossibleSabmInfo Open m.address.sapi e.sabm_info → m.retries ≡ 0 → AppendsOutcomeInOpen m.address m.window a b e o →
+    AppendsOutcome m a b o
+Adds-open m is_now kept possible none g = record {
+  represents = represents_in_open is_now kept possible none g.sabm_info g.still_open;
+  frames = g.frames;
+  notices = g.notices;
+}
+
+pub refines-open : {a b : Effects} {e : EndpointState} {o : Outcome} (m : Endpoint) → m.state ≡ Open → m.sabm_info ≡ e.sabm_info →
+    IsPossibleSabmInfo Open m.address.sapi e.sabm_info → m.retries ≡ 0 → a.frames ≡ [] → a.notices ≡ [] →
+    m.address.channel ≡ e.channel → AppendsOutcomeInOpen m.address m.window a b e o →
+    Represents m o.new_state × HasEffects b e.channel o
+refines-open m is_now kept possible none fs ns channel g =
+    (represents_in_open is_now kept possible none g.sabm_info g.still_open, grind arith)
 
 -- `AppendsOutcome` holds if the `Endpoint` represents the new state and the frames and notices of the outcome are appended to the effects
 pub Adds-by : {m : Endpoint} {a b : Effects} {o : Outcome} →
@@ -253,7 +309,7 @@ t200_expiry-closes n e h most = grind (arith, nat_tests)
 
 -- at T200 expiry, an endpoint that has repeated a frame fewer than N200 times repeats the frame and counts the repetition
 pub t200_expiry-again : (n : ℕ) (e : EndpointState) (s : State) → e.state ≡ s → n ≡ n200 e.channel s → e.retries < n →
-    t200_expiry e ≡ sends_frame (frame_to_retransmit s e) (record e { retries = e.retries + 1 })
+    t200_expiry e ≡ sends_frame (awaited_frame true s e) (record e { retries = e.retries + 1 })
 t200_expiry-again n e s is h below = grind arith
 
 pub t200_result-spent : (e : EndpointState) → T.Spent ≡ t200_result e → n200 e.channel Open ≤ e.retries
@@ -269,10 +325,6 @@ t200_expiry-open e is waiting below = grind arith
 -- ## PartsOfEnds: Two `Endpoint`s with equal values represent the same endpoints, and values that represent an endpoint satisfy
 -- `AreConsistent`.
 
-RepresentsInState-values : (s : State) (w v : Window) (r q : ℕ) (e : EndpointState) → P.values_of w ≡ P.values_of v → r ≡ q →
-    RepresentsInState s w r e → RepresentsInState s v q e
-RepresentsInState-values s w v r q e h g k = grind arith
-
 pub Represents-same_values : (m n : Endpoint) (e : EndpointState) → values_of m ≡ values_of n → Represents m e → Represents n e
 Represents-same_values m n e same h =
     let window : P.values_of m.window ≡ P.values_of n.window = ap (λ (x : EndpointValues). x.window) same in
@@ -283,40 +335,56 @@ Represents-same_values m n e same h =
       state = sym state ∙ h.state;
       sabm_info = grind arith;
       variables = HasSameStateVariables-values window h.variables;
-      represents_in_state = rw (← state) (RepresentsInState-values m.state m.window n.window m.retries n.retries e window
-          (ap (λ (x : EndpointValues). x.retries) same) h.represents_in_state);
+      unacked_messages = grind arith;
+      retries = sym (ap (λ (x : EndpointValues). x.retries) same) ∙ h.retries;
+      segment_repeats = sym (ap (λ (x : EndpointValues). x.window.retries) same) ∙ h.segment_repeats;
     }
 
 -- the window is in its initial state if the endpoint that it represents has taken no message from layer 3 and accepted no segment
-unused : (w : Window) (e : EndpointState) → e.messages ≡ [] → e.accepted_segments ≡ [] → W.Represents w e →
-    IsInitialWindow (P.values_of w)
-unused w e taken accepted h = grind arith
+unused : (w : Window) (e : EndpointState) → e.messages ≡ [] → e.accepted_segments ≡ [] → HasWindowOfOne e →
+    HasSameStateVariables w e → HoldsUnackedMessages w.held.items w.segment_index e → IsInitialWindow (P.values_of w)
+unused w e taken accepted window variables holds = grind arith
+
+initial_in : (s : State) (w : Window) (e : EndpointState) → (IsBeforeOpen s → IsInitialWindow (P.values_of w)) →
+    IsWindowInitialBeforeOpen s (P.values_of w)
+initial_in s w e h = grind arith
+
+no_repeats_in : (s : State) (retries repeats : ℕ) (e : EndpointState) → retries ≡ command_repeats s e.retries →
+    repeats ≡ segment_repeats_in s e → (IsBeforeOpen s → awaits_ack e ≡ false) → HasNoRepeats s retries repeats
+no_repeats_in s retries repeats e h g before = grind arith
+
+is_mobile : (r : Rust.Role) → spec_role_of r ≡ E.Mobile → r ≡ V0.Mobile
+is_mobile r h = grind arith
 
 -- the values of an `Endpoint` that represents an endpoint satisfy `AreConsistent`
 pub is_consistent : (m : Endpoint) (e : EndpointState) → Represents m e → AreConsistent (values_of m)
-is_consistent m e h = grind arith
-
--- an endpoint state with its retry count replaced by r
-abbrev with_retries : ℕ → EndpointState → EndpointState
-with_retries r e = moved e.state e.sabm_info r e
+is_consistent m e h = record {
+  sabm_info_fits = grind arith;
+  possible_sabm_info = grind arith;
+  mobile_opens_sapi0 = grind (arith, is_mobile m.address.role);
+  no_repeats = rw h.state (no_repeats_in e.state m.retries m.window.retries e h.retries h.segment_repeats
+      (λ before. unopened e (h.valid.no_message_before_open before) h.valid.window));
+  window_initial_before_open = rw h.state (initial_in e.state m.window e (λ before. unused m.window e
+      (h.valid.no_message_before_open before) (h.valid.no_segment_before_open before) h.valid.window h.variables h.unacked_messages));
+}
 
 -- a window that holds the unacknowledged messages of an endpoint represents this endpoint with the retry count of the window
-held_by_then : (w : Window) (e : EndpointState) → IsValidEndpoint e → W.HasSameStateVariables w e →
-    W.HoldsUnackedMessages w.held.items w.segment_index e →
-    W.Represents w (with_retries w.retries e)
-held_by_then w e end variables holds = grind arith
+held_by_then : (w : Window) (e : EndpointState) → HasWindowOfOne e → W.HasSameStateVariables w e →
+    W.HoldsUnackedMessages w.held.items w.segment_index e → w.retries ≡ (if awaits_ack e then w.retries else 0) →
+    W.Represents w (moved e.state e.sabm_info w.retries e)
+held_by_then w e window variables holds counted =
+    record { window_of_one = grind arith; variables = grind arith; unacked_messages = Holds-other holds; retries = counted }
 
-window_in : (s : State) (w : Window) (r : ℕ) (e : EndpointState) → IsValidEndpoint e → W.HasSameStateVariables w e →
-    RepresentsInState s w r e → (f : EndpointState) × W.Represents w f
-window_in Idle w r e end variables h = (e, h)
-window_in Opening w r e end variables h = (e, h.window)
-window_in Open w r e end variables h = (e, h)
-window_in Closing w r e end variables h = (with_retries w.retries e, held_by_then w e end variables h.unacked_messages)
-window_in Closed w r e end variables h = (with_retries w.retries e, held_by_then w e end variables h)
+none_in : (s : State) (e : EndpointState) → segment_repeats_in s e ≡ (if awaits_ack e then segment_repeats_in s e else 0)
+none_in s e = grind arith
 
 -- if an `Endpoint` represents an endpoint, its window represents one, too
 pub window_of : (m : Endpoint) (e : EndpointState) → Represents m e → (f : EndpointState) × W.Represents m.window f
-window_of m e h = window_in m.state m.window m.retries e h.valid h.variables h.represents_in_state
+window_of m e h = (
+  moved e.state e.sabm_info m.window.retries e,
+  held_by_then m.window e h.valid.window h.variables h.unacked_messages
+      (rw h.segment_repeats (none_in e.state e)),
+)
 
 -- ## Represented: If the values of an `Endpoint` satisfy `AreConsistent` and its window represents an endpoint, the `Endpoint` represents
 -- one: before Open the initial endpoint, and from Open on the one that the window represents.
@@ -328,7 +396,7 @@ RepresentsOne m = (e : EndpointState) × Represents m e
 -- the endpoint state that an `Endpoint` in state Idle or Opening represents; it has no messages and no segments
 abbrev before : Endpoint → State → EndpointState
 before m s = record {
-  role = spec_role_of m.address.role;
+  role = role_of m;
   sapi = m.address.sapi;
   channel = m.address.channel;
   state = s;
@@ -341,40 +409,81 @@ before m s = record {
   retries = m.retries;
 }
 
-unused_end : (m : Endpoint) (s : State) → IsInitialWindow (P.values_of m.window) → W.Represents m.window (before m s)
+unused_end : (m : Endpoint) (s : State) → IsInitialWindow (P.values_of m.window) → W.HasSameStateVariables m.window (before m s) ×
+    W.HoldsUnackedMessages m.window.held.items m.window.segment_index (before m s)
 unused_end m s h = grind arith
 
 RepresentsOne-before_open : (m : Endpoint) (s : State) → m.state ≡ s → AreConsistent (values_of m) →
-    IsInitialWindow (P.values_of m.window) →
-    RepresentsInState s m.window m.retries (before m s) → RepresentsOne m
-RepresentsOne-before_open m s is h unused now = grind arith
+    IsInitialWindow (P.values_of m.window) → m.retries ≡ command_repeats s m.retries →
+    m.window.retries ≡ segment_repeats_in s (before m s) → RepresentsOne m
+RepresentsOne-before_open m s is h unused retries repeats =
+    let now = unused_end m s unused in
+    let same : m.sabm_info ≡ m.sabm_info = refl in (
+      before m s,
+      record {
+        valid = grind arith;
+        address = record { role = refl; sapi = refl; channel = refl };
+        state = is;
+        sabm_info = same;
+        variables = now.0;
+        unacked_messages = now.1;
+        retries = retries;
+        segment_repeats = repeats;
+      },
+    )
 
 -- the endpoint state that an `Endpoint` in state Open, Closing or Closed represents: the state that its window represents, with the role,
 -- SAPI, link state and SABM information of the `Endpoint`
 abbrev since : Endpoint → State → ℕ → EndpointState → EndpointState
-since m s retries e = with_fields (spec_role_of m.address.role) m.address.sapi s m.sabm_info retries e
+since m s retries e = with_fields (role_of m) m.address.sapi s m.sabm_info retries e
 
 RepresentsOne-from_open : (m : Endpoint) (s : State) (retries : ℕ) (e : EndpointState) → m.state ≡ s → (IsBeforeOpen s → ⊥) →
-    AreConsistent (values_of m) → W.Represents m.window e → RepresentsInState s m.window m.retries (since m s retries e) →
-    RepresentsOne m
-RepresentsOne-from_open m s retries e is opened h window now = grind arith
+    AreConsistent (values_of m) → W.Represents m.window e → m.retries ≡ command_repeats s retries →
+    m.window.retries ≡ segment_repeats_in s (since m s retries e) → RepresentsOne m
+RepresentsOne-from_open m s retries e is opened h window counted repeats = (
+  since m s retries e,
+  record {
+    valid = grind arith;
+    address = grind arith;
+    state = is;
+    sabm_info = refl;
+    variables = grind arith;
+    unacked_messages = Holds-other window.unacked_messages;
+    retries = counted;
+    segment_repeats = repeats;
+  },
+)
 
 RepresentsOne-by_state : (m : Endpoint) (s : State) (e : EndpointState) → m.state ≡ s → AreConsistent (values_of m) →
-    W.Represents m.window e →
-    IsWindowInitialBeforeOpen s (P.values_of m.window) → RepresentsOne m
-RepresentsOne-by_state m Idle e is h window now = RepresentsOne-before_open m Idle is h now (unused_end m Idle now)
-RepresentsOne-by_state m Opening e is h window now =
-    RepresentsOne-before_open m Opening is h now (record { window = unused_end m Opening now; retry_count = refl })
-RepresentsOne-by_state m Open e is h window now =
-    RepresentsOne-from_open m Open e.retries e is (λ u. u) h window (Window-other (λ t. refl) window)
-RepresentsOne-by_state m Closing e is h window now =
-    RepresentsOne-from_open m Closing m.retries e is (λ u. u) h window
-    (record { unacked_messages = Holds-other window.unacked_messages; retry_count = refl })
-RepresentsOne-by_state m Closed e is h window now =
-    RepresentsOne-from_open m Closed m.retries e is (λ u. u) h window (Holds-other window.unacked_messages)
+    W.Represents m.window e → IsWindowInitialBeforeOpen s (P.values_of m.window) → HasNoRepeats s m.retries m.window.retries →
+    RepresentsOne m
+RepresentsOne-by_state m Idle e is h window now none = RepresentsOne-before_open m Idle is h now none.0 none.1
+RepresentsOne-by_state m Opening e is h window now none = RepresentsOne-before_open m Opening is h now refl none
+RepresentsOne-by_state m Open e is h window now none = RepresentsOne-from_open m Open e.retries e is (λ u. u) h window none window.retries
+RepresentsOne-by_state m Closing e is h window now none = RepresentsOne-from_open m Closing m.retries e is (λ u. u) h window refl none
+RepresentsOne-by_state m Closed e is h window now none = RepresentsOne-from_open m Closed m.retries e is (λ u. u) h window none.0 none.1
 
 pub represents_one : (m : Endpoint) (e : EndpointState) → AreConsistent (values_of m) → W.Represents m.window e → RepresentsOne m
-represents_one m e h window = RepresentsOne-by_state m m.state e refl h window h.window_initial_before_open
+represents_one m e h window = RepresentsOne-by_state m m.state e refl h window h.window_initial_before_open h.no_repeats
+
+-- ## OneState: An endpoint determines the values of each `Endpoint` that represents it.
+
+one_role : (r q : Rust.Role) → spec_role_of r ≡ spec_role_of q → r ≡ q
+one_role r q h = grind arith
+
+pub one_values : (m n : Endpoint) (e : EndpointState) → Represents m e → Represents n e → values_of m ≡ values_of n
+one_values m n e h g =
+    let role = one_role m.address.role n.address.role (h.address.role ∙ sym g.address.role) in
+    let window = one_window m.window n.window e h.variables g.variables h.unacked_messages g.unacked_messages
+    (h.segment_repeats ∙ sym g.segment_repeats) in
+    λ i. record {
+      role = role i;
+      sapi = (h.address.sapi ∙ sym g.address.sapi) i;
+      state = (h.state ∙ sym g.state) i;
+      sabm_info = (h.sabm_info ∙ sym g.sabm_info) i;
+      retries = (h.retries ∙ sym g.retries) i;
+      window = window i;
+    }
 
 -- ## SideSteps: A Rust `Side` carries out a step of the specification if its endpoint of one SAPI does so and its other endpoint is
 -- unchanged.

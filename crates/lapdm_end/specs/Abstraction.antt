@@ -4,13 +4,12 @@ use Rattle.std.specs.Prelude.{◌≡◌, ℕ}
 use Rattle.lapdm_frame.specs.declared.Channel.{Channel}
 use Rattle.lapdm_window.specs.declared.Sapi.{Sapi}
 use Rattle.lapdm_window.specs.declared.State.{State}
-use Rattle.lapdm_window.specs.declared.State.TheVariants.{Idle, Opening, Open, Closing, Closed}
-use Rattle.lapdm_window.specs.declared.window.Window.{Window}
-use Rattle.lapdm_window.specs.Ends.{EndpointState, IsValidEndpoint}
+use Rattle.lapdm_window.specs.declared.State.TheVariants.{Opening, Open, Closing}
+use Rattle.lapdm_window.specs.Ends.{Role, EndpointState, IsValidEndpoint}
 use Rattle.lapdm_window.specs.Abstraction.{HasSameStateVariables}
 use Rattle.lapdm_window.specs.Abstraction as W
 use Rattle.lapdm_end.specs.declared.ends.Endpoint.{Endpoint}
-use Rattle.lapdm_end.specs.Addresses.{IsAddressOf}
+use Rattle.lapdm_end.specs.Addresses.{IsAddressOf, spec_role_of}
 
 -- the channel of an endpoint
 abbrev pub channel_of : Endpoint → Channel
@@ -24,30 +23,28 @@ sapi_of m = m.address.sapi
 abbrev pub state_of : Endpoint → State
 state_of m = m.state
 
--- in Opening, window `w` represents endpoint `e`, and `retries` counts the repetitions of the SABM
-pub record RepresentsInOpening (w : Window) (retries : ℕ) (e : EndpointState) : Type 0 where
-  pub window : W.Represents w e
-  pub retry_count : retries ≡ e.retries
+-- the role of an endpoint
+abbrev pub role_of : Endpoint → Role
+role_of m = spec_role_of m.address.role
 
--- in Closing, window `w` still holds the unacknowledged messages of `e`, and `retries` counts the repetitions of the DISC
-pub record RepresentsInClosing (w : Window) (retries : ℕ) (e : EndpointState) : Type 0 where
-  pub unacked_messages : W.HoldsUnackedMessages w.held.items w.segment_index e
-  pub retry_count : retries ≡ e.retries
+-- how many times the SABM or DISC that awaits a response in this state has been repeated, or 0 if none awaits one
+abbrev pub command_repeats : (state : State) (retries : ℕ) → ℕ
+command_repeats Opening retries = retries
+command_repeats Closing retries = retries
+command_repeats other retries = 0
 
--- the window and the retry count represent an endpoint in this link state: in Open, the window counts the retries; in Closing and Closed,
--- it still holds the unacknowledged messages
-abbrev pub RepresentsInState : (state : State) (window : Window) (retries : ℕ) (endpoint : EndpointState) → Type 0
-RepresentsInState Idle w retries e = W.Represents w e
-RepresentsInState Opening w retries e = RepresentsInOpening w retries e
-RepresentsInState Open w retries e = W.Represents w e
-RepresentsInState Closing w retries e = RepresentsInClosing w retries e
-RepresentsInState Closed w retries e = W.HoldsUnackedMessages w.held.items w.segment_index e
+-- how many times the outstanding segment has been repeated, or 0 if none is outstanding or the link is not open
+abbrev pub segment_repeats_in : (state : State) (endpoint : EndpointState) → ℕ
+segment_repeats_in Open e = W.segment_repeats e
+segment_repeats_in other e = 0
 
--- the Rust endpoint `m` represents the abstract endpoint `e`
+-- the Rust endpoint `m` represents the abstract endpoint `e`; its window holds the unacknowledged messages in every state
 pub record Represents (m : Endpoint) (e : EndpointState) : Type 0 where
   pub valid : IsValidEndpoint e
   pub address : IsAddressOf m.address e
   pub state : m.state ≡ e.state
   pub sabm_info : m.sabm_info ≡ e.sabm_info
   pub variables : HasSameStateVariables m.window e
-  pub represents_in_state : RepresentsInState m.state m.window m.retries e
+  pub unacked_messages : W.HoldsUnackedMessages m.window.held.items m.window.segment_index e
+  pub retries : m.retries ≡ command_repeats e.state e.retries
+  pub segment_repeats : m.window.retries ≡ segment_repeats_in e.state e

@@ -4,13 +4,14 @@ use Rattle.lapdm_frame.specs.Layout.{n201}
 use Rattle.lapdm_window.specs.segmenting.Segments.{Message}
 use Rattle.lapdm_window.specs.segmenting.Joiners.{HoldsReassemblyOf}
 use Rattle.lapdm_window.specs.declared.Sapi.{Sapi}
-use Rattle.lapdm_window.specs.declared.Sapi.TheVariants.{Three}
+use Rattle.lapdm_window.specs.declared.Sapi.TheVariants.{Zero}
 use Rattle.lapdm_window.specs.declared.State.{State}
 use Rattle.lapdm_window.specs.declared.State.TheVariants.{Idle, Opening, Open, Closing, Closed}
-use Rattle.lapdm_window.specs.Ends.{EndpointState}
+use Rattle.lapdm_window.specs.Ends.{EndpointState, IsPossibleSabmInfo}
 use Rattle.lapdm_window.specs.Parts.{WindowValues}
 use Rattle.lapdm_window.specs.Parts as W
 use Rattle.lapdm_end.specs.declared.Role.{Role}
+use Rattle.lapdm_end.specs.declared.Role.TheVariants.{Mobile}
 use Rattle.lapdm_end.specs.declared.ends.Endpoint.{Endpoint}
 use Rattle.lapdm_end.specs.declared.parts.EndpointView.{EndpointView}
 use Rattle.lapdm_end.specs.Abstraction.{Represents}
@@ -74,8 +75,17 @@ IsWindowInitialBeforeOpen Open x = Unit {0}
 IsWindowInitialBeforeOpen Closing x = Unit {0}
 IsWindowInitialBeforeOpen Closed x = Unit {0}
 
+-- before state Open no segment has been repeated, in Open no SABM and no DISC, in Closing no segment, and in Idle and Closed nothing
+abbrev pub HasNoRepeats : (state : State) (retries segment_repeats : ℕ) → Type 0
+HasNoRepeats Opening retries segment_repeats = segment_repeats ≡ 0
+HasNoRepeats Closing retries segment_repeats = segment_repeats ≡ 0
+HasNoRepeats Open retries segment_repeats = retries ≡ 0
+HasNoRepeats other retries segment_repeats = (retries ≡ 0) × (segment_repeats ≡ 0)
+
 -- the conditions under which an endpoint can be restored from this state, in addition to the conditions on its window
 pub record AreConsistent (x : EndpointValues) : Type 0 where
   pub sabm_info_fits : length x.sabm_info ≤ n201 x.window.channel
-  pub empty_on_sapi3 : x.sapi ≡ Three → x.sabm_info ≡ []
+  pub possible_sabm_info : IsPossibleSabmInfo x.state x.sapi x.sabm_info
+  pub mobile_opens_sapi0 : x.state ≡ Opening → x.sapi ≡ Zero → x.role ≡ Mobile
+  pub no_repeats : HasNoRepeats x.state x.retries x.window.retries
   pub window_initial_before_open : IsWindowInitialBeforeOpen x.state x.window

@@ -5,6 +5,7 @@ use Rattle.lapdm_frame.specs.Frames.{octets_of}
 use Rattle.lapdm_window.specs.declared.Sapi.{Sapi}
 use Rattle.lapdm_window.specs.declared.Sapi.TheVariants.{Zero, Three}
 use Rattle.lapdm_window.specs.declared.effects.Effects.{Effects}
+use Rattle.lapdm_window.specs.Ends.{Role}
 use Rattle.lapdm_window.specs.Sides.{SideState, SideStep}
 use Rattle.lapdm_end.specs.declared.ends.Endpoint.{Endpoint}
 use Rattle.lapdm_end.specs.declared.sides.Side.{Side}
@@ -23,6 +24,10 @@ other Three = Zero
 -- the channel of both endpoints of the side
 abbrev pub channel_of : Side → Channel
 channel_of m = L.channel_of m.link0
+
+-- the role of both endpoints of the side
+abbrev pub role_of : Side → Role
+role_of m = L.role_of m.link0
 
 -- the two endpoints of the Rust side `m` represent the endpoints of the abstract side `a`
 pub record Represents (m : Side) (a : SideState) : Type 0 where

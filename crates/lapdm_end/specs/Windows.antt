@@ -1,13 +1,14 @@
 -- The rules of state Open as operations on an endpoint's address and window that append to the effects. Only the contracts inside this
 -- crate use these definitions.
-use Rattle.std.specs.Prelude.{◌≡◌, ◌++◌, ℕ, Bool, if◌then◌else◌, nat_eq, map}
+use Rattle.std.specs.Prelude.{◌≡◌, ◌++◌, ℕ, Bool, false, if◌then◌else◌, nat_eq, map, List, Option, Some, None}
 use Rattle.lapdm_frame.specs.Frames.{octets_of}
 use Rattle.lapdm_frame.specs.Content.{Rej}
 use Rattle.lapdm_window.specs.segmenting.Segments.{Segment}
 use Rattle.lapdm_window.specs.declared.State.TheVariants.{Open}
 use Rattle.lapdm_window.specs.declared.window.Window.{Window}
 use Rattle.lapdm_window.specs.declared.effects.Effects.{Effects}
-use Rattle.lapdm_window.specs.Ends.{EndpointState, Outcome, no_effect, sends_frame, ◌then◌, response_frame, awaits_ack, vr}
+use Rattle.lapdm_window.specs.Ends.{EndpointState, Outcome, no_effect, sends_frame, ◌then◌, response_frame, awaits_ack, awaits_answer, vr}
+use Rattle.lapdm_window.specs.Calls.{awaited_frame}
 use Rattle.lapdm_window.specs.Rules.{outstanding_frame, accepts_segment, answers_segment, rejects_segment, sends_next_segment}
 use Rattle.lapdm_window.specs.Abstraction.{Represents}
 use Rattle.lapdm_end.specs.declared.link.Address.{Address}
@@ -38,6 +39,10 @@ OpenStepAppendsOutcomeOfRule rule l w v old new = (e : EndpointState) → Repres
 -- the endpoint sends the outstanding segment with this P bit, if there is one
 abbrev pub sends_outstanding_segment : (poll_bit : Bool) (endpoint : EndpointState) → Outcome
 sends_outstanding_segment p e = if awaits_ack e then sends_frame (outstanding_frame p e) e else no_effect e
+
+-- the octets of the frame that awaits an answer, with P = 0 in an I frame, or `None` if no frame does
+abbrev pub awaited_block : EndpointState → Option (List ℕ)
+awaited_block e = if awaits_answer e then Some (octets_of e.channel (awaited_frame false e.state e)) else None
 
 -- the endpoint sends a REJ with this F bit, if one is due
 abbrev pub sends_rej : (due final_bit : Bool) (endpoint : EndpointState) → Outcome

@@ -1,6 +1,6 @@
 //! An endpoint, with one function for each call. A refused call changes nothing.
 
-ghost use Rattle.std.specs.Prelude.{◌≡◌, ◌≤◌, length};
+ghost use Rattle.std.specs.Prelude.{◌≡◌, ◌≢◌, ◌≤◌, length};
 ghost use Rattle.lapdm_frame.specs.Layout.{n201};
 ghost use Rattle.lapdm_window.specs.Abstraction.{channel_of as window_channel};
 
@@ -27,7 +27,7 @@ impl Endpoint {
     ghost use Rattle.std.specs.Prelude.{[], ◌∷◌, OnErr, OnOk, IfNone};
     ghost use Rattle.lapdm_frame.specs.Frames.{octets_of};
     ghost use Rattle.lapdm_window.specs.declared.State.TheVariants as S;
-    ghost use Rattle.lapdm_window.specs.Ends.{EndpointState, initial_endpoint};
+    ghost use Rattle.lapdm_window.specs.Ends.{EndpointState, Mobile, IsPossibleSabmInfo, initial_endpoint};
     ghost use Rattle.lapdm_window.specs.Calls.{
       first_refusal,
       single_frame_refusal_checks,
@@ -43,12 +43,13 @@ impl Endpoint {
     ghost use Rattle.lapdm_window.specs.Calls.{SendsUi, Closes, T200Expires, SendsFillFrame};
     ghost use Rattle.lapdm_window.specs.Tables.{closes_and_reports};
     ghost use Rattle.lapdm_end.specs.Addresses.{spec_role_of};
-    ghost use Rattle.lapdm_end.specs.Abstraction.{Represents, channel_of, sapi_of, state_of};
+    ghost use Rattle.lapdm_end.specs.Abstraction.{Represents, channel_of, role_of, sapi_of, state_of};
     ghost use Rattle.lapdm_end.specs.Refinement.{StepRefines, RefusesAsSpecified};
 
     /// Creates an endpoint in Idle, with this role, SAPI and channel.
     pub fn new_on(role: Role, sapi: Sapi, channel: Channel) -> Endpoint
         ensures represents { Represents result (initial_endpoint (spec_role_of role) sapi channel) }
+        ensures role { role_of result ≡ spec_role_of role }
         ensures sapi { sapi_of result ≡ sapi }
         ensures channel { channel_of result ≡ channel }
     {
@@ -80,12 +81,14 @@ impl Endpoint {
 
     /// Begins to establish the link: sends a SABM with this information.
     pub(crate) fn open_into(&mut self, info: &[u8], effects: &mut Effects) -> Result<(), Refused>
-        requires { sapi_of self.old ≡ Sapi.Zero }
+        requires sapi { sapi_of self.old ≡ Sapi.Zero }
+        requires role { role_of self.old ≡ Mobile }
         ensures refusal { RefusesAsSpecified (Opens info.now) self.old result }
         ensures refines { OnOk result
             (StepRefines (call_outcome (Opens info.now)) self.old effects.new self.new) }
         ensures refused { OnErr result (self.new ≡ self.old) }
         ensures out_unchanged { OnErr result (effects.new ≡ effects.old) }
+        ensures role { role_of self.new ≡ role_of self.old }
         ensures sapi { sapi_of self.new ≡ sapi_of self.old }
         ensures channel { channel_of self.new ≡ channel_of self.old }
     {
@@ -107,6 +110,7 @@ impl Endpoint {
             (StepRefines (call_outcome OpensWithoutInfo) self.old effects.new self.new) }
         ensures refused { OnErr result (self.new ≡ self.old) }
         ensures out_unchanged { OnErr result (effects.new ≡ effects.old) }
+        ensures role { role_of self.new ≡ role_of self.old }
         ensures sapi { sapi_of self.new ≡ sapi_of self.old }
         ensures channel { channel_of self.new ≡ channel_of self.old }
     {
@@ -124,6 +128,7 @@ impl Endpoint {
             (StepRefines (call_outcome (Sends message.now)) self.old effects.new self.new) }
         ensures refused { OnErr result (self.new ≡ self.old) }
         ensures out_unchanged { OnErr result (effects.new ≡ effects.old) }
+        ensures role { role_of self.new ≡ role_of self.old }
         ensures sapi { sapi_of self.new ≡ sapi_of self.old }
         ensures channel { channel_of self.new ≡ channel_of self.old }
     {
@@ -168,6 +173,7 @@ impl Endpoint {
             (StepRefines (call_outcome Closes) self.old effects.new self.new) }
         ensures refused { OnErr result (self.new ≡ self.old) }
         ensures out_unchanged { OnErr result (effects.new ≡ effects.old) }
+        ensures role { role_of self.new ≡ role_of self.old }
         ensures sapi { sapi_of self.new ≡ sapi_of self.old }
         ensures channel { channel_of self.new ≡ channel_of self.old }
     {
@@ -176,6 +182,7 @@ impl Endpoint {
         }
         self.state = State::Closing;
         self.retries = 0;
+        self.window.stop_repeating();
         self.send_disc(effects);
         Ok(())
     }
@@ -187,6 +194,7 @@ impl Endpoint {
             (StepRefines (call_outcome T200Expires) self.old effects.new self.new) }
         ensures refused { OnErr result (self.new ≡ self.old) }
         ensures out_unchanged { OnErr result (effects.new ≡ effects.old) }
+        ensures role { role_of self.new ≡ role_of self.old }
         ensures sapi { sapi_of self.new ≡ sapi_of self.old }
         ensures channel { channel_of self.new ≡ channel_of self.old }
     {
@@ -212,9 +220,10 @@ impl Endpoint {
     }
 
     // Returns why this message cannot be sent in one frame (it is empty or longer than N201), or `None` if it can.
-    fn single_frame_refusal(&self, message: &[u8]) -> Option<Refused>
+    pub(crate) fn single_frame_refusal(&self, message: &[u8]) -> Option<Refused>
         ensures refusal { (e : EndpointState) → Represents self.now e
             → result ≡ first_refusal (single_frame_refusal_checks message.now e) }
+        ensures some { IfNone result (1 ≤ length message.now) }
         ensures fits { IfNone result (length message.now ≤ n201 (channel_of self.now)) }
     {
         if message.is_empty() {
@@ -229,8 +238,10 @@ impl Endpoint {
     fn begin_establishment(&mut self, info: &[u8], effects: &mut Effects)
         requires idle { state_of self.old ≡ S.Idle }
         requires fits { length info.now ≤ n201 (channel_of self.old) }
-        requires empty_on_sapi3 { sapi_of self.old ≡ Sapi.Three → info.now ≡ [] }
+        requires possible { IsPossibleSabmInfo S.Opening (sapi_of self.old) info.now }
+        requires mobile_opens_sapi0 { sapi_of self.old ≡ Sapi.Zero → role_of self.old ≡ Mobile }
         ensures refines { StepRefines (sends_sabm info.now) self.old effects.new self.new }
+        ensures role { role_of self.new ≡ role_of self.old }
         ensures sapi { sapi_of self.new ≡ sapi_of self.old }
         ensures channel { channel_of self.new ≡ channel_of self.old }
     {
@@ -262,7 +273,9 @@ impl Endpoint {
     }
 
     fn close_and_report_into(&mut self, reason: Reason, effects: &mut Effects)
+        requires { state_of self.old ≢ S.Idle }
         ensures refines { StepRefines (closes_and_reports reason) self.old effects.new self.new }
+        ensures role { role_of self.new ≡ role_of self.old }
         ensures sapi { sapi_of self.new ≡ sapi_of self.old }
         ensures channel { channel_of self.new ≡ channel_of self.old }
     {
@@ -273,6 +286,7 @@ impl Endpoint {
     fn t200_expiry_in_opening(&mut self, effects: &mut Effects)
         requires opening { state_of self.old ≡ S.Opening }
         ensures refines { StepRefines t200_expiry self.old effects.new self.new }
+        ensures role { role_of self.new ≡ role_of self.old }
         ensures sapi { sapi_of self.new ≡ sapi_of self.old }
         ensures channel { channel_of self.new ≡ channel_of self.old }
     {
@@ -287,6 +301,7 @@ impl Endpoint {
     fn t200_expiry_in_closing(&mut self, effects: &mut Effects)
         requires closing { state_of self.old ≡ S.Closing }
         ensures refines { StepRefines t200_expiry self.old effects.new self.new }
+        ensures role { role_of self.new ≡ role_of self.old }
         ensures sapi { sapi_of self.new ≡ sapi_of self.old }
         ensures channel { channel_of self.new ≡ channel_of self.old }
     {
@@ -304,6 +319,7 @@ impl Endpoint {
         ensures refines { OnOk result (StepRefines t200_expiry self.old effects.new self.new) }
         ensures refused { OnErr result (self.new ≡ self.old) }
         ensures out_unchanged { OnErr result (effects.new ≡ effects.old) }
+        ensures role { role_of self.new ≡ role_of self.old }
         ensures sapi { sapi_of self.new ≡ sapi_of self.old }
         ensures channel { channel_of self.new ≡ channel_of self.old }
     {

@@ -1,6 +1,7 @@
 //! An endpoint of a data link (GSM 04.06, section 5), in the mobile or the network. No call allocates memory.
 #![tactic(auto)]
 
+mod blocks;
 mod calls;
 mod ends;
 mod link;

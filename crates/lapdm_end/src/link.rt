@@ -6,7 +6,7 @@ ghost use Rattle.lapdm_frame.specs.Frames.{NsAndNrFit, InformationFits, octets_o
 ghost use Rattle.lapdm_window.specs.Ends.{command_cr, sapi_number};
 
 use crate::Role;
-use lapdm_frame::{Body, Channel, FrameView, fill_on, write_on};
+use lapdm_frame::{BLOCK_OCTETS, Body, Channel, FrameView, fill_on, write_on};
 use lapdm_window::{Effects, Sapi};
 
 /// The side, SAPI and channel of an endpoint.
@@ -37,6 +37,17 @@ impl Address {
             Sapi::Zero => 0,
             Sapi::Three => 3,
         }
+    }
+
+    // Encodes a command.
+    pub(crate) fn command_block(self, body: Body<'_>) -> [u8; BLOCK_OCTETS]
+        requires numbers { NsAndNrFit (content_of_body body) }
+        requires information { InformationFits self.channel (content_of_body body) }
+        ensures { result ≡ octets_of self.channel (command_frame_from self (content_of_body body.entry)) }
+    {
+        let sapi = self.sapi_number();
+        let cr = self.command_cr();
+        write_on(&FrameView { sapi, cr, body }, self.channel)
     }
 
     // Encodes a frame with this C/R bit and body, and appends it to the effects.

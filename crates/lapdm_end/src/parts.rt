@@ -4,13 +4,13 @@ ghost use Rattle.std.specs.Prelude.{◌≡◌, ◌↔◌, ◌<◌, ◌≤◌, []
 ghost use Rattle.lapdm_frame.specs.Layout.{n201, largest_n201};
 ghost use Rattle.lapdm_window.specs.segmenting.Joiners.{HoldsReassemblyOf};
 ghost use Rattle.lapdm_window.specs.segmenting.Segments.{max_message_octets, max_segments_per_message};
-ghost use Rattle.lapdm_window.specs.Ends.{EndpointState};
+ghost use Rattle.lapdm_window.specs.Ends.{EndpointState, IsPossibleSabmInfo};
 ghost use Rattle.lapdm_window.specs.Parts.{values_of_parts as window_by};
 ghost use Rattle.lapdm_end.specs.Addresses.{spec_role_of};
 ghost use Rattle.lapdm_end.specs.Parts.{values_of, values_of_parts, ValuesRepresent, SomeEndpointHasValues, IsInitialWindow};
-ghost use Rattle.lapdm_end.specs.Parts.{IsWindowInitialBeforeOpen};
+ghost use Rattle.lapdm_end.specs.Parts.{IsWindowInitialBeforeOpen, HasNoRepeats};
 ghost use Rattle.lapdm_end.specs.Parts.{AreConsistent};
-ghost use Rattle.lapdm_end.specs.Abstraction.{Represents, channel_of};
+ghost use Rattle.lapdm_end.specs.Abstraction.{Represents, channel_of, role_of};
 
 use crate::Role;
 use crate::ends::Endpoint;
@@ -36,20 +36,39 @@ impl EndpointView<'_> {
     fn are_consistent(&self) -> bool
         ensures { IsTrue result ↔ AreConsistent (values_of_parts self.now) }
     {
-        self.has_valid_sabm_information() && is_window_initial_before_open(self.state, &self.window)
+        self.sabm_info.len() <= self.window.channel.n201()
+            && self.has_possible_sabm_information()
+            && self.mobile_opens_sapi0()
+            && has_no_repeats(self.state, self.retries, self.window.retries)
+            && is_window_initial_before_open(self.state, &self.window)
     }
 
-    fn has_valid_sabm_information(&self) -> bool
-        ensures { IsTrue result ↔ ((length self.now.sabm_info.now ≤ n201 self.now.window.channel)
-            × (self.now.sapi ≡ Sapi.Three → self.now.sabm_info.now ≡ [])) }
+    fn has_possible_sabm_information(&self) -> bool
+        ensures { IsTrue result ↔ IsPossibleSabmInfo self.now.state self.now.sapi self.now.sabm_info.now }
     {
-        if self.sabm_info.len() > self.window.channel.n201() {
-            return false;
+        match (self.state, self.sapi) {
+            (State::Idle, _) | (_, Sapi::Three) => self.sabm_info.is_empty(),
+            (_, Sapi::Zero) => !self.sabm_info.is_empty(),
         }
-        match self.sapi {
-            Sapi::Zero => true,
-            Sapi::Three => self.sabm_info.is_empty(),
+    }
+
+    fn mobile_opens_sapi0(&self) -> bool
+        ensures { IsTrue result ↔ (self.now.state ≡ State.Opening → self.now.sapi ≡ Sapi.Zero → self.now.role ≡ Role.Mobile) }
+    {
+        match (self.state, self.sapi, self.role) {
+            (State::Opening, Sapi::Zero, Role::Network) => false,
+            _ => true,
         }
+    }
+}
+
+fn has_no_repeats(state: State, retries: u8, segment_repeats: u8) -> bool
+    ensures { IsTrue result ↔ HasNoRepeats state retries segment_repeats }
+{
+    match state {
+        State::Opening | State::Closing => segment_repeats == 0,
+        State::Open => retries == 0,
+        State::Idle | State::Closed => retries == 0 && segment_repeats == 0,
     }
 }
 
@@ -77,14 +96,15 @@ fn has_reassembled_nothing(reassembly: ReassemblyState, octets: &[u8]) -> bool
     ensures { IsTrue result ↔ HoldsReassemblyOf reassembly octets.now [] }
 {
     match reassembly {
-        ReassemblyState::Open | ReassemblyState::Whole => octets.is_empty(),
-        ReassemblyState::Discarding => false,
+        ReassemblyState::Open => octets.is_empty(),
+        ReassemblyState::Whole | ReassemblyState::Discarding => false,
     }
 }
 
 impl Endpoint {
     pub fn role(&self) -> Role
-        ensures { (e : EndpointState) → Represents self.now e → spec_role_of result ≡ e.role }
+        ensures role { spec_role_of result ≡ role_of self.now }
+        ensures represents { (e : EndpointState) → Represents self.now e → spec_role_of result ≡ e.role }
     {
         self.address.role
     }

@@ -251,6 +251,7 @@ impl Endpoint {
     }
 
     fn reply_in_closing<'a>(&self, body: &Body<'a>) -> Reply<'a>
+        requires closing { state_of self.now ≡ S.Closing }
         ensures reply { spec_reply_of result ≡ reply_in_closing (content_of_body body.now) }
         ensures possible { IsPossibleReply self.now result }
     {

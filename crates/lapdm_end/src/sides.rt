@@ -4,10 +4,10 @@ ghost use Rattle.std.specs.Prelude.{◌≡◌, ◌≢◌, OnOk, OnErr};
 ghost use Rattle.lapdm_frame.specs.Content.{frame_of_view};
 ghost use Rattle.lapdm_frame.specs.Frames.{FrameFits};
 ghost use Rattle.lapdm_window.specs.declared.Sapi.TheVariants as S;
-ghost use Rattle.lapdm_window.specs.Calls.{endpoint_call_of, IsCallAllowedForSapi};
+ghost use Rattle.lapdm_window.specs.Calls.{endpoint_call_of, IsCallAllowedFor};
 ghost use Rattle.lapdm_window.specs.Sides.{idle_side, layer3_call_step, step_for_frame};
 ghost use Rattle.lapdm_end.specs.Addresses.{spec_role_of};
-ghost use Rattle.lapdm_end.specs.Abstraction.{channel_of as end_channel, sapi_of};
+ghost use Rattle.lapdm_end.specs.Abstraction.{channel_of as end_channel, role_of as end_role, sapi_of};
 ghost use Rattle.lapdm_end.specs.Refinement.{RefusesAsSpecified};
 
 use crate::Role;
@@ -20,17 +20,19 @@ use lapdm_window::{Call, Effects, Refused, Sapi};
 pub struct Side {
     pub(crate) link0: Endpoint,
     pub(crate) link3: Endpoint,
+    ghost one_role: { end_role link3 ≡ end_role link0 },
     ghost one_channel: { end_channel link3 ≡ end_channel link0 },
     ghost sapi0: { sapi_of link0 ≡ S.Zero },
     ghost sapi3: { sapi_of link3 ≡ S.Three },
 }
 
 impl Side {
-    ghost use Rattle.lapdm_end.specs.Sides.{Represents, StepRefines, endpoint_of, other, channel_of};
+    ghost use Rattle.lapdm_end.specs.Sides.{Represents, StepRefines, endpoint_of, other, channel_of, role_of};
 
     /// Creates a side with both endpoints in Idle.
     pub fn new_on(role: Role, channel: Channel) -> Side
         ensures represents { Represents result (idle_side (spec_role_of role) channel) }
+        ensures role { role_of result ≡ spec_role_of role }
         ensures channel { channel_of result ≡ channel }
     {
         Side {
@@ -48,13 +50,14 @@ impl Side {
         call: &Call<'_>,
         effects: &mut Effects,
     ) -> Result<(), Refused>
-        requires { IsCallAllowedForSapi sapi (endpoint_call_of call.now) }
+        requires { IsCallAllowedFor (role_of self.old) sapi (endpoint_call_of call.now) }
         ensures refusal { RefusesAsSpecified (endpoint_call_of call.now) (endpoint_of sapi self.old) result }
         ensures refines { OnOk result
             (StepRefines (layer3_call_step sapi (endpoint_call_of call.now)) self.old sapi effects.new self.new) }
         ensures others { endpoint_of (other sapi) self.new ≡ endpoint_of (other sapi) self.old }
         ensures refused { OnErr result (self.new ≡ self.old) }
         ensures out_unchanged { OnErr result (effects.new ≡ effects.old) }
+        ensures role { role_of self.new ≡ role_of self.old }
         ensures channel { channel_of self.new ≡ channel_of self.old }
     {
         match sapi {
@@ -70,6 +73,7 @@ impl Side {
         ensures refines { StepRefines (step_for_frame (frame_of_view frame.now)) self.old result effects.new self.new }
         ensures others { endpoint_of (other result) self.new ≡ endpoint_of (other result) self.old }
         ensures other_sapi { frame.now.sapi ≢ 0 → frame.now.sapi ≢ 3 → self.new ≡ self.old }
+        ensures role { role_of self.new ≡ role_of self.old }
         ensures channel { channel_of self.new ≡ channel_of self.old }
     {
         if frame.sapi == 0 {

@@ -1,6 +1,6 @@
 //! Processes the frames that an endpoint receives.
 
-ghost use Rattle.std.specs.Prelude.{◌≡◌, ◌≤◌, [], ◌∷◌, ◌++◌, length};
+ghost use Rattle.std.specs.Prelude.{◌≡◌, ◌≢◌, ◌≤◌, [], ◌∷◌, ◌++◌, length};
 ghost use Rattle.lapdm_frame.specs.Layout.{n201};
 ghost use Rattle.lapdm_frame.specs.Content.{content_of_body, frame_of_view};
 ghost use Rattle.lapdm_frame.specs.Frames.{NsAndNrFit, InformationFits, FrameFits, octets_of};
@@ -16,13 +16,14 @@ use lapdm_window::{Effects, Message, Notice, Piece, Reason, State};
 
 impl Endpoint {
     ghost use Rattle.lapdm_end.specs.Replies.{spec_reply_of, IsPossibleReply, MayAcceptSabmWith};
-    ghost use Rattle.lapdm_end.specs.Abstraction.{Represents, channel_of, sapi_of, state_of};
+    ghost use Rattle.lapdm_end.specs.Abstraction.{Represents, channel_of, role_of, sapi_of, state_of};
     ghost use Rattle.lapdm_end.specs.Refinement.{StepRefines, StepAppendsOutcomeOfRule};
 
     /// Processes a received frame, and replaces the effects with the frames that the endpoint sends and the notices that it reports.
     pub fn take_frame_into(&mut self, frame: &FrameView<'_>, effects: &mut Effects)
         requires { FrameFits (channel_of self.old) (frame_of_view frame.now) }
         ensures refines { StepRefines (frame_outcome (frame_of_view frame.now)) self.old effects.new self.new }
+        ensures role { role_of self.new ≡ role_of self.old }
         ensures sapi { sapi_of self.new ≡ sapi_of self.old }
         ensures channel { channel_of self.new ≡ channel_of self.old }
     {
@@ -41,6 +42,7 @@ impl Endpoint {
         requires no_notices { effects.old.notices ≡ [] }
         ensures refines { StepAppendsOutcomeOfRule
             (outcome_of_reply (spec_reply_of reply.entry)) self.old self.new effects.old effects.new }
+        ensures role { role_of self.new ≡ role_of self.old }
         ensures sapi { sapi_of self.new ≡ sapi_of self.old }
         ensures channel { channel_of self.new ≡ channel_of self.old }
     {
@@ -88,6 +90,7 @@ impl Endpoint {
         requires no_frames { effects.old.frames ≡ [] }
         requires no_notices { effects.old.notices ≡ [] }
         ensures refines { StepAppendsOutcomeOfRule (outcome_of_reply (AcceptsSabm info.now)) self.old self.new effects.old effects.new }
+        ensures role { role_of self.new ≡ role_of self.old }
         ensures sapi { sapi_of self.new ≡ sapi_of self.old }
         ensures channel { channel_of self.new ≡ channel_of self.old }
     {
@@ -103,29 +106,37 @@ impl Endpoint {
         requires information { length info.now ≤ n201 (channel_of self.old) }
         requires no_notices { effects.old.notices ≡ [] }
         ensures refines { StepAppendsOutcomeOfRule (opens_and_reports info.now) self.old self.new effects.old effects.new }
+        ensures role { role_of self.new ≡ role_of self.old }
         ensures sapi { sapi_of self.new ≡ sapi_of self.old }
         ensures channel { channel_of self.new ≡ channel_of self.old }
     {
         self.state = State::Open;
+        self.retries = 0;
         effects.notices.push(Notice::Opened(Message::new(info)));
     }
 
     pub(crate) fn close_and_report(&mut self, reason: Reason, effects: &mut Effects)
+        requires begun { state_of self.old ≢ S.Idle }
         requires no_notices { effects.old.notices ≡ [] }
         ensures frames { effects.new.frames ≡ effects.old.frames }
         ensures refines { StepAppendsOutcomeOfRule (closes_and_reports reason) self.old self.new effects.old effects.new }
+        ensures role { role_of self.new ≡ role_of self.old }
         ensures sapi { sapi_of self.new ≡ sapi_of self.old }
         ensures channel { channel_of self.new ≡ channel_of self.old }
     {
         self.state = State::Closed;
+        self.retries = 0;
+        self.window.stop_repeating();
         effects.notices.push(Notice::Closed(reason));
     }
 
     // Accepts the peer's DISC: enters Closed, reports the release and answers with a UA.
     fn accept_disc(&mut self, effects: &mut Effects)
+        requires open { state_of self.old ≡ S.Open }
         requires no_frames { effects.old.frames ≡ [] }
         requires no_notices { effects.old.notices ≡ [] }
         ensures refines { StepAppendsOutcomeOfRule (outcome_of_reply AcceptsDisc) self.old self.new effects.old effects.new }
+        ensures role { role_of self.new ≡ role_of self.old }
         ensures sapi { sapi_of self.new ≡ sapi_of self.old }
         ensures channel { channel_of self.new ≡ channel_of self.old }
     {

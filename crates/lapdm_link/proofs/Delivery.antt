@@ -276,7 +276,7 @@ abbrev pub AllSay : List Frame → Type 0
 AllSay fs = All SaysOctets fs
 
 abbrev pub WorldOctets : World → Type 0
-WorldOctets w = (channel : Channel) × Holds (λ s e. EndOctets e) SaysOctets channel w
+WorldOctets w = (channel : Channel) × Holds (λ r s e. EndOctets e) SaysOctets channel w
 
 none : AreOctets []
 none = All-nil (λ octet. octet < 256)
@@ -356,7 +356,7 @@ pub octets-step : (w : World) (ls : List LogLine) (event : Event) → AllReporte
     LineOctets (answer_log_lines event (answer event w)) → WorldOctets (world_after event w)
 octets-step w ls event reported known h said = (
   h.0,
-  holds-step (λ s e. EndOctets e) SaysOctets LineOctets (λ sender. SaysOctets) h.0 w h.1
+  holds-step (λ r s e. EndOctets e) SaysOctets LineOctets (λ sender. SaysOctets) h.0 w h.1
       (λ r s call placed ok l. pair (call-octets call (end_of r s w) l.0 ok (reported r s).window_of_one (h.1.ends r s)))
       (λ r s f octets. pair (frame-octets f (end_of r s w) octets (reported r s).window_of_one (h.1.ends r s)))
       (λ info ok l. l.0) event known said,

@@ -8,6 +8,8 @@ use Rattle.{
     proofs.Delivery.Steps.Events.Words.{LogLine, Asked, RivalSabm, Notified, session_log, Claims, HasNoticesInOrder},
     specs.Events.{SendUi, unbounded_capacity},
   },
+  lapdm_window.specs.segmenting.lapdm_frame.{Content.Sabm, Frames.{IsFrameCoding, octets_of}, declared.Channel.TheVariants.Sacch},
+  std.proofs.Common.true,
 }
 use Rattle.lapdm_window.specs.declared.Notice.TheVariants as N
 use Rattle.lapdm_window.specs.declared.Reason.TheVariants as R
@@ -141,6 +143,35 @@ out_of_order = refl
 
 out_of_order_breaks : Claims (notified_from unbounded_world (sends_unit 4 ∷ sends_unit 5 ∷ given 5 ∷ given 4 ∷ [])) → ⊥
 out_of_order_breaks h = grind (arith, h.ui_in_order Mobile Zero)
+
+-- the octets of this UI frame of SAPI 3 on SDCCH are on SACCH, after two layer 1 octets, a SABM of SAPI 3
+abbrev unit_on_sdcch : Frame
+unit_on_sdcch = record { sapi = 3; cr = false; content = Ui false (0x3f ∷ 1 ∷ 0 ∷ []) }
+
+abbrev sabm_on_sacch : Frame
+sabm_on_sacch = record { sapi = 3; cr = false; content = Sabm true [] }
+
+read_on_sacch : IsFrameCoding Sacch sabm_on_sacch (octets_of Sdcch unit_on_sdcch)
+read_on_sacch = record {
+  count = refl;
+  fits = record { sapi = omega arith; ns_nr_fit = tt; information = omega arith };
+  address_matches = refl;
+  control_matches = refl;
+  length_matches = refl;
+  information_matches = refl;
+}
+
+-- so if the two ends of a link have different channels, the network opens a link that no mobile has asked for
+abbrev read_on_another_channel : List Move
+read_on_another_channel = Happens (Ask Mobile Three (SendUi (0x3f ∷ 1 ∷ 0 ∷ []))) ∷ Happens (Deliver Mobile (Some sabm_on_sacch)) ∷ []
+
+other_channel : notified_from unbounded_world read_on_another_channel ≡
+    Asked Mobile Three (SendsUi (0x3f ∷ 1 ∷ 0 ∷ [])) ∷ Notified Network Three (N.Opened []) ∷ []
+other_channel = refl
+
+other_channel_breaks : Claims (notified_from unbounded_world read_on_another_channel) → ⊥
+other_channel_breaks h =
+    grind (arith, h.establishment_trigger Network Three [] (Asked Mobile Three (SendsUi (0x3f ∷ 1 ∷ 0 ∷ [])) ∷ []) ([], refl))
 
 -- a state in which the network's UA from an earlier establishment is still in transit
 abbrev with_old_ua : World

@@ -10,7 +10,7 @@ ghost use Rattle.lapdm_end.specs.lapdm_window.Ends as E;
 ghost use Rattle.lapdm_end.specs.lapdm_window.Calls.{call_outcome, Opens, OpensWithoutInfo, Sends, SendsUi, Closes, T200Expires};
 ghost use Rattle.lapdm_end.specs.lapdm_window.Calls.{SendsFillFrame};
 ghost use Rattle.lapdm_end.specs.lapdm_window.Tables.{frame_outcome};
-ghost use Rattle.lapdm_end.specs.Abstraction.{Represents, sapi_of, channel_of};
+ghost use Rattle.lapdm_end.specs.Abstraction.{Represents, role_of, sapi_of, channel_of};
 ghost use Rattle.lapdm_end.specs.Refinement.{StepRefines, RefusesAsSpecified};
 
 use lapdm_end::{Call, Channel, Effects, Endpoint, FrameView, Refused, Role, Sapi, State};
@@ -19,6 +19,7 @@ use lapdm_end::{Call, Channel, Effects, Endpoint, FrameView, Refused, Role, Sapi
 #[derive(Debug, Drop)]
 pub struct Mobile {
     pub(crate) endpoint: Endpoint,
+    ghost role: { role_of endpoint ≡ E.Mobile },
 }
 
 impl Mobile {

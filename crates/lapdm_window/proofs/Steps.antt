@@ -3,8 +3,9 @@ use Rattle.{
   lapdm_window.{
     proofs.Windows.{HasSize, HasWindowOfOne-push},
     specs.{
-      Calls.{Call, IsCallAllowedForEndpoint, Sends, T200Expires, call_outcome, first_refusal, is_idle, message_refusal_checks, refusal_of},
-      Calls.{frame_to_retransmit, with_queued_message},
+      Calls.{Call, IsCallAllowedForEndpoint, Sends, T200Expires, Repeats, call_outcome, first_refusal, is_idle, refusal_of},
+      Calls.{message_refusal_checks},
+      Calls.{awaited_frame, with_queued_message},
       Ends.{EndpointState, HasWindowOfOne, IsValidEndpoint, Network, Outcome, Role, segments_of_all_messages, awaits_ack},
       Ends.{awaits_answer_in_state, awaits_answer, n200, first_unacked_segment, no_effect, sapi_number, sends_frame, initial_endpoint, vr},
       Ends.◌then◌,
@@ -382,15 +383,15 @@ keeps-frame f x h fits = keeps-reply (reply_to_frame f x) f.content x (cause_of 
 
 -- ---- the calls preserve the invariant
 
-repeated_fits : (t : State) (x : EndpointState) → awaits_answer_in_state t (awaits_ack x) ≡ true → IsValidEndpoint x →
-    FrameFits x.channel (frame_to_retransmit t x)
-repeated_fits S.Open x due h = waiting_fits true x h.window.messages (waits_within x h.window due)
-repeated_fits t x due h = grind arith
+pub awaited_fits : (p : Bool) (t : State) (x : EndpointState) → awaits_answer_in_state t (awaits_ack x) ≡ true → IsValidEndpoint x →
+    FrameFits x.channel (awaited_frame p t x)
+awaited_fits p S.Open x due h = waiting_fits p x h.window.messages (waits_within x h.window due)
+awaited_fits p t x due h = grind arith
 
 keeps-t200_expiry : (b : Bool) (x : EndpointState) → awaits_answer_in_state x.state (awaits_ack x) ≡ true → IsValidEndpoint x →
-    Keeps x (if b then sends_frame (frame_to_retransmit x.state x) (record x { retries = x.retries + 1 }) else closes_and_reports R.Failed
+    Keeps x (if b then sends_frame (awaited_frame true x.state x) (record x { retries = x.retries + 1 }) else closes_and_reports R.Failed
     x)
-keeps-t200_expiry b x due h = grind (arith, repeated_fits x.state x due h)
+keeps-t200_expiry b x due h = grind (arith, awaited_fits true x.state x due h)
 
 IsValidEndpoint-push : (x : EndpointState) (m : Message) → x.state ≡ S.Open → IsValidEndpoint x → IsValidMessage m →
     IsValidEndpoint (with_queued_message m x)
@@ -410,6 +411,12 @@ keeps-call T200Expires x h has ok =
     keeps-t200_expiry (nat_lt x.retries (n200 x.channel x.state)) x (not_false (awaits_answer x) (passes (not
     (awaits_answer x)) No.NotRunning [] ok).not_refused)
     h
+keeps-call Repeats x h has ok =
+    grind (
+      arith,
+      awaited_fits false x.state x (not_false (awaits_answer x)
+          (passes (not (awaits_answer x)) No.NotRunning [] ok).not_refused) h,
+    )
 keeps-call call x h has ok = grind arith
 
 -- ---- the initial state satisfies the invariant

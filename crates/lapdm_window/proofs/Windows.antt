@@ -5,21 +5,19 @@ use Rattle.{
     Answers.{acknowledgement_by_nr, outstanding_segment},
     Calls.with_queued_message,
     Ends.{EndpointState, HasWindowOfOne, Mobile, Outcome, acked_message_count, segments_of_all_messages, awaits_ack, capped_at_64_bits},
-    Ends.{first_unacked_segment, no_effect, reports_notice, va, vr, vs},
+    Ends.{first_unacked_segment, no_effect, reports_notice, va, vs},
     Parts.{AreConsistent, WindowValues, values_of},
     Rules.{acked_message_number, nr_acknowledges_segment, evaluates_nr, has_segment_to_send, with_segment_acked, with_segment_sent},
     declared.{Sapi.TheVariants.Zero, State.TheVariants.Open, window.Window.Window},
   },
-  segmenting.{
-    proofs.Lemmas.{begins_within, count-all, count-append, count-whole, HasHistory-joiner, length-segments, IsN201-n201, slice_get-segment},
-    specs.{Joiners.HoldsReassemblyOf, Joining.message_count, Parts.JoinerValues, Segments.{IsValidMessage, Message, Segment, cut_segments}},
-    specs.{Segments.{number_of_segments, segments}, lapdm_frame.Layout.n201},
-  },
+  segmenting.proofs.Lemmas.{begins_within, count-all, count-append, count-whole, HasHistory-joiner, one_part, length-segments, IsN201-n201},
+  segmenting.{proofs.Lemmas.slice_get-segment, specs.{Joiners.HoldsReassemblyOf, Joining.message_count, Parts.JoinerValues}},
+  segmenting.specs.{Segments.{IsValidMessage, Message, Segment, cut_segments, number_of_segments, segments}, lapdm_frame.Layout.n201},
   std.{
     proofs.{
-      Common.{All, Bool, IsTrue, List, None, Option, Some, [], ap, arith, drop, false, get_or, inl, inr, length, min, not, refl, replicate},
-      Common.{slice_get, subst, suc, sym, take, true, zero, ℕ, ◌%◌, ◌*◌, ◌++◌, ◌+◌, ◌-◌, ◌/◌, ◌<◌, ◌^◌},
-      Common.{◌∙◌, ◌∷◌, ◌≡◌, ◌≢◌, ◌≤◌, ◌⊎◌},
+      Common.{All, Bool, List, None, Option, Some, [], ap, arith, drop, false, get_or, inl, inr, length, min, not, refl, replicate},
+      Common.{if◌then◌else◌, nat_eq, slice_get, subst, suc, sym, take, true, zero, ℕ, ◌%◌, ◌*◌, ◌++◌, ◌+◌, ◌-◌},
+      Common.{◌/◌, ◌<◌, ◌^◌, ◌∙◌, ◌∷◌, ◌≡◌, ◌≢◌, ◌≤◌, ◌⊎◌},
       Math.{ListN.get_or-append, Nat.mul-div_cancel, Seq.{drop-append-add, drop-append_seam, take-append-add}},
       lemmas.{Bool.{Decides.nat_tests, cases_lt, false≢true}, List.{Concat.flat_map-append, Elements.{All-append, All-cons, All-nil}}},
       lemmas.List.{Elements.All-push, Sums.{count_by_more_no, count_by_more_yes}, append-nil, drop-append-le, drop-drop, get_or-drop},
@@ -34,6 +32,10 @@ use Rattle.lapdm_window.specs.declared.Acked.TheVariants as V
 use Rattle.lapdm_window.specs.declared.Notice.TheVariants as N
 
 -- ## Numbers: If at most one segment is outstanding, V(S) and V(A), which count modulo 8, show whether one is outstanding.
+
+-- no segment is outstanding if V(S) = V(A)
+not_awaited : (e : EndpointState) → HasWindowOfOne e → vs e ≡ va e → awaits_ack e ≡ false
+not_awaited e h same = grind (arith, h.acked_at_most_sent, h.window)
 
 -- exactly one segment is outstanding if V(S) ≠ V(A)
 pub one_sent : (e : EndpointState) → HasWindowOfOne e → vs e ≢ va e → e.sent_segments ≡ e.acked_segments + 1
@@ -329,8 +331,8 @@ pub outstanding_segment-next : (e : EndpointState) (x : Segment) → awaits_ack 
     Some x ≡ outstanding_segment e
 outstanding_segment-next e x waiting next = rw (waiting, next)
 
-pub acked-awaits_ack : (e : EndpointState) → IsTrue (awaits_ack (with_segment_acked e)) → ⊥
-acked-awaits_ack e t = grind arith
+pub acked-awaits_ack : (e : EndpointState) → awaits_ack (with_segment_acked e) ≡ false
+acked-awaits_ack e = grind arith
 
 -- in this module, window w represents endpoint e and has an outstanding segment
 module _ {w : Window} {e : EndpointState} (h : Represents w e) (waits : w.vs ≢ w.va) where
@@ -344,7 +346,7 @@ module _ {w : Window} {e : EndpointState} (h : Represents w e) (waits : w.vs ≢
   nr_acknowledges_segment-vs nr same = nr_acknowledges_segment-waiting e nr h.window_of_one differ (same ∙ h.variables.vs)
 
   pub acked-represents : {v : Window} {done place : ℕ} {held : List Message} (nr : ℕ) → nr ≡ w.vs →
-      values_of v ≡ record (values_of w) { held = held; segment_index = place; va = w.vs; acked_messages = done } →
+      values_of v ≡ record (values_of w) { held = held; segment_index = place; va = w.vs; acked_messages = done; retries = 0 } →
       done ≡ capped_at_64_bits (acked_message_count (with_segment_acked e)) → HoldsUnackedMessages held place (with_segment_acked e) →
       Represents v (evaluates_nr nr e).new_state
   acked-represents {v} nr same values count holds =
@@ -352,7 +354,7 @@ module _ {w : Window} {e : EndpointState} (h : Represents w e) (waits : w.vs ≢
         window_of_one = HasWindowOfOne-acked e h.window_of_one;
         variables = grind arith;
         unacked_messages = grind arith;
-        retries = λ t. absurd (acked-awaits_ack e t);
+        retries = grind (arith, acked-awaits_ack e);
       })
 
 -- ## Histories: For given contents of a window, there is a history that leads to them: first `done` acknowledged messages, of which the
@@ -537,6 +539,11 @@ place_is_counted w e h none =
     ) in
     h.variables.va ∙ ap (λ i. i % 8) (sym same)
 
+-- if V(S) equals V(A), no segment is outstanding, and the window counts no repetitions
+no_repeats : (w : Window) (e : EndpointState) → Represents w e → w.vs ≡ w.va → w.retries ≡ 0
+no_repeats w e h same =
+    h.retries ∙ ap (λ b. if b then e.retries else 0) (not_awaited e h.window_of_one (sym h.variables.vs ∙ same ∙ h.variables.va))
+
 pub is_consistent : (w : Window) (e : EndpointState) → Represents w e → AreConsistent (values_of w)
 is_consistent w e h = record {
   held = record { at_most_8 = w.at_most_8; messages = w.messages };
@@ -545,6 +552,7 @@ is_consistent w e h = record {
   va = w.va_fits;
   vr = w.vr_fits;
   va_if_nothing_acked = place_is_counted w e h;
+  no_repeats_if_none_outstanding = no_repeats w e h;
   reassembly_fits = omega (arith, length-take w.joiner.len w.joiner.octets, w.joiner.in_range);
 }
 
@@ -567,6 +575,12 @@ segments_fit n place sent held room below few (inr some) =
 
 sent_number : (acked va sent : ℕ) → acked % 8 ≡ va → (va + sent) % 8 ≡ (acked + sent) % 8
 sent_number acked va sent h = grind arith
+
+-- a window that counts no repetitions while no segment is outstanding counts those of the outstanding segment
+counts_repeats : (retries acked sent vs va : ℕ) → (vs ≡ va → retries ≡ 0) → vs ≡ (va + sent) % 8 → va ≤ 7 →
+    retries ≡ (if not (nat_eq (acked + sent) acked) then retries else 0)
+counts_repeats retries acked zero vs va none number few = grind (arith, nat_tests)
+counts_repeats retries acked (suc sent) vs va none number few = grind (arith, nat_tests)
 
 capped-fits : (n : ℕ) → n < 2 ^ 64 → n ≡ capped_at_64_bits n
 capped-fits n h = omega arith
@@ -627,6 +641,39 @@ represents_one w h fits =
           unacked_segments =
               past.next_segments;
         };
-        retries = λ t. refl;
+        retries = counts_repeats w.retries in_past.acked_segments awaits_ack.sent w.vs w.va h.no_repeats_if_none_outstanding
+            awaits_ack.number h.va;
       },
     )
+
+-- ## OneState: An endpoint determines the values of each window that holds its variables and its unacknowledged messages.
+
+-- two indices up to the end of a list are equal if the list goes on alike from both
+same_place : (xs : List Segment) (i j : ℕ) → i ≤ length xs → j ≤ length xs → drop i xs ≡ drop j xs → i ≡ j
+same_place xs i j below within same = omega (arith, ap length same, length-drop i xs, length-drop j xs)
+
+pub one_window : (w v : Window) (e : EndpointState) → HasSameStateVariables w e → HasSameStateVariables v e →
+    HoldsUnackedMessages w.held.items w.segment_index e → HoldsUnackedMessages v.held.items v.segment_index e →
+    w.retries ≡ v.retries → values_of w ≡ values_of v
+one_window w v e h g holds keeps repeats =
+    let n = n201 e.channel in
+    let room = (IsN201-n201 e.channel).positive in
+    let held : w.held.items ≡ v.held.items = holds.messages ∙ sym keeps.messages in
+    let joined = one_part w.joiner.part v.joiner.part (take w.joiner.len w.joiner.octets) (take v.joiner.len v.joiner.octets)
+    e.accepted_segments h.reassembly g.reassembly in
+    let below = within_held n w.segment_index w.held.items room (rw h.channel at w.in_range) in
+    let within = within_held n v.segment_index v.held.items room (rw g.channel at v.in_range) in
+    let place : w.segment_index ≡ v.segment_index = same_place (flat_map (segments n) v.held.items) w.segment_index v.segment_index
+    (rw held at below) within (rw held at holds.unacked_segments ∙ sym keeps.unacked_segments) in
+    λ i. record {
+      channel = (h.channel ∙ sym g.channel) i;
+      held = held i;
+      segment_index = place i;
+      vs = (h.vs ∙ sym g.vs) i;
+      va = (h.va ∙ sym g.va) i;
+      vr = (h.vr ∙ sym g.vr) i;
+      acked_messages = (h.acked_messages ∙ sym g.acked_messages) i;
+      rejecting = (h.rejecting ∙ sym g.rejecting) i;
+      retries = repeats i;
+      joiner = record { octets = joined.1 i; part = joined.0 i };
+    }

@@ -1,5 +1,5 @@
 -- The abstraction relation of `Window`: how the variables of a Rust window represent an abstract endpoint, which records its whole history.
-use Rattle.std.specs.Prelude.{◌≡◌, ◌≢◌, ℕ, IsTrue, List, drop}
+use Rattle.std.specs.Prelude.{◌≡◌, ◌≢◌, ℕ, List, drop, if◌then◌else◌}
 use Rattle.std.specs.List.{flat_map}
 use Rattle.segmenting.specs.lapdm_frame.declared.Channel.{Channel}
 use Rattle.segmenting.specs.lapdm_frame.Layout.{n201}
@@ -34,10 +34,14 @@ pub record HoldsUnackedMessages (held : List Message) (place : ℕ) (e : Endpoin
   pub messages : held ≡ drop (acked_message_count e) e.messages
   pub unacked_segments : drop place (flat_map (segments (n201 e.channel)) held) ≡ drop e.acked_segments (segments_of_all_messages e)
 
--- window `w` represents endpoint `e`: their variables agree, `w` holds the unacknowledged messages, and the retry counts agree while a
--- segment is outstanding
+-- how many times the outstanding segment has been repeated, or 0 if no segment is outstanding
+abbrev pub segment_repeats : EndpointState → ℕ
+segment_repeats e = if awaits_ack e then e.retries else 0
+
+-- window `w` represents endpoint `e`: their variables agree, and `w` holds the unacknowledged messages and counts the repetitions of the
+-- outstanding segment
 pub record Represents (w : Window) (e : EndpointState) : Type 0 where
   pub window_of_one : HasWindowOfOne e
   pub variables : HasSameStateVariables w e
   pub unacked_messages : HoldsUnackedMessages w.held.items w.segment_index e
-  pub retries : IsTrue (awaits_ack e) → w.retries ≡ e.retries
+  pub retries : w.retries ≡ segment_repeats e

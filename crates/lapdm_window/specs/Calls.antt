@@ -14,13 +14,14 @@ use Rattle.lapdm_window.specs.declared.State.TheVariants.{Idle, Opening, Closing
 use Rattle.lapdm_window.specs.declared.Reason.TheVariants as R
 use Rattle.lapdm_window.specs.declared.Refused.{Refused}
 use Rattle.lapdm_window.specs.declared.Refused.TheVariants as No
-use Rattle.lapdm_window.specs.Ends.{EndpointState, Outcome, sends_frame, command_frame, command_cr, unacked_message_count, awaits_answer}
+use Rattle.lapdm_window.specs.Ends.{Role, Mobile, EndpointState, Outcome, sends_frame, command_frame, command_cr, unacked_message_count}
+use Rattle.lapdm_window.specs.Ends.{awaits_answer}
 use Rattle.lapdm_window.specs.Ends.{n200}
 use Rattle.lapdm_window.specs.Rules.{is_open, sends_next_segment, outstanding_frame}
 use Rattle.lapdm_window.specs.Tables.{closes_and_reports}
 
 -- a call to an endpoint: layer 3 establishes the link with or without information, sends a message in I frames or in a UI frame, or
--- releases the link; T200 expires; or the endpoint sends the fill frame
+-- releases the link; T200 expires; or the endpoint sends the frame that awaits an answer again without counting it, or the fill frame
 pub data Call : Type 0 where
   Opens : (info : Message) → Call
   OpensWithoutInfo : Call
@@ -28,6 +29,7 @@ pub data Call : Type 0 where
   SendsUi : (m : Message) → Call
   Closes : Call
   T200Expires : Call
+  Repeats : Call
   SendsFillFrame : Call
 
 -- the `Call` of the specification that corresponds to a Rust `Call`
@@ -40,15 +42,16 @@ endpoint_call_of A.Close = Closes
 endpoint_call_of A.Timer = T200Expires
 endpoint_call_of A.Idle = SendsFillFrame
 
--- the call exists for this SAPI: `Opens` only for SAPI 0, `OpensWithoutInfo` only for SAPI 3, every other call for both
-abbrev pub IsCallAllowedForSapi : (sapi : Sapi) (call : Call) → Type 0
-IsCallAllowedForSapi sapi (Opens info) = sapi ≡ Zero
-IsCallAllowedForSapi sapi OpensWithoutInfo = sapi ≡ Three
-IsCallAllowedForSapi sapi other = Unit {0}
+-- the call exists for this side and SAPI: `Opens` only for the mobile and SAPI 0, `OpensWithoutInfo` only for SAPI 3, every other call for
+-- all
+abbrev pub IsCallAllowedFor : (role : Role) (sapi : Sapi) (call : Call) → Type 0
+IsCallAllowedFor role sapi (Opens info) = (sapi ≡ Zero) × (role ≡ Mobile)
+IsCallAllowedFor role sapi OpensWithoutInfo = sapi ≡ Three
+IsCallAllowedFor role sapi other = Unit {0}
 
--- this call exists for the SAPI of this endpoint
+-- this call exists for the side and the SAPI of this endpoint
 abbrev pub IsCallAllowedForEndpoint : (endpoint : EndpointState) (call : Call) → Type 0
-IsCallAllowedForEndpoint e call = IsCallAllowedForSapi e.sapi call
+IsCallAllowedForEndpoint e call = IsCallAllowedFor e.role e.sapi call
 
 -- the call sends a UI frame and leaves the endpoint state unchanged
 abbrev pub IsUiFrameCall : Call → Type 0
@@ -91,6 +94,7 @@ call_refusal_checks (Sends m) e = (not (is_open e.state), No.NotOpen) ∷ messag
 call_refusal_checks (SendsUi m) e = single_frame_refusal_checks m e
 call_refusal_checks Closes e = (not (is_open e.state), No.NotOpen) ∷ []
 call_refusal_checks T200Expires e = (not (awaits_answer e), No.NotRunning) ∷ []
+call_refusal_checks Repeats e = (not (awaits_answer e), No.NotRunning) ∷ []
 call_refusal_checks SendsFillFrame e = []
 
 -- the reason why the call is refused, or `None` if it is accepted
@@ -113,18 +117,18 @@ sends_sabm info e = let later = record e { state = Opening; sabm_info = info; re
 abbrev pub with_queued_message : Message → EndpointState → EndpointState
 with_queued_message m e = record e { messages = e.messages ++ m ∷ [] }
 
--- the frame that is repeated at T200 expiry: the SABM in Opening, the DISC in Closing, otherwise the outstanding I frame with P = 1
-abbrev pub frame_to_retransmit : State → EndpointState → Frame
-frame_to_retransmit Opening e = sabm e
-frame_to_retransmit Closing e = disc e
-frame_to_retransmit other e = outstanding_frame true e
+-- the frame that awaits an answer: the SABM in Opening, the DISC in Closing, otherwise the outstanding I frame with this P bit
+abbrev pub awaited_frame : (poll_bit : Bool) (state : State) (endpoint : EndpointState) → Frame
+awaited_frame p Opening e = sabm e
+awaited_frame p Closing e = disc e
+awaited_frame p other e = outstanding_frame p e
 
 -- the outcome of T200 expiry: the frame that awaits a response or an acknowledgement is repeated or, after N200 repetitions, the link is
 -- closed as failed (section 5.5.7 for state Open)
 abbrev pub t200_expiry : EndpointState → Outcome
 t200_expiry e =
     if nat_lt e.retries (n200 e.channel e.state)
-    then sends_frame (frame_to_retransmit e.state e) (record e { retries = e.retries + 1 })
+    then sends_frame (awaited_frame true e.state e) (record e { retries = e.retries + 1 })
     else closes_and_reports R.Failed e
 
 -- the outcome of an accepted call: the new state, the frames sent and the notices reported
@@ -135,4 +139,5 @@ call_outcome (Sends m) e = sends_next_segment (with_queued_message m e)
 call_outcome (SendsUi m) e = sends_frame (command_frame e (Ui false m)) e
 call_outcome Closes e = sends_frame (disc e) (record e { state = Closing; retries = 0 })
 call_outcome T200Expires e = t200_expiry e
+call_outcome Repeats e = sends_frame (awaited_frame false e.state e) e
 call_outcome SendsFillFrame e = sends_frame (fill_frame (command_cr e.role)) e

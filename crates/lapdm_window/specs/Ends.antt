@@ -78,12 +78,20 @@ IsBeforeOpen Idle = Unit {0}
 IsBeforeOpen Opening = Unit {0}
 IsBeforeOpen other = ⊥
 
--- the invariant of an endpoint: its window size is 1; its SABM information fits in a frame and is empty on SAPI 3; before state Open, it
--- has taken no message from layer 3 and accepted no segment
+-- an endpoint in this state can keep this information of a SABM: none in Idle and on SAPI 3, otherwise at least one octet (section
+-- 5.4.1.4)
+abbrev pub IsPossibleSabmInfo : (state : State) (sapi : Sapi) (info : Message) → Type 0
+IsPossibleSabmInfo Idle sapi info = info ≡ []
+IsPossibleSabmInfo state Three info = info ≡ []
+IsPossibleSabmInfo state Zero info = 1 ≤ length info
+
+-- the invariant of an endpoint: its window size is 1; its SABM information is possible in its state and fits in a frame; only a mobile
+-- sends the SABM of SAPI 0; before state Open, it has taken no message from layer 3 and accepted no segment
 pub record IsValidEndpoint (e : EndpointState) : Type 0 where
   pub window : HasWindowOfOne e
   pub sabm_info_fits : length e.sabm_info ≤ n201 e.channel
-  pub empty_on_sapi3 : e.sapi ≡ Three → e.sabm_info ≡ []
+  pub possible_sabm_info : IsPossibleSabmInfo e.state e.sapi e.sabm_info
+  pub mobile_opens_sapi0 : e.state ≡ Opening → e.sapi ≡ Zero → e.role ≡ Mobile
   pub no_message_before_open : IsBeforeOpen e.state → e.messages ≡ []
   pub no_segment_before_open : IsBeforeOpen e.state → e.accepted_segments ≡ []
 

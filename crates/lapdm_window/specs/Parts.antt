@@ -78,4 +78,5 @@ pub record AreConsistent (x : WindowValues) : Type 0 where
   pub va : x.va ≤ 7
   pub vr : x.vr ≤ 7
   pub va_if_nothing_acked : x.acked_messages ≡ 0 → x.va ≡ x.segment_index % 8
+  pub no_repeats_if_none_outstanding : x.vs ≡ x.va → x.retries ≡ 0
   pub reassembly_fits : length x.joiner.octets ≤ max_message_octets

@@ -17,7 +17,7 @@ pub data StepInput : Type 0 where
   Asked : Call → StepInput
   Received : Frame → StepInput
 
--- the input is possible for this endpoint: a call that exists for its SAPI, or any frame that fits in a block of its channel
+-- the input is possible for this endpoint: a call that exists for its side and SAPI, or any frame that fits in a block of its channel
 abbrev pub IsPossibleInput : (endpoint : EndpointState) (input : StepInput) → Type 0
 IsPossibleInput e (Asked call) = IsCallAllowedForEndpoint e call
 IsPossibleInput e (Received f) = FrameFits e.channel f

@@ -56,6 +56,7 @@ impl Window {
     };
     ghost use Rattle.lapdm_window.specs.Answers.{t200_result, state_after_t200};
     ghost use Rattle.lapdm_window.specs.Abstraction.{Represents, HasOutstandingSegment, channel_of};
+    ghost use Rattle.lapdm_window.specs.Parts.{values_of};
 
     /// Creates a window for SDCCH in its initial state.
     pub fn new() -> Window
@@ -149,6 +150,7 @@ impl Window {
         }
         let more = self.next().more;
         self.va = self.vs;
+        self.retries = 0;
         if more {
             self.segment_index += 1;
             return Acked::Piece;
@@ -205,6 +207,14 @@ impl Window {
         }
         self.retries += 1;
         Timer::Again
+    }
+
+    /// Sets the count of repetitions to 0, for when the link is released or lost: the outstanding segment is not repeated any more.
+    pub fn stop_repeating(&mut self)
+        ensures values { values_of self.new ≡ record (values_of self.old) { retries = 0 } }
+        ensures channel { channel_of self.new ≡ channel_of self.old }
+    {
+        self.retries = 0;
     }
 
     /// Returns V(S), the N(S) of the next segment to be sent.

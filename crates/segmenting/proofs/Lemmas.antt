@@ -2,7 +2,7 @@
 use Rattle.{
   lapdm_frame.specs.{Layout.n201, declared.Channel.Channel},
   segmenting.specs.{
-    Joiners.HoldsReassemblyOf,
+    Joiners.{HoldsReassemblyOf, IsPossiblePart},
     Joining.{message_delivered_by_segment, messages_ending_in_segments, completed_message_after, completed_message, message_count},
     Joining.{message_if_fits, message_if_whole, messages, partial_message_after, partial_message, reassembly_result},
     Segments.{AreFullExceptLast, AreSegments, IsFullSegment, IsValidMessage, Message, Segment, cut_segments, max_message_octets},
@@ -395,9 +395,9 @@ goes_on ps octets held e h =
     grind (arith, message_if_fits-some held h, partial_message_after-more [] ps octets, completed_message_after-more [] ps octets)
 
 -- after a segment with M = 0 that completes a message of at most 251 octets, the joiner holds this message
-pub completes : (ps : List Segment) (octets held : List ℕ) → held ≡ partial_message ps ++ octets →
+pub completes : (ps : List Segment) (octets held : List ℕ) → held ≡ partial_message ps ++ octets → 1 ≤ length held →
     length held ≤ max_message_octets → HoldsReassemblyOf P.Whole held (ps ++ (octets, false) ∷ [])
-completes ps octets held e h =
+completes ps octets held e some h =
     grind (arith, message_if_fits-some held h, partial_message_after-last [] ps octets, completed_message_after-last [] ps octets)
 
 -- after a segment with M = 1 that makes the message longer than 251 octets, the joiner holds no octets and discards the rest of the message
@@ -478,22 +478,22 @@ count_of_empty r segment few =
     ∙ mod8-next r few
 
 history_of : (part : ReassemblyState) (held : List ℕ) (r : ℕ) → r ≤ 7 → length held ≤ max_message_octets →
-    (part ≡ P.Discarding → held ≡ []) → HasHistory part held r
-history_of P.Open held r few fits empty_if_discarding =
+    IsPossiblePart part held → HasHistory part held r
+history_of P.Open held r few fits possible =
     let k = (r + 7) % 8 in
     record {
       taken = empty_last_segments k ++ (held, true) ∷ [];
       count = count_of_empty r (held, true) few;
       reassembly = goes_on _ _ _ (begins k _) fits;
     }
-history_of P.Whole held r few fits empty_if_discarding =
+history_of P.Whole held r few fits possible =
     let k = (r + 7) % 8 in
     record {
       taken = empty_last_segments k ++ (held, false) ∷ [];
       count = count_of_empty r (held, false) few;
-      reassembly = completes _ held held (begins k held) fits;
+      reassembly = completes _ held held (begins k held) possible fits;
     }
-history_of P.Discarding held r few fits empty_if_discarding =
+history_of P.Discarding held r few fits possible =
     let k = (r + 7) % 8 in
     let long = replicate 252 0 in
     let over = taken_oversize _ long (omega (arith, ap length (begins k long), length-replicate {A = ℕ} 252 0)) in
@@ -501,17 +501,27 @@ history_of P.Discarding held r few fits empty_if_discarding =
       taken = empty_last_segments k ++ (long, true) ∷ [];
       count = count_of_empty r (long, true) few;
       reassembly = subst (λ octets. HoldsReassemblyOf P.Discarding octets (empty_last_segments k ++ (long, true) ∷ []))
-          (sym (empty_if_discarding refl)) over;
+          (sym possible) over;
     }
 
+possible_part : (part : ReassemblyState) (count : ℕ) (octets : List ℕ) → (part ≡ P.Discarding → count ≡ 0) →
+    (part ≡ P.Whole → 1 ≤ length (take count octets)) → IsPossiblePart part (take count octets)
+possible_part part count octets empty_if_discarding some_if_whole = grind arith
+
 pub HasHistory-buffer : (part : ReassemblyState) (count : ℕ) (octets : List ℕ) (r : ℕ) → count ≤ max_message_octets →
-    (part ≡ P.Discarding → count ≡ 0) → r ≤ 7 → HasHistory part (take count octets) r
-HasHistory-buffer part count octets r fits empty_if_discarding few =
-    history_of _ _ r few (omega (arith, length-take count octets))
-    (λ over. ap (λ n. take n octets) (empty_if_discarding over))
+    (part ≡ P.Discarding → count ≡ 0) → (part ≡ P.Whole → 1 ≤ length (take count octets)) → r ≤ 7 →
+    HasHistory part (take count octets) r
+HasHistory-buffer part count octets r fits empty_if_discarding some_if_whole few =
+    history_of _ _ r few (omega (arith, length-take count octets)) (possible_part part count octets empty_if_discarding some_if_whole)
 
 pub HasHistory-joiner : (j : Joiner) (r : ℕ) → r ≤ 7 → HasHistory j.part (take j.len j.octets) r
-HasHistory-joiner j r few = HasHistory-buffer _ _ _ r j.in_range j.empty_if_discarding few
+HasHistory-joiner j r few = HasHistory-buffer _ _ _ r j.in_range j.empty_if_discarding j.some_if_whole few
+
+-- ## OneState: The segments taken determine which octets a joiner holds, and which part of a message they are.
+
+pub one_part : (part part' : ReassemblyState) (held held' : List ℕ) (taken : List Segment) → HoldsReassemblyOf part held taken →
+    HoldsReassemblyOf part' held' taken → (part ≡ part') × (held ≡ held')
+one_part part part' held held' taken h g = grind arith
 
 -- ## Worked: Worked examples of segmentation and reassembly.
 

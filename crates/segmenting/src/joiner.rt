@@ -1,9 +1,9 @@
 //! Reassembles messages from segments.
 
-ghost use Rattle.std.specs.Prelude.{◌≡◌, ◌≤◌, length};
+ghost use Rattle.std.specs.Prelude.{◌≡◌, ◌≤◌, length, take};
 ghost use Rattle.lapdm_frame.specs.Layout.{largest_n201};
 ghost use Rattle.segmenting.specs.Segments.{max_message_octets};
-ghost use Rattle.segmenting.specs.declared.joiner.ReassemblyState.TheVariants.{Discarding};
+ghost use Rattle.segmenting.specs.declared.joiner.ReassemblyState.TheVariants.{Whole, Discarding};
 
 use crate::LONGEST_MESSAGE;
 
@@ -39,10 +39,11 @@ pub struct Joiner {
     part: ReassemblyState,
     ghost in_range: { len ≤ max_message_octets },
     ghost empty_if_discarding: { part ≡ Discarding → len ≡ 0 },
+    ghost some_if_whole: { part ≡ Whole → 1 ≤ length (take len octets) },
 }
 
 impl Joiner {
-    ghost use Rattle.std.specs.Prelude.{◌+◌, ◌<◌, List, [], ◌∷◌, ◌++◌, take, IfSome, MatchOption};
+    ghost use Rattle.std.specs.Prelude.{◌+◌, ◌<◌, List, [], ◌∷◌, ◌++◌, IfSome, MatchOption};
     ghost use Rattle.segmenting.specs.Segments.{Segment};
     ghost use Rattle.segmenting.specs.Joining.{reassembly_result, partial_message, completed_message};
     ghost use Rattle.segmenting.specs.Joiners.{HasTakenSegments};
@@ -69,6 +70,7 @@ impl Joiner {
             → HasTakenSegments self.new (taken ++ (piece.now, more) ∷ []) }
     {
         let Some(start) = self.write_position_for(piece) else {
+            self.part = ReassemblyState::Open;
             self.len = 0;
             self.part = if more {
                 ReassemblyState::Discarding

@@ -2,17 +2,24 @@
 use Rattle.{
   std.{
     proofs.{
-      Common.{◌≡◌, ℕ, ◌+◌, ◌-◌, ◌*◌, ◌/◌, ◌%◌, ◌<◌, Bool, false, if◌then◌else◌, ℤ, pos, ◌+ℤ◌},
+      Common.{◌≡◌, ℕ, ◌+◌, ◌-◌, ◌%◌, ◌<◌, Bool, false, true, if◌then◌else◌, ℤ, pos, ◌+ℤ◌},
+      Common.{◌≤ℤ◌, replicate},
       Common.{◌-ℤ◌, List, [], ◌∷◌, ◌++◌, map, length, get_or, refl, ap, ap₂, sym, ◌∙◌, arith, int_lt, w8},
       Common.FitsSigned,
-      lemmas.{Int.{ints, wrapping_add_is, wrapping_sub_is, int_wrap_fits}, List.{length-map, get_or-map, get_or_append_left}, Simd.SwzOk},
-      lemmas.Simd.{SwzOk-from_below, Each1-from_get_or, swz_l, get_or-swz_l_below, length-swz_l, length-sel_l, get_or-sel_l},
+      lemmas.{Int.{ints, wrapping_add_is, wrapping_sub_is, int_wrap_fits}, List.{length-map, get_or-map, get_or_append_left}},
+      lemmas.Simd.{length-sel_l, get_or-sel_l},
     },
     specs.Int.{cast_signed, cast_unsigned},
   },
   trellis_decode.{
-    specs.{Lanes.lane, Hard.{AreInt8, HaveMagnitudeAtMostOne, HaveHeadroom8, lane_after_bit_1, lane_after_bit_0}},
-    proofs.{AcsSteps.same_below, AcsVectors.{FitEach, compared, if_either, if_map, lanewise-at, length-lanewise, tested}},
+    specs.{
+      Lanes.lane,
+      Hard.{AreInt8, DifferByAtMost, HaveMagnitudeAtMostOne, HaveHeadroom8, lane_after_bit_1, lane_after_bit_0},
+    },
+    proofs.{
+      AcsSteps.same_below,
+      AcsVectors.{FitEach, Lanewise, Lanewise-by_lane, compared, if_either, if_map, lanewise-at, length-lanewise, tested},
+    },
   },
 }
 use lib.Lanes.{zip2, sel_l, top}
@@ -106,20 +113,83 @@ module _ (a branch_metrics : List ℤ) (ha : HaveHeadroom8 a) (he : HaveMagnitud
       (λ x y hx hy h. wrapping_sub_is w8 x y hx hy ∙ int_wrap_fits w8 _ h)
       (λ i k li lk. omega (arith, ints, ha.lower_bound i, ha.upper_bound i, he.lower_bound k, he.upper_bound k))
 
+pub Lanewise-hard_differences : (a b : List ℤ) → AreInt8 a → AreInt8 b →
+    ((k : ℕ) → k < 16 → FitsSigned w8 (lane a k -ℤ lane b k)) →
+    Lanewise w8 16 ◌-ℤ◌ a b (map (cast_signed w8) (zip2 difference (bits a) (bits b)))
+Lanewise-hard_differences a b ha hb fit =
+    Lanewise-by_lane w8 16 (λ _ xs ys. map (cast_signed w8) (zip2 difference (bits xs) (bits ys))) _ ◌-ℤ◌ refl (λ n x y xs ys. refl)
+    (λ x y hx hy h. wrapping_sub_is w8 x y hx hy ∙ int_wrap_fits w8 _ h) a b ha.count hb.count ha.fits hb.fits fit
+
+-- ---- lemmas about what the candidate metric z of bit 0 lacks to the greater one, v, of z and that of bit 1, o
+
+loss_fits : (z o v : ℤ) → v ≡ (if int_lt z o then o else z) → o ≤ℤ (z +ℤ pos 102) → FitsSigned w8 (z -ℤ v)
+loss_fits z o v is near = rw is (by _ refl)
+  where
+    by : (t : Bool) → int_lt z o ≡ t → FitsSigned w8 (z -ℤ (if t then o else z))
+    by true e = omega (arith, ints)
+    by false e = omega (arith, ints)
+
+loss_sign : (z o v l : ℤ) → v ≡ (if int_lt z o then o else z) → l ≡ z -ℤ v → int_lt l (pos 0) ≡ int_lt z o
+loss_sign z o v l is less = rw (less, is) (by _ refl)
+  where
+    same : (t u : Bool) → int_lt z o ≡ t → int_lt (z -ℤ o) (pos 0) ≡ u → u ≡ t
+    same true true e f = refl
+    same true false e f = absurd (omega (arith, ints))
+    same false true e f = absurd (omega (arith, ints))
+    same false false e f = refl
+
+    by : (t : Bool) → int_lt z o ≡ t → int_lt (z -ℤ (if t then o else z)) (pos 0) ≡ int_lt z o
+    by true e = same _ _ refl refl
+    by false e = let none : z -ℤ z ≡ pos 0 = omega (arith, ints) in ap (λ x. int_lt x (pos 0)) none ∙ sym e
+
+module _ (a branch_metrics zeros ones values : List ℤ) (he : HaveMagnitudeAtMostOne branch_metrics)
+    (zero_is : (k : ℕ) → k < 16 → lane zeros k ≡ lane a (lane_after_bit_0 k) +ℤ lane branch_metrics k)
+    (one_is : (k : ℕ) → k < 16 → lane ones k ≡ lane a (lane_after_bit_1 k) -ℤ lane branch_metrics k)
+    (best : (k : ℕ) → k < 16 → lane values k ≡ (if int_lt (lane zeros k) (lane ones k) then lane ones k else lane zeros k)) where
+  pub loss-fits : DifferByAtMost 100 a → (k : ℕ) → k < 16 → FitsSigned w8 (lane zeros k -ℤ lane values k)
+  loss-fits near k lt =
+      loss_fits _ _ _ (best k lt) (omega (
+        arith,
+        ints,
+        zero_is k lt,
+        one_is k lt,
+        he.lower_bound k lt,
+        he.upper_bound k lt,
+        near (lane_after_bit_1 k) (lane_after_bit_0 k) (omega arith) (omega arith),
+      ))
+
+  pub loss-sign : (losses : List ℤ) → ((k : ℕ) → k < 16 → lane losses k ≡ lane zeros k -ℤ lane values k) →
+      (k : ℕ) → k < 16 →
+      int_lt (lane losses k) (lane (replicate 16 (pos 0)) k) ≡ int_lt (lane zeros k) (lane ones k)
+  loss-sign losses are k lt =
+      ap (int_lt (lane losses k)) (same_below (lane (replicate 16 (pos 0))) (λ _. pos 0) refl k lt)
+      ∙ loss_sign _ _ _ _ (best k lt) (are k lt)
+
+  pub DifferByAtMost-more : (most : ℕ) → DifferByAtMost most a → DifferByAtMost (most + 2) values
+  DifferByAtMost-more most near j k lj lk =
+      omega (
+        arith,
+        ints,
+        least k lk,
+        greatest (lane a (lane_after_bit_0 k)) j lj (λ i li. near i (lane_after_bit_0 k) li (omega arith)),
+      )
+    where
+      least : (k : ℕ) → k < 16 → (lane a (lane_after_bit_0 k) -ℤ pos 1) ≤ℤ lane values k
+      least k lt = rw (best k lt) (by _ refl)
+        where
+          by : (t : Bool) → int_lt (lane zeros k) (lane ones k) ≡ t →
+              (lane a (lane_after_bit_0 k) -ℤ pos 1) ≤ℤ (if t then lane ones k else lane zeros k)
+          by true e = omega (arith, ints, zero_is k lt, he.lower_bound k lt)
+          by false e = omega (arith, ints, zero_is k lt, he.lower_bound k lt)
+
+      greatest : (x : ℤ) (j : ℕ) → j < 16 → ((i : ℕ) → i < 16 → lane a i ≤ℤ (x +ℤ pos most)) →
+          lane values j ≤ℤ (x +ℤ pos (most + 1))
+      greatest x j lt all =
+          rw (best j lt) (if_either (λ v. v ≤ℤ (x +ℤ pos (most + 1))) (int_lt (lane zeros j) (lane ones j))
+          (omega (arith, ints, one_is j lt, he.lower_bound j lt, all (lane_after_bit_1 j) (omega arith)))
+          (omega (arith, ints, zero_is j lt, he.upper_bound j lt, all (lane_after_bit_0 j) (omega arith))))
+
 -- ---- lemmas about the survivor map of the greater candidate metrics
-
--- for each lane, the lane of the next state, after bit 0 (`zero_places`) or bit 1 (`one_places`)
-abbrev zero_places : List ℕ
-zero_places = 0 ∷ 8 ∷ 1 ∷ 9 ∷ 2 ∷ 10 ∷ 3 ∷ 11 ∷ 0 ∷ 8 ∷ 1 ∷ 9 ∷ 2 ∷ 10 ∷ 3 ∷ 11 ∷ []
-
-abbrev one_places : List ℕ
-one_places = 4 ∷ 12 ∷ 5 ∷ 13 ∷ 6 ∷ 14 ∷ 7 ∷ 15 ∷ 4 ∷ 12 ∷ 5 ∷ 13 ∷ 6 ∷ 14 ∷ 7 ∷ 15 ∷ []
-
-zero_places-at : (k : ℕ) → k < 16 → get_or zero_places k 0 ≡ lane_after_bit_0 k
-zero_places-at = same_below _ _ refl
-
-one_places-at : (k : ℕ) → k < 16 → get_or one_places k 0 ≡ lane_after_bit_1 k
-one_places-at = same_below _ _ refl
 
 -- for each lane, whether the candidate metric of bit 1 is the greater
 abbrev tests : ℕ → List ℤ → List ℤ → List Bool
@@ -146,37 +216,6 @@ module _ (zeros ones : List ℤ) (hz : AreInt8 zeros) (ho : AreInt8 ones) where
 
   length-picked : (xs ys : List ℕ) → length xs ≡ 16 → length ys ≡ 16 → length (choice xs ys) ≡ 16
   length-picked xs ys ex ey = length-sel_l _ xs ys (length-tests ∙ sym ex) (length-tests ∙ sym ey) ∙ length-tests
-
-  -- for each lane, the lane of the next state after the bit with the greater candidate metric
-  abbrev next_places : List ℕ
-  next_places = choice one_places zero_places
-
-  next_place : (k : ℕ) → k < 16 → get_or next_places k 0 ≡ (if less k then lane_after_bit_1 k else lane_after_bit_0 k)
-  next_place k lt = picked _ _ refl refl k lt
-      ∙ ap₂ (λ x y. if less k then x else y) (one_places-at k lt) (zero_places-at k lt)
-
-  inside : (k : ℕ) (t : Bool) → k < 16 → (if t then lane_after_bit_1 k else lane_after_bit_0 k) < 16
-  inside k t lt = if_either (λ n. n < 16) t (omega arith) (omega arith)
-
-  pub lane-extend_survivor_map : (xs : List ℕ) (k : ℕ) → k < 16 →
-      get_or (swz_l w8 16 xs 0 next_places) k 0 ≡ get_or xs (if less k then lane_after_bit_1 k else lane_after_bit_0 k) 0
-  lane-extend_survivor_map xs k lt =
-      let is = next_place k lt in
-      let small = inside k (less k) lt in
-      let first : 16 * ((0 + k) / 16) + get_or next_places k 0 ≡ (if less k then lane_after_bit_1 k else lane_after_bit_0 k) =
-      omega arith in
-      get_or-swz_l_below w8 16 xs 0 _ k (let n = length-picked one_places zero_places refl refl in omega arith) (omega arith)
-      ∙ ap (λ n. get_or xs n 0) first
-
-  pub SwzOk-next_places : SwzOk w8 16 16 0 next_places
-  SwzOk-next_places =
-      let n = length-picked one_places zero_places refl refl in
-      SwzOk-from_below w8 16 1 16 0 _ refl (omega arith) (Each1-from_get_or _ _ 0
-      (λ k lt. let within : k < 16 = omega arith in
-      let is = next_place k within in let small = inside k (less k) within in omega arith))
-
-  pub length-extend_survivor_map : (xs : List ℕ) → length (swz_l w8 16 xs 0 next_places) ≡ 16
-  length-extend_survivor_map xs = length-swz_l w8 16 xs 0 _ ∙ length-picked _ _ refl refl
 
   -- a survivor map with one more bit at the front, computed by two fixed swizzles
   abbrev selected : List ℕ → List ℕ

@@ -20,6 +20,7 @@ use Rattle.{
     specs.{
       AcsLanes.{DifferByAtMost4096, HaveHeadroom16, three_bits_reversed, path_metric_of_lane, lane_of_state, metrics_of_lanes},
       Decisions.HasDecisionsAndMetrics,
+      Hard.{DifferByAtMost, hard_lane_metrics, metric_of_hard_lane},
       Lanes.{AreSignedOctets, IsSignedOctet, lane},
       SurvivorPaths.{AreMetricsWithin, AreSurvivors, HoldLaneNumbersFromIndex, state_after_bits, survivor_traceback},
       Trellis.{AreDecisions, EqualMetricButLater, HasTailBits, IsDecision, IsSurvivor, LessMetric, branch_metric, candidate_metric},
@@ -427,22 +428,48 @@ fits_16_bits =
         near_more 0 s t x u _ (omega arith) octets
         (let same : next_trellis_state s x ≡ next_trellis_state t x = omega arith in rw same (omega (arith, ints)))
 
+lane_of_state-inside : (k : ℕ) → k < 16 → lane_of_state k < 16
+lane_of_state-inside k lt = omega arith
+
+-- the path metrics of the survivors of any two states differ by at most 2,048
+survivors_near : (values soft : List ℤ) (paths : ℕ → List ℕ) (count : ℕ) → AreSignedOctets soft →
+    length soft ≡ 2 * count → ((s : ℕ) → length (paths s) ≡ count) →
+    ((s : ℕ) → s < 16 → IsSurvivor s (paths s) soft (lane values s)) → (s t : ℕ) → s < 16 → t < 16 →
+    lane values s ≤ℤ (lane values t +ℤ pos 2048)
+survivors_near values soft paths count octets long counts best s t hs ht =
+    let apart = fits_16_bits s t (paths s) soft (long ∙ ap (λ n. 2 * n) (sym (counts s))) octets (omega arith) in
+    let here = (best s hs).has_metric in
+    let there = (best t ht).has_metric in
+    elim ((best t ht).no_other_path_is_better (paths s) (best s hs).tail_bits (counts s ∙ sym (counts t))) [
+      | LessMetric h ↦ omega (arith, ints)
+      | EqualMetricButLater h later ↦ omega (arith, ints)
+    ]
+
+-- the lanes of hard path metrics differ by at most 8, since 8 * 254 ≤ 2048 < 9 * 254
+pub DifferByAtMost-survivors : (lanes soft : List ℤ) (group : ℕ) (survivors : List (List ℕ)) → AreSignedOctets soft →
+    length soft ≡ 8 * length survivors →
+    ((s : ℕ) → s < 16 → IsSurvivor s (survivor_traceback (drop group survivors) (lane_of_state s)) (drop (8 * group) soft)
+    (lane (hard_lane_metrics lanes) s)) → DifferByAtMost 8 lanes
+DifferByAtMost-survivors lanes soft group survivors octets long best j k lj lk =
+    let left = drop group survivors in
+    let near = survivors_near (hard_lane_metrics lanes) (drop (8 * group) soft) (λ s. survivor_traceback left (lane_of_state s))
+    (4 * length left) (All-drop IsSignedOctet (8 * group) _ octets)
+    (omega (arith, length-drop (8 * group) soft, length-drop group survivors)) (λ s. length-survivor_traceback left _) best
+    (lane_of_state j) (lane_of_state k) (lane_of_state-inside j lj) (lane_of_state-inside k lk) in
+    omega (arith, ints, metric_at j lj, metric_at k lk)
+  where
+    metric_at : (k : ℕ) → k < 16 → lane (hard_lane_metrics lanes) (lane_of_state k) ≡ metric_of_hard_lane (lane lanes k)
+    metric_at = same_below _ _ refl
+
 -- ---- lemmas about the preconditions of a trellis step
 
 module _ (rows : List ℕ) (losses : List (List ℤ)) (soft even odd : List ℤ)
     (decided : HasDecisionsAndMetrics rows losses soft (metrics_of_lanes even odd)) where
   value_near : (s t : ℕ) → s < 16 → t < 16 → lane (metrics_of_lanes even odd) s ≤ℤ
       (lane (metrics_of_lanes even odd) t +ℤ pos 2048)
-  value_near s t hs ht =
-      let count : length soft ≡ 2 * length (traceback rows s) = omega (arith, length-traceback) in
-      let apart = fits_16_bits s t (traceback rows s) soft count decided.octets (omega arith) in
-      let here = (decided.best s hs).has_metric in
-      let there = (decided.best t ht).has_metric in
-      elim ((decided.best t ht).no_other_path_is_better (traceback rows s) (decided.best s hs).tail_bits (length-traceback rows s ∙ sym
-      (length-traceback rows t))) [
-        | LessMetric h ↦ omega (arith, ints)
-        | EqualMetricButLater h later ↦ omega (arith, ints)
-      ]
+  value_near =
+      survivors_near (metrics_of_lanes even odd) soft (traceback rows) (length rows) decided.octets (omega (arith, decided.count))
+      (λ s. length-traceback rows s) decided.best
 
   pub HasDecisionsAndMetrics-differences : DifferByAtMost4096 even odd
   HasDecisionsAndMetrics-differences = record {
@@ -496,9 +523,6 @@ pub HasDecisionsAndMetrics-same : {rows rows' : List ℕ} {losses losses' : List
 HasDecisionsAndMetrics-same er el es decided = rw (← er, ← el, ← es) decided
 
 -- ## LanesOfMaps: Every lane of a survivor map holds the number of a lane.
-
-lane_of_state-inside : (k : ℕ) → k < 16 → lane_of_state k < 16
-lane_of_state-inside k lt = omega arith
 
 lane_of_state-involution : (k : ℕ) → k < 16 → lane_of_state (lane_of_state k) ≡ k
 lane_of_state-involution = same_below (λ k. lane_of_state (lane_of_state k)) (λ k. k) refl

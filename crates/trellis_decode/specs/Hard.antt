@@ -32,6 +32,10 @@ pub record HaveMagnitudeAtMostOne (lanes : List ℤ) : Type 0 where
   pub lower_bound : (k : ℕ) → k < 16 → negsuc 0 ≤ℤ lane lanes k
   pub upper_bound : (k : ℕ) → k < 16 → lane lanes k ≤ℤ pos 1
 
+-- each lane exceeds each other lane by at most `most`
+abbrev pub DifferByAtMost : (most : ℕ) → (lanes : List ℤ) → Type 0
+DifferByAtMost most lanes = (j k : ℕ) → j < 16 → k < 16 → lane lanes j ≤ℤ (lane lanes k +ℤ pos most)
+
 -- the path metric that an 8-bit lane represents: a lane holds the path metric divided by 254, minus 120
 abbrev pub metric_of_hard_lane : (number : ℤ) → ℤ
 metric_of_hard_lane number = pos 254 *ℤ (number +ℤ pos 120)

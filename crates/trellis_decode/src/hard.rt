@@ -4,12 +4,14 @@
 //! signed octets, so one vector holds the path metrics of all sixteen states. Each state has the same lane as in a survivor map.
 
 ghost use Rattle.std.specs.Prelude.{◌≡◌, ℕ, ◌+◌, ◌*◌, ◌/◌, ◌%◌, ◌^◌, ◌<◌, ◌≤◌, ℤ, List, []};
-ghost use Rattle.std.specs.Prelude.{◌∷◌, ◌+ℤ◌, ◌-ℤ◌, IsTrue, int_lt, if◌then◌else◌};
+ghost use Rattle.std.specs.Prelude.{◌∷◌, ◌+ℤ◌, ◌-ℤ◌, IsTrue, int_lt, if◌then◌else◌, FitsSigned};
 ghost use Rattle.std.specs.Prelude.{length, slice_index, slice_index_or, replicate, take, drop, ◌++◌};
+ghost use Rattle.std.specs.Int.{w8};
 ghost use Rattle.std.specs.List.{All};
 ghost use Rattle.conv_code.specs.Code.{encoding};
 ghost use Rattle.conv_code.specs.Likelihood.{IsMostLikely, likelihood};
-ghost use Rattle.trellis_decode.specs.Hard.{AreInt8, HaveMagnitudeAtMostOne, HasHardBranchMetrics, HaveHeadroom8, IsHardBit};
+ghost use Rattle.trellis_decode.specs.Hard.{AreInt8, DifferByAtMost, HaveMagnitudeAtMostOne, HasHardBranchMetrics, HaveHeadroom8};
+ghost use Rattle.trellis_decode.specs.Hard.{IsHardBit};
 ghost use Rattle.trellis_decode.specs.Hard.{hard_lane_metrics};
 ghost use Rattle.trellis_decode.specs.Hard.{lane_after_bit_1};
 ghost use Rattle.trellis_decode.specs.Hard.{sign_bit_of};
@@ -185,6 +187,7 @@ fn extend_hard_survivors(after: StateMetrics, soft: &[i8]) -> HardSurvivors
     requires hard { All IsHardBit soft.now }
     requires within { AreMetricsWithin 58368 (hard_lane_metrics after.lanes) }
     requires lanes { AreInt8 after.lanes }
+    requires near { DifferByAtMost 8 after.lanes }
     ensures walk { AreSurvivors (hard_lane_metrics after.lanes) (hard_lane_metrics result.values.lanes) result.survivor_map soft.now }
     ensures within { AreMetricsWithin 59392 (hard_lane_metrics result.values.lanes) }
     ensures lanes { AreInt8 result.values.lanes }
@@ -208,20 +211,27 @@ impl HardSurvivors {
         requires headroom { HaveHeadroom8 self.values.lanes }
         requires count { length self.survivor_map ≡ 16 }
         requires branch_metrics { HaveMagnitudeAtMostOne branch_metrics.lanes }
+        requires near { DifferByAtMost 100 self.values.lanes }
         ensures walk { (pair : List ℤ) → HasHardBranchMetrics branch_metrics.lanes pair → (after soft : List ℤ) →
             AreSurvivors after (hard_lane_metrics self.values.lanes) self.survivor_map soft →
             AreSurvivors after (hard_lane_metrics result.values.lanes) result.survivor_map (pair ++ soft) }
         ensures within { (pair : List ℤ) → HasHardBranchMetrics branch_metrics.lanes pair → AreSignedOctets pair → (most : ℕ) →
             AreMetricsWithin most (hard_lane_metrics self.values.lanes) →
             AreMetricsWithin (most + 256) (hard_lane_metrics result.values.lanes) }
+        ensures near { (most : ℕ) → DifferByAtMost most self.values.lanes → DifferByAtMost (most + 2) result.values.lanes }
         ensures lanes { AreInt8 result.values.lanes }
         ensures count { length result.survivor_map ≡ 16 }
     {
         let zero = bit_0_candidates(self.values, branch_metrics);
         let one = bit_1_candidates(self.values, branch_metrics);
+        let values = larger_lanes(zero, one);
+        let losses = subtract_hard_lanes(zero, values);
+        let none = StateMetrics {
+            lanes: i8x16::splat(0),
+        };
         HardSurvivors {
-            values: larger_lanes(zero, one),
-            survivor_map: extend_survivor_map_swizzle_dyn(self.survivor_map, zero, one),
+            values,
+            survivor_map: extend_survivor_map_by_metrics(self.survivor_map, losses, none),
         }
     }
 }
@@ -274,26 +284,27 @@ fn larger_lanes(zero: StateMetrics, one: StateMetrics) -> StateMetrics
     }
 }
 
-/// Extends a survivor map backward by one bit: the survivor of each state begins with the bit that has the greater candidate metric, or
-/// with bit 0 on a tie.
+/// The differences of the lanes. The sign of what a candidate metric of bit 0 lacks to the greater one tells which bit is decided, and the
+/// compiler selects lanes by signs in fewer instructions than by a comparison.
 #[inline]
-fn extend_survivor_map_swizzle_dyn(map: u8x16, zero: StateMetrics, one: StateMetrics) -> u8x16
-    requires map { length map ≡ 16 }
-    requires zero { AreInt8 zero.lanes }
-    requires one { AreInt8 one.lanes }
-    ensures each { (k : ℕ) → k < 16 → slice_index result k ≡
-        slice_index map (if int_lt (lane zero.lanes k) (lane one.lanes k) then lane_after_bit_1 k else lane_after_bit_0 k) }
-    ensures count { length result ≡ 16 }
+fn subtract_hard_lanes(first: StateMetrics, second: StateMetrics) -> StateMetrics
+    requires first { AreInt8 first.lanes }
+    requires second { AreInt8 second.lanes }
+    requires fits { (k : ℕ) → k < 16 → FitsSigned w8 (lane first.lanes k -ℤ lane second.lanes k) }
+    ensures each { (k : ℕ) → k < 16 → lane result.lanes k ≡ lane first.lanes k -ℤ lane second.lanes k }
+    ensures lanes { AreInt8 result.lanes }
 {
-    let zeros = u8x16::from_array([0, 8, 1, 9, 2, 10, 3, 11, 0, 8, 1, 9, 2, 10, 3, 11]);
-    let ones = u8x16::from_array([4, 12, 5, 13, 6, 14, 7, 15, 4, 12, 5, 13, 6, 14, 7, 15]);
-    map.swizzle_dyn(one.lanes.simd_gt(zero.lanes).select(ones, zeros))
+    StateMetrics {
+        lanes: first.lanes - second.lanes,
+    }
 }
 
-/// Computes the same result as `extend_survivor_map_swizzle_dyn`, with two fixed swizzles. In WebAssembly, `swizzle_dyn` takes sixteen
-/// loads; on other targets, it is one instruction.
+/// Extends a survivor map backward by one bit: the survivor of each state begins with the bit that has the greater candidate metric, or
+/// with bit 0 on a tie.
+///
+/// Its two swizzles have fixed places: one swizzle by places that are computed is sixteen loads in WebAssembly.
 #[inline]
-pub fn extend_survivor_map_swizzle_fixed(map: u8x16, zero: StateMetrics, one: StateMetrics) -> u8x16
+pub fn extend_survivor_map_by_metrics(map: u8x16, zero: StateMetrics, one: StateMetrics) -> u8x16
     requires map { length map ≡ 16 }
     requires zero { AreInt8 zero.lanes }
     requires one { AreInt8 one.lanes }

@@ -12,7 +12,7 @@ ghost use Rattle.trellis_decode.specs.Words.{to_binary};
 
 use crate::acs_lanes::{EightDecisions, EightLanes};
 use crate::acs_step::{PathMetrics, TrellisStep};
-use crate::hard::{StateMetrics, extend_survivor_map_swizzle_fixed};
+use crate::hard::{StateMetrics, extend_survivor_map_by_metrics};
 use std::simd::prelude::*;
 
 /// The survivors of all states over a few bits.
@@ -89,7 +89,7 @@ fn extend_survivor_map(survivor_map: u8x16, low: EightDecisions, high: EightDeci
     let none = StateMetrics {
         lanes: i8x16::splat(0),
     };
-    extend_survivor_map_swizzle_fixed(survivor_map, taken, none)
+    extend_survivor_map_by_metrics(survivor_map, taken, none)
 }
 
 /// The four bits of the state in each lane of a survivor map, the oldest bit first.

@@ -558,7 +558,7 @@ module _ (a : AirState) (h : IsOctetSession a) (event : Event) (says : EventMess
       let known = known-read (W.refusal e w) a event report read delivery in
       let next = octets-next read known.1 in
       let bs = some_blocks a.channel a.tsc (event_step e a.ends).frames h.valid_tsc (event_step-fits a.channel w e known.0 h.seen.fit none)
-      (event_step-holds (λ s x. EndOctets x) SaysOctets next.0 w e (W.refusal e w) none next.1) in (
+      (event_step-holds (λ r s x. EndOctets x) SaysOctets next.0 w e (W.refusal e w) none next.1) in (
         _,
         Accepts (done a e report),
         (is, record { read = read; blocks = bs.0; delivery = delivery; sent = bs.1; new_state_is = refl; step_matches = refl }),

@@ -4,21 +4,21 @@ use Rattle.{
     proofs.Lemmas.one_answer,
     specs.{Answers.IsRepairResult, declared.repairs.RepairAnswer.{TheVariants.{Holds, NoRepair, Repaired}, RepairAnswer}},
   },
-  lapdm_end.specs.{Abstraction.Represents, Parts.{EndpointValues, values_of}, Refinement.{RefusesAsSpecified, StepRefines}},
-  lapdm_end.specs.declared.{Role.Role, ends.Endpoint.Endpoint},
+  lapdm_end.{proofs.Lemmas.one_values, specs.{Abstraction.Represents, Parts.{EndpointValues, values_of}, Refinement.RefusesAsSpecified}},
+  lapdm_end.specs.{Refinement.StepRefines, declared.{Role.Role, ends.Endpoint.Endpoint}},
   lapdm_frame.specs.{
     Content.Frame,
     Frames.bit_of_bool,
     Readings.{IsOnlyEncodedFrame, IsOnlyRefusalReason},
     declared.{Channel.Channel, Refusal.Refusal},
   },
-  std.proofs.Common.{Bool, Err, IfErr, List, None, Ok, OnOk, Option, Result, Some, [], add-one, ap, arith, get_or, inl, inr, length, map},
-  std.proofs.Common.{nat_le, refl, replicate, slice_index_or, slice_set, suc, sym, take, true, zero, ℕ, ℤ, ◌++◌, ◌+◌, ◌-◌},
-  std.proofs.{Common.{◌<◌, ◌↔◌, ◌∙◌, ◌∷◌, ◌≡◌, ◌≤◌}, lemmas.{Bool.Decides.nat_tests, List.take_at}},
-  std.specs.Prelude.{IsNone, IsSome, IsTrue, MatchOption},
+  std.proofs.Common.{Bool, Err, false, IfErr, List, None, Ok, OnOk, Option, Result, Some, [], add-one, ap, arith, get_or, inl, inr, length},
+  std.proofs.Common.{map, nat_le, refl, replicate, slice_index_or, slice_set, suc, sym, take, true, zero, ℕ, ℤ, ◌++◌, ◌+◌},
+  std.proofs.{Common.{◌-◌, ◌<◌, ◌↔◌, ◌∙◌, ◌∷◌, ◌≡◌, ◌≤◌}, lemmas.Bool.{Decides.nat_tests, cases_lt}},
+  std.{proofs.lemmas.List.take_at, specs.Prelude.{IsNone, IsSome, IsTrue, MatchOption}},
   um_air.specs.{
-    lapdm_window.{Calls.{Call, call_outcome}, Ends.{EndpointState, Outcome, initial_endpoint}, Steps.HasEffects, Tables.frame_outcome},
-    lapdm_window.declared.{Notice.Notice, Refused.Refused, Sapi.Sapi, State.State, effects.Effects.Effects},
+    lapdm_window.{Calls.{Call, IsCallAllowedForEndpoint, call_outcome}, Ends.{EndpointState, Outcome, initial_endpoint}, Steps.HasEffects},
+    lapdm_window.{Tables.frame_outcome, declared.{Notice.Notice, Refused.Refused, Sapi.Sapi, State.State, effects.Effects.Effects}},
     segmenting.{Buffers.{message_buffer, octets_in_buffer}, Segments.Message, declared.buffers.MessageBuffer.MessageBuffer},
     segmenting.declared.joiner.ReassemblyState.ReassemblyState,
   },
@@ -27,14 +27,14 @@ use Rattle.{
   um_block.specs.{Received.coded_soft_bits, declared.received.Received.Received, interleave.Bursts.IsInterleaved},
   um_c.specs.{
     Effects.{blank_notice, c_effects, c_notice},
-    EndCalls.{EndpointReceivesBlock, EndpointAnswersCall, IsNewEndpointResult, EndpointSupportsCall, SucceedsWithOutcome},
-    EndCalls.call_refusal_number,
+    EndCalls.{EndpointReceivesBlock, EndpointAnswersCall, IsNewEndpointResult, SucceedsWithOutcome, call_refusal_number},
     MarginReports.IsMarginReport,
     Plain.{channel_of, is_nonzero},
     RepairReports.{IsRepairResultForBitWord, IsRepairCallResult},
     Reports.{IsAccessReport, IsBlockReport, IsSyncReport, ReportsBlock},
     States.{RepresentsSomeEndpoint, StructRepresents, buffers_of_messages, c_endpoint, channel_number, endpoint_values_from},
-    States.{reassembly_from_number, reassembly_number, role_number, role_of, sapi_number, sapi_of, state_number, state_of},
+    States.{IsCanonicalStruct, endpoint_values_if_valid, window_values_from, window_values_if_valid, reassembly_from_number},
+    States.{reassembly_number, role_number, role_of, sapi_number, sapi_of, state_number, state_of},
     declared.{blocks.BlockReport.BlockReport, bursts.{AccessReport.AccessReport, SyncReport.SyncReport}, effects.CEffects.CEffects},
     declared.{effects.CNotice.CNotice, margins.MarginReport.MarginReport, repairs.RepairReport.RepairReport, states.CEndpoint.CEndpoint},
   },
@@ -58,7 +58,7 @@ state-number s = grind arith
 part-number : (p : ReassemblyState) → reassembly_from_number (reassembly_number p) ≡ Some p
 part-number p = grind arith
 
-is_nonzero-bit_of_bool : (b : Bool) → is_nonzero (bit_of_bool b) ≡ b
+pub is_nonzero-bit_of_bool : (b : Bool) → is_nonzero (bit_of_bool b) ≡ b
 is_nonzero-bit_of_bool b = grind arith
 
 pub octets-c_struct : (octets : List ℕ) → octets_in_buffer (message_buffer octets) ≡ octets
@@ -70,7 +70,7 @@ messages-c_struct k [] few = refl
 messages-c_struct zero (m ∷ ms) few = absurd (omega arith)
 messages-c_struct (suc k) (m ∷ ms) few = rw (octets-c_struct m, messages-c_struct k ms (omega arith)) refl
 
-end-c_struct : (x : EndpointValues) → length x.window.held ≤ 8 → endpoint_values_from (c_endpoint x) ≡ Some x
+pub end-c_struct : (x : EndpointValues) → length x.window.held ≤ 8 → endpoint_values_from (c_endpoint x) ≡ Some x
 end-c_struct x few =
     let few_held : nat_le (length x.window.held) 8 ≡ true = grind (arith, nat_tests) in
     rw (
@@ -85,6 +85,45 @@ end-c_struct x few =
       octets-c_struct x.window.joiner.octets,
       octets-c_struct x.sabm_info,
     )
+
+-- ---- two structs in canonical form that represent the same endpoint are equal
+
+no_window : (s : CEndpoint) (channel : Option Channel) (part : Option ReassemblyState) →
+    window_values_if_valid s channel part false ≡ None
+no_window s channel part = grind arith
+
+no_endpoint : (s : CEndpoint) (role : Option Role) (sapi : Option Sapi) (state : Option State) →
+    endpoint_values_if_valid s role sapi state None ≡ None
+no_endpoint s role sapi state = grind arith
+
+few_held : (x y : EndpointValues) → endpoint_values_from (c_endpoint x) ≡ Some y → length x.window.held ≤ 8
+few_held x y decoded =
+    elim (cases_lt 8 (length x.window.held)) [
+      | inr few ↦ few
+      | inl many ↦
+          let full : nat_le (length x.window.held) 8 ≡ false = grind (arith, nat_tests) in
+          let none : window_values_from (c_endpoint x) ≡ None = rw full (no_window (c_endpoint x)
+          (channel_of (channel_number x.window.channel)) (reassembly_from_number (reassembly_number x.window.joiner.part))) in
+          let nothing : endpoint_values_from (c_endpoint x) ≡ None = rw none (no_endpoint (c_endpoint x)
+          (role_of (role_number x.role)) (sapi_of (sapi_number x.sapi)) (state_of (state_number x.state))) in
+          absurd (cc (sym nothing ∙ decoded))
+    ]
+
+canonical_values : (x y : EndpointValues) → endpoint_values_from (c_endpoint x) ≡ Some y → x ≡ y
+canonical_values x y decoded =
+    let same : Some x ≡ Some y = sym (end-c_struct x (few_held x y decoded)) ∙ decoded in
+    cc same
+
+pub one_struct : (a b : CEndpoint) (e : EndpointState) → StructRepresents a e → StructRepresents b e → IsCanonicalStruct a →
+    IsCanonicalStruct b → a ≡ b
+one_struct a b e h g (x, is) (y, is') =
+    let first : x ≡ h.endpoint_values = canonical_values x _ (rw is at h.decoded) in
+    let second : y ≡ g.endpoint_values = canonical_values y _ (rw is' at g.decoded) in
+    let m = h.represents_values in
+    let n = g.represents_values in
+    let same : x ≡ y = first ∙ sym m.values_match ∙ one_values m.endpoint n.endpoint e m.represents n.represents ∙ n.values_match
+    ∙ sym second in
+    is ∙ ap c_endpoint same ∙ sym is'
 
 -- ## Places: An array that is written one element at a time contains the notices or messages, followed by unused elements.
 
@@ -190,7 +229,7 @@ carried_out does is =
 
 module _ {before after : CEndpoint} {output_old output : CEffects} {m : Endpoint} {answer : ℕ} (read : IsRead before m) where
   pub answered_by : {A : Type 0} {call : Call} (n : Endpoint) (effects : Effects) (r : Result A Refused) →
-      ((e : EndpointState) → StructRepresents before e → EndpointSupportsCall e call) → RefusesAsSpecified call m r →
+      ((e : EndpointState) → StructRepresents before e → IsCallAllowedForEndpoint e call) → RefusesAsSpecified call m r →
       OnOk r (StepRefines (call_outcome call) m effects n) → OnOk r (IsDone effects n answer after output) →
       IfErr r (λ reason. (answer ≡ call_refusal_number reason) × (after ≡ before) × (output ≡ output_old)) →
       EndpointAnswersCall call answer before after output_old output
@@ -228,7 +267,8 @@ module _ {before after : CEndpoint} {output_old output : CEffects} {m : Endpoint
 
 -- if the endpoint does not support the call, the C call must return 8 and write nothing
 pub not_asked : {call : Call} {s : CEndpoint} {output : CEffects} {m : Endpoint} → IsRead s m →
-    ((e : EndpointState) → StructRepresents s e → EndpointSupportsCall e call → ⊥) → EndpointAnswersCall call 8 s s output output
+    ((e : EndpointState) → StructRepresents s e → IsCallAllowedForEndpoint e call → ⊥) →
+    EndpointAnswersCall call 8 s s output output
 not_asked read never = record {
   carried_out = λ e h asked none. absurd (never e h asked);
   refused = λ e h asked reason refuses. absurd (never e h asked);

@@ -1,2 +1,4 @@
 mod Calls
+mod DataLinkCalls
 mod Sessions
+pub mod ErasingReports

@@ -20,14 +20,15 @@ use Rattle.{
     specs.{
       lapdm_link.{
         Claims.{AckedAtMostDelivered, Asked, Claims, HasNoticesInOrder, LogLine, Notified, answer_log_lines, is_same_role, is_same_sapi},
-        Events.{Ask, Close, Deliver, Event, Idle, Lose, OpenBare, Open, Request, Rival, SendUi, Send, T200Expiry, as_event_refusal},
+        Events.{Ask, Close, Deliver, Event, Idle, Lose, OpenBare, Open, Repeat, Request, Rival, SendUi, Send, T200Expiry, as_event_refusal},
         Events.{endpoint_call_of, event_step, other, rival_sabm, unbounded_capacity},
         Queues.{Queues, with_items_appended, without_oldest_item as queues_without_first},
         Worlds.{IsBenignExceptRrForRej, IsBenignEventExceptRrForRej, IsOldestSentOrRrForRej, World, answer_unless_refused, answers, answer},
         Worlds.{initial_world, refusal, rej_replaced_by_rr, world_after, world_after_possible_refusal},
       },
       lapdm_window.{
-        Calls.{Call, Closes, OpensWithoutInfo, Opens, SendsFillFrame, SendsUi, Sends, T200Expires, call_outcome, refusal_of, sends_sabm},
+        Calls.{Call, Closes, IsCallAllowedForEndpoint, OpensWithoutInfo, Opens, SendsFillFrame, SendsUi, Sends, T200Expires, call_outcome},
+        Calls.{Repeats, refusal_of, sends_sabm},
         Ends.{EndpointState, IsValidEndpoint, Mobile, Network, Outcome, Role, no_effect, response_frame, sapi_number, initial_endpoint},
         Tables.frame_outcome,
         declared.{Notice.Notice, Refused.Refused, Sapi.{TheVariants.{Three, Zero}, Sapi}},
@@ -41,7 +42,7 @@ use Rattle.{
     proofs.Calls.{IsFlagged, octets-c_struct},
     specs.{
       Effects.c_notice,
-      EndCalls.{EndpointReceivesBlock, EndpointAnswersCall, EndpointSupportsCall, SucceedsWithOutcome, call_refusal_number},
+      EndCalls.{EndpointReceivesBlock, EndpointAnswersCall, SucceedsWithOutcome, call_refusal_number},
       Joined.{AnyStepAllowed, Calls, DeliversOldestBlock, EncodeSameFrame, FirstBlockSatisfies, HasNoFrameOnSapi, ChangesOneEndpoint},
       Joined.{IsNewEndpointOrNone, IsProgramRun, IsProgramStart, IsProgramStep, IsDecodedFromSentBlock, LosesOldestBlock, ProgramState},
       Joined.{ProgramStep, ReceivesOldestBlock, RivalSabm, TakesOldestBlock, TakesOtherSapiBlock, blocks_sent, session_log, notice_from_c},
@@ -235,6 +236,7 @@ module _ (channel : Channel) (w : World) (room : w.capacity ≡ unbounded_capaci
   asked r s (SendsUi m) placed = by_request r s (SendUi m)
   asked r s Closes placed = by_request r s Close
   asked r s T200Expires placed = by_request r s T200Expiry
+  asked r s Repeats placed = by_request r s Repeat
   asked r s SendsFillFrame placed = by_request r s Idle
 
   -- if a frame with the SAPI of an endpoint arrives, this endpoint receives the frame
@@ -255,12 +257,12 @@ IsPlaced-or_not r Zero OpensWithoutInfo = inr (λ h. grind arith)
 IsPlaced-or_not r s call = inl tt
 
 module _ {r : Role} {s : Sapi} (e : EndpointState) (role : e.role ≡ r) (sapi : e.sapi ≡ s) where
-  allowed : (call : Call) → IsPlaced r s call → EndpointSupportsCall e call
+  allowed : (call : Call) → IsPlaced r s call → IsCallAllowedForEndpoint e call
   allowed (Opens info) h = (sapi ∙ h.1, role ∙ h.0)
   allowed OpensWithoutInfo h = sapi ∙ h
   allowed call h = tt
 
-  placed : (call : Call) → EndpointSupportsCall e call → IsPlaced r s call
+  placed : (call : Call) → IsCallAllowedForEndpoint e call → IsPlaced r s call
   placed (Opens info) h = (sym role ∙ h.1, sym sapi ∙ h.0)
   placed OpensWithoutInfo h = sym sapi ∙ h
   placed call h = tt
@@ -658,7 +660,7 @@ module _ {info : Message} {e f : EndpointState} {m n : CEndpoint} (mobile : Stru
 
   sabm-fits : FrameFits f.channel sabm
   sabm-fits =
-      let k = keeps-call (Opens info) e (StructRepresents-valid mobile) can_establish.allowed.0 can_establish.not_refused in
+      let k = keeps-call (Opens info) e (StructRepresents-valid mobile) can_establish.allowed can_establish.not_refused in
       rw (← can_establish.same_channel) (All-head (FrameFits e.channel) sabm [] (subst (All (FrameFits e.channel)) same_sabm k.frames))
 
   pub answer-one : (g : Frame) × (reply.frames ≡ g ∷ [])

@@ -8,9 +8,8 @@ use Rattle.lapdm_frame.specs.Readings.{IsOnlyEncodedFrame, IsOnlyRefusalReason}
 use Rattle.um_air.specs.lapdm_window.declared.Sapi.{Sapi}
 use Rattle.um_air.specs.lapdm_window.declared.Refused.{Refused}
 use Rattle.um_air.specs.lapdm_window.declared.Refused.TheVariants as No
-use Rattle.um_air.specs.lapdm_window.declared.Sapi.TheVariants.{Zero}
-use Rattle.um_air.specs.lapdm_window.Ends.{Mobile, EndpointState, Outcome, initial_endpoint}
-use Rattle.um_air.specs.lapdm_window.Calls.{Call, Opens, IsCallAllowedForEndpoint, refusal_of, call_outcome}
+use Rattle.um_air.specs.lapdm_window.Ends.{EndpointState, Outcome, initial_endpoint}
+use Rattle.um_air.specs.lapdm_window.Calls.{Call, IsCallAllowedForEndpoint, refusal_of, call_outcome}
 use Rattle.um_air.specs.lapdm_window.Tables.{frame_outcome}
 use Rattle.lapdm_end.specs.Addresses as L
 use Rattle.lapdm_end.specs.declared.Role.{Role}
@@ -36,20 +35,14 @@ pub record SucceedsWithOutcome (channel : Channel) (outcome : Outcome) (answer :
     pub represents : StructRepresents after outcome.new_state
     pub effects : output ≡ c_effects (map (octets_of channel) outcome.frames) outcome.notices
 
--- the endpoint supports this call: only a mobile establishes the link of SAPI 0, with information in its SABM; either side establishes that
--- of SAPI 3, without information
-abbrev pub EndpointSupportsCall : (endpoint : EndpointState) (call : Call) → Type 0
-EndpointSupportsCall e (Opens info) = (e.sapi ≡ Zero) × (e.role ≡ Mobile)
-EndpointSupportsCall e call = IsCallAllowedForEndpoint e call
-
 -- the endpoint in `before` carries out or refuses the call; the call returns 8 if the endpoint does not support it, and 7 if `before`
 -- represents no endpoint; unless it returns 0, it writes nothing
 pub record EndpointAnswersCall (call : Call) (answer : ℕ) (before after : CEndpoint) (output_old output : CEffects) : Type 0 where
-  pub carried_out : (e : EndpointState) → StructRepresents before e → EndpointSupportsCall e call → refusal_of call e ≡ None →
+  pub carried_out : (e : EndpointState) → StructRepresents before e → IsCallAllowedForEndpoint e call → refusal_of call e ≡ None →
       SucceedsWithOutcome e.channel (call_outcome call e) answer after output
-  pub refused : (e : EndpointState) → StructRepresents before e → EndpointSupportsCall e call → (reason : Refused) →
+  pub refused : (e : EndpointState) → StructRepresents before e → IsCallAllowedForEndpoint e call → (reason : Refused) →
       refusal_of call e ≡ Some reason → answer ≡ call_refusal_number reason
-  pub unsupported_call : (e : EndpointState) → StructRepresents before e → (EndpointSupportsCall e call → ⊥) → answer ≡ 8
+  pub unsupported_call : (e : EndpointState) → StructRepresents before e → (IsCallAllowedForEndpoint e call → ⊥) → answer ≡ 8
   pub invalid_struct : ((e : EndpointState) → StructRepresents before e → ⊥) → answer ≡ 7
   pub unchanged : answer ≢ 0 → (after ≡ before) × (output ≡ output_old)
 

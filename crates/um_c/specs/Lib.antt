@@ -7,5 +7,8 @@ pub mod States
 pub mod Effects
 pub mod EndCalls
 pub mod SideCalls
+pub mod DataLinkCalls
 pub mod Joined
 pub mod Opening
+pub mod TimeCalls
+pub mod SlotCalls

@@ -7,12 +7,11 @@ use Rattle.um_air.specs.lapdm_window.declared.Sapi.{Sapi}
 use Rattle.um_air.specs.lapdm_window.declared.Sapi.TheVariants.{Zero, Three}
 use Rattle.um_air.specs.lapdm_window.declared.State.TheVariants.{Idle, Open}
 use Rattle.um_air.specs.lapdm_window.Ends.{Role, Mobile, Network, EndpointState, command_cr}
-use Rattle.um_air.specs.lapdm_window.Calls.{Opens, refusal_of}
+use Rattle.um_air.specs.lapdm_window.Calls.{Opens, IsCallAllowedForEndpoint, refusal_of}
 use Rattle.um_air.specs.lapdm_window.Tables.{frame_outcome}
 use Rattle.um_air.specs.lapdm_link.Queues.{empty_queues}
 use Rattle.um_c.specs.declared.states.CEndpoint.{CEndpoint}
 use Rattle.um_c.specs.declared.effects.CEffects.{CEffects}
-use Rattle.um_c.specs.EndCalls.{EndpointSupportsCall}
 use Rattle.um_c.specs.Joined.{ProgramState, ProgramStep, Calls, TakesOldestBlock}
 
 -- the struct of the endpoint with this role and SAPI in a program that has only these two endpoints of SAPI 0; `None` for SAPI 3
@@ -44,7 +43,7 @@ sabm_with_info info = record { sapi = 0; cr = command_cr Mobile; content = Sabm 
 -- the mobile can establish the link with this information, and the network answers its SABM with one frame
 pub record CanEstablishLink (info : Message) (mobile network : EndpointState) : Type 0 where
   pub same_channel : mobile.channel ≡ network.channel
-  pub allowed : EndpointSupportsCall mobile (Opens info)
+  pub allowed : IsCallAllowedForEndpoint mobile (Opens info)
   pub not_refused : refusal_of (Opens info) mobile ≡ None
   pub one_answer : length (frame_outcome (sabm_with_info info) network).frames ≡ 1
 

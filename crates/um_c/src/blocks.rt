@@ -114,7 +114,7 @@ pub extern "C" fn um_receive_block_among(
 
 /// The report on the block that was received from four bursts.
 #[inline(always)]
-fn block_report_of(
+pub(crate) fn block_report_of(
     bursts: &[[i8; BURST_BITS]; 4],
     soft: &[i8; CODED_BITS],
     received: &Received,

@@ -49,7 +49,7 @@ fn write_frames(sent_frames: &[[u8; BLOCK_OCTETS]], c_frames: &mut [[u8; BLOCK_O
     c_frames[..sent_frames.len()].copy_from_slice(sent_frames);
 }
 
-fn write_notices(reported_notices: &[Notice], notices: &mut [CNotice; 3])
+pub(crate) fn write_notices(reported_notices: &[Notice], notices: &mut [CNotice; 3])
     requires { length reported_notices.now ≤ 3 }
     ensures { notices.new ≡ map c_notice reported_notices.now ++ replicate (3 - length reported_notices.now) blank_notice }
 {
@@ -64,7 +64,7 @@ fn write_notices(reported_notices: &[Notice], notices: &mut [CNotice; 3])
     write_notice(reported_notices, 2, &mut notices[2]);
 }
 
-fn blank_notice() -> CNotice
+pub(crate) fn blank_notice() -> CNotice
     ensures { result ≡ blank_notice }
 {
     CNotice {

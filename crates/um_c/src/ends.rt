@@ -5,8 +5,9 @@
 ghost use Rattle.std.specs.Prelude.{◌≡◌, false, OnOk, IfErr, IsTrue};
 ghost use Rattle.um_air.specs.segmenting.Buffers.{octets_in_buffer};
 ghost use Rattle.um_air.specs.lapdm_window.Ends.{EndpointState};
-ghost use Rattle.lapdm_end.specs.Abstraction.{Represents, sapi_of as link_sapi};
-ghost use Rattle.um_air.specs.lapdm_window.Calls.{endpoint_call_of, IsCallAllowedForSapi, IsUiFrameCall, Opens, OpensWithoutInfo, Sends};
+ghost use Rattle.lapdm_end.specs.Abstraction.{Represents, role_of as link_role, sapi_of as link_sapi};
+ghost use Rattle.um_air.specs.lapdm_window.Calls.{endpoint_call_of, IsCallAllowedFor, IsCallAllowedForEndpoint, IsUiFrameCall, Opens};
+ghost use Rattle.um_air.specs.lapdm_window.Calls.{OpensWithoutInfo, Sends};
 ghost use Rattle.um_air.specs.lapdm_window.Calls.{SendsUi};
 ghost use Rattle.um_air.specs.lapdm_window.Calls.{Closes};
 ghost use Rattle.um_air.specs.lapdm_window.Calls.{T200Expires};
@@ -16,7 +17,6 @@ ghost use Rattle.um_c.specs.States.{c_endpoint, IsCanonicalStruct};
 ghost use Rattle.um_c.specs.Effects.{c_effects};
 ghost use Rattle.um_c.specs.EndCalls.{
   call_refusal_number,
-  EndpointSupportsCall,
   EndpointAnswersCall,
   EndpointReceivesBlock,
   IsNewEndpointResult,
@@ -32,7 +32,7 @@ pub(crate) const INVALID_ENDPOINT: u8 = 7;
 
 pub(crate) const CALL_NOT_SUPPORTED: u8 = 8;
 
-const INVALID_FRAME: u8 = 9;
+pub(crate) const INVALID_FRAME: u8 = 9;
 
 /// Writes the state of a new endpoint. Returns false, and writes nothing, if the role, SAPI or channel is invalid.
 #[unsafe(no_mangle)]
@@ -191,11 +191,11 @@ pub(crate) fn send_ui_frame(end: &CEndpoint, call: &Call<'_>, effects: &mut CEff
 /// Returns whether the endpoint supports this call: only a mobile establishes the link of SAPI 0, with information in its SABM; either side
 /// establishes that of SAPI 3, without information.
 fn endpoint_supports_call(endpoint: &Endpoint, call: &Call<'_>) -> bool
-    ensures sapi { IsTrue result → IsCallAllowedForSapi (link_sapi endpoint.now) (endpoint_call_of call.now) }
+    ensures exists { IsTrue result → IsCallAllowedFor (link_role endpoint.now) (link_sapi endpoint.now) (endpoint_call_of call.now) }
     ensures allowed { IsTrue result → (e : EndpointState) → Represents endpoint.now e
-        → EndpointSupportsCall e (endpoint_call_of call.now) }
+        → IsCallAllowedForEndpoint e (endpoint_call_of call.now) }
     ensures never { result ≡ false → (e : EndpointState) → Represents endpoint.now e
-        → EndpointSupportsCall e (endpoint_call_of call.now) → ⊥ }
+        → IsCallAllowedForEndpoint e (endpoint_call_of call.now) → ⊥ }
 {
     match *call {
         Call::Open(_) => match (endpoint.sapi(), endpoint.role()) {
@@ -255,7 +255,7 @@ fn write_call_effects(answer: Result<(), Refused>, output: &Effects, effects: &m
     }
 }
 
-fn call_refusal_number(reason: Refused) -> u8
+pub(crate) fn call_refusal_number(reason: Refused) -> u8
     ensures { result ≡ call_refusal_number reason }
 {
     match reason {

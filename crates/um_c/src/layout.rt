@@ -3,13 +3,19 @@
 
 use crate::blocks::BlockReport;
 use crate::bursts::{AccessReport, SyncReport};
+use crate::datalinks::{CDataLink, CReport, CTimedEnd};
 use crate::effects::{CEffects, CNotice};
+use crate::erasing::Erasure;
 use crate::frames::CFrame;
 use crate::margins::MarginReport;
+use crate::places::CPlace;
 use crate::repairs::RepairReport;
 use crate::sides::CSide;
+use crate::slots::SlotBlock;
 use crate::states::CEndpoint;
+use crate::times::CSch;
 use lapdm_end::MessageBuffer;
+use um_slot::{FrameTime, Slot};
 
 const CHECK_BLOCK_REPORT_SIZE: [u8; 268] = [0; size_of::<BlockReport>()];
 
@@ -31,4 +37,22 @@ const CHECK_SIDE_SIZE: [u8; 5168] = [0; size_of::<CSide>()];
 
 const CHECK_NOTICE_SIZE: [u8; 272] = [0; size_of::<CNotice>()];
 
+const CHECK_TIMED_END_SIZE: [u8; 2616] = [0; size_of::<CTimedEnd>()];
+
+const CHECK_DATALINK_SIZE: [u8; 5240] = [0; size_of::<CDataLink>()];
+
+const CHECK_REPORT_SIZE: [u8; 824] = [0; size_of::<CReport>()];
+
 const CHECK_EFFECTS_SIZE: [u8; 864] = [0; size_of::<CEffects>()];
+
+const CHECK_ERASURE_SIZE: [u8; 5] = [0; size_of::<Erasure>()];
+
+const CHECK_TIME_SIZE: [u8; 4] = [0; size_of::<FrameTime>()];
+
+const CHECK_SCH_SIZE: [u8; 8] = [0; size_of::<CSch>()];
+
+const CHECK_PLACE_SIZE: [u8; 8] = [0; size_of::<CPlace>()];
+
+const CHECK_SLOT_SIZE: [u8; 608] = [0; size_of::<Slot>()];
+
+const CHECK_SLOT_BLOCK_SIZE: [u8; 284] = [0; size_of::<SlotBlock>()];

@@ -6,17 +6,22 @@
 
 mod blocks;
 mod bursts;
+mod datalinks;
 mod effects;
 mod ends;
+mod erasing;
 mod frames;
 mod joined;
 mod layout;
 mod margins;
 mod opening;
+mod places;
 mod repairs;
 mod sides;
+mod slots;
 mod soft;
 mod states;
+mod times;
 
 pub use joined::{
     law_damaged_bursts_deliver_in_order, law_endpoints_acked_at_most_delivered,
@@ -25,3 +30,4 @@ pub use joined::{
     law_program_model_allows_other_sapi_block,
 };
 pub use opening::open_link;
+pub use states::law_equal_endpoints_have_equal_structs;

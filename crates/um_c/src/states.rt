@@ -1,14 +1,17 @@
 //! The state of an endpoint as numbers and arrays in the caller's memory. A call reads the state, changes it, and writes it back in place;
 //! only the octets in use are copied from each message.
-ghost use Rattle.std.specs.Prelude.{◌≡◌, ◌≤◌, ◌↔◌, Some, None, length, map, IsTrue, MatchOption};
+ghost use Rattle.std.specs.Prelude.{◌≡◌, ◌≤◌, ◌<◌, ◌↔◌, Some, None, false, length, map, IsTrue, MatchOption};
 ghost use Rattle.um_air.specs.segmenting.Buffers.{octets_in_buffer};
 ghost use Rattle.um_air.specs.lapdm_window.Ends.{EndpointState};
 ghost use Rattle.um_air.specs.lapdm_window.Parts.{values_of_parts as window_by};
 ghost use Rattle.lapdm_end.specs.Parts.{values_of, values_of_parts};
 ghost use Rattle.lapdm_end.specs.Abstraction.{Represents};
+ghost use Rattle.lapdm_frame.specs.Layout.{largest_n201};
+ghost use Rattle.um_air.specs.segmenting.Segments.{max_message_octets, max_segments_per_message};
 ghost use Rattle.um_c.specs.Plain.{channel_of};
 ghost use Rattle.um_c.specs.States.{role_of, sapi_of, state_of, reassembly_from_number, window_values_from, endpoint_values_from};
-ghost use Rattle.um_c.specs.States.{StructRepresents, RepresentsSomeEndpoint};
+ghost use Rattle.um_c.specs.States.{StructRepresents, RepresentsSomeEndpoint, IsCanonicalStruct};
+ghost use Rattle.um_c.specs.declared.states.CEndpoint.{CEndpoint as Struct};
 ghost use Rattle.um_c.specs.States.{role_number};
 ghost use Rattle.um_c.specs.States.{sapi_number, channel_number, state_number, reassembly_number, buffers_of_messages, c_endpoint};
 
@@ -57,11 +60,18 @@ pub struct CEndpoint {
     pub held: [MessageBuffer; 8],
 }
 
+/// Law: two structs in canonical form that represent the same endpoint are equal, octet by octet.
+pub fn law_equal_endpoints_have_equal_structs()
+    ensures { (a b : Struct) (e : EndpointState) → StructRepresents a e → StructRepresents b e → IsCanonicalStruct a
+        → IsCanonicalStruct b → a ≡ b }
+{}
+
 /// Reads the state into `end` and returns true if it represents an endpoint; otherwise returns false and leaves `end` unchanged.
 pub(crate) fn read_endpoint(c_struct: &CEndpoint, end: &mut Endpoint) -> bool
     ensures decoded { IsTrue result → endpoint_values_from c_struct.now ≡ Some (values_of end.new) }
     ensures represents { IsTrue result → (e : EndpointState) → StructRepresents c_struct.now e → Represents end.new e }
     ensures valid { IsTrue result ↔ RepresentsSomeEndpoint c_struct.now }
+    ensures refused { result ≡ false → end.new ≡ end.old }
 {
     match endpoint_view_of(c_struct) {
         Some(parts) => end.restore(&parts),
@@ -69,7 +79,7 @@ pub(crate) fn read_endpoint(c_struct: &CEndpoint, end: &mut Endpoint) -> bool
     }
 }
 
-fn endpoint_view_of(c_struct: &CEndpoint) -> Option<EndpointView<'_>>
+pub(crate) fn endpoint_view_of(c_struct: &CEndpoint) -> Option<EndpointView<'_>>
     ensures { MatchOption result (endpoint_values_from c_struct.now ≡ None)
         (λ parts. endpoint_values_from c_struct.now ≡ Some (values_of_parts parts)) }
 {
@@ -159,7 +169,17 @@ fn reassembly_from_number(number: u8) -> Option<ReassemblyState>
 pub(crate) fn write_endpoint(endpoint: &Endpoint, c_struct: &mut CEndpoint)
     ensures { c_struct.new ≡ c_endpoint (values_of endpoint.now) }
 {
-    let parts = endpoint.parts();
+    write_endpoint_view(&endpoint.parts(), c_struct);
+}
+
+/// Writes the state of an endpoint as plain data.
+pub(crate) fn write_endpoint_view(parts: &EndpointView<'_>, c_struct: &mut CEndpoint)
+    requires size { length parts.now.window.held.now ≤ 8 }
+    requires sabm_info { length parts.now.sabm_info.now ≤ largest_n201 }
+    requires place { parts.now.window.segment_index < max_segments_per_message parts.now.window.channel }
+    requires most { length parts.now.window.reassembly.now ≤ max_message_octets }
+    ensures { c_struct.new ≡ c_endpoint (values_of_parts parts.now) }
+{
     let window = parts.window;
     c_struct.done = window.acked_messages;
     c_struct.role = role_number(parts.role);

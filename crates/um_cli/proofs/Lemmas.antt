@@ -46,6 +46,7 @@ use Rattle.{
       um_block.Lemmas.{AreBits, accepted_count, clean_access, clean_block, clean_sync, sent_access_bits, sent_block_bits, sent_sync_bits},
       um_block.{Lemmas.{some_received_access, some_received_block, some_received_sync}, conv_code.Lemmas.length-coded},
       um_lines.FormLaws.no_fault_if_meant,
+      EndTurns.step_of_line,
     },
     specs.{
       EndLines.{Calls, EndCommandLineMeaning, Nothing, TakesBurst},
@@ -56,6 +57,7 @@ use Rattle.{
       um_io.Lines.{IsLine, text_of_lines},
       um_link.{Naming.spec_role_of, lapdm_link.Events.Deliver, um_air.Air.{Accepts, AirState, Answer, EventDelivers, Event, IsAirStep}},
       um_link.um_air.Air.{Refuses, with_bits_inverted},
+      EndTurns.end_rules_as_terminal_steps,
     },
   },
   um_make.proofs.Lemmas.one_generated_summary,
@@ -228,19 +230,28 @@ end_line-best s (TakesBurst soft) text after (inr (four, h)) =
     )
 end_line-best s (Calls event) text after h = h
 
-end_rules-weaker : IsWeaker end_command_rules B.end_rules_with_ml_decoding
-end_rules-weaker = record {
+pub end_rules-likely : IsWeaker end_command_rules B.end_rules_with_ml_decoding
+end_rules-likely = record {
   fault = λ s line. refl;
   end_fault = λ s. refl;
   step = λ s after line text (meaning, means, h). (meaning, means, end_line-best s meaning text after h);
 }
 
-pub end-most_likely : (begun : EndCommandState) {start : EndCommandState} → start ≡ begun →
+pub end_rules-steps : IsWeaker end_command_rules end_rules_as_terminal_steps
+end_rules-steps = record {
+  fault = λ s line. refl;
+  end_fault = λ s. refl;
+  step = λ s after line text h. step_of_line s after line text h;
+}
+
+-- a run of `end` is a run of any weaker rules
+pub end-weaker : {rules : Rules EndCommandState} → IsWeaker end_command_rules rules → (begun : EndCommandState)
+    {start : EndCommandState} → start ≡ begun →
     (Represents : EndCommandState → Type 0) (status : Status)
     (left left' taken taken' : Option (List ℕ)) → IsRun end_command_rules start Represents status left left' taken taken' →
-    IsRun B.end_rules_with_ml_decoding begun (λ last. Unit {0}) status left left' taken taken'
-end-most_likely begun same Represents status left left' taken taken' run =
-    rw same at (weaker_run end_command_rules B.end_rules_with_ml_decoding end_rules-weaker _ Represents (λ last. Unit {0})
+    IsRun rules begun (λ last. Unit {0}) status left left' taken taken'
+end-weaker {rules} weaker begun same Represents status left left' taken taken' run =
+    rw same at (weaker_run end_command_rules rules weaker _ Represents (λ last. Unit {0})
     (λ last represents. tt) status left left' taken taken' run)
 
 -- ## Restoring: `replay` recovers the information given to `code`. The proof goes line by line: each line that `code` writes is a line of

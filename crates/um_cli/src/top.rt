@@ -14,6 +14,7 @@ ghost use Rattle.um_end.specs.lapdm_frame.declared.Channel.{Channel as ChannelOf
 ghost use Rattle.um_end.specs.um_link.declared.events.End.{End as SideOf};
 ghost use Rattle.um_end.specs.um_link.Naming.{spec_role_of};
 ghost use Rattle.um_end.specs.EndRuns.{initial_end_command_state as idle_end};
+ghost use Rattle.um_end.specs.EndTurns.{end_rules_as_terminal_steps};
 
 use crate::link::run_link;
 use crate::make::run_make;
@@ -70,6 +71,11 @@ pub fn run<S: Source, K: Sink, R: Radio>(
     // and is accepted if and only if its CRC holds.
     ensures end_most_likely { (side : SideOf) (tsc : ℕ) → command_of_words words.now ≡ Some (Invocation.End side tsc) →
         IsRun end_rules_with_ml_decoding (idle_end (spec_role_of side) tsc) (λ _. Unit {0}) result
+        (S.left input.old) (S.left input.new) (K.taken output.old) (K.taken output.new) }
+
+    // Each line that `end` answers is a step of any two terminals of which this process is one, or gets no answer.
+    ensures end_steps { (side : SideOf) (tsc : ℕ) → command_of_words words.now ≡ Some (Invocation.End side tsc) →
+        IsRun end_rules_as_terminal_steps (idle_end (spec_role_of side) tsc) (λ _. Unit {0}) result
         (S.left input.old) (S.left input.new) (K.taken output.old) (K.taken output.new) }
 
     // `replay` recovers the information given to `code` from the output of `code`.

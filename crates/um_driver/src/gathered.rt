@@ -1,5 +1,5 @@
 //! An output buffer, which collects several answers so that one call can write them.
-ghost use Rattle.std.specs.Prelude.{◌≡◌, ◌≤◌, ◌+◌, [], ◌++◌, length, OnOk, false, IsTrue};
+ghost use Rattle.std.specs.Prelude.{◌≡◌, ◌≤◌, ◌+◌, [], ◌++◌, length, nat_le, OnOk, false, IsTrue};
 ghost use Rattle.um_driver.specs.Writing.{SinkTakesTextIfOk, BuffersUnwrittenText, BuffersTextIfOk, CountsWriteFailure};
 
 use crate::writing::put_all;
@@ -39,7 +39,7 @@ impl OutputBuffer {
 
     fn has_room(&self, count: usize) -> bool
         requires { count ≤ 4096 }
-        ensures { IsTrue result → length self.now + count ≤ 16384 }
+        ensures { result ≡ nat_le (length self.now + count) 16384 }
     {
         self.length + count <= BUFFER_SIZE
     }

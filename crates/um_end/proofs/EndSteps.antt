@@ -164,39 +164,41 @@ end_is_determined s line y y' b b' (m, means, answer) (m', means', answer') =
 
 -- ---- at least one answer
 
--- the endpoint is valid, has this SAPI, is on SDCCH, and its SABM information and its messages consist of octets
-record IsFit (sapi : Sapi) (e : EndpointState) : Type 0 where
+-- the endpoint is valid, has this role and SAPI, is on SDCCH, and its SABM information and its messages consist of octets
+record IsFit (role : Role) (sapi : Sapi) (e : EndpointState) : Type 0 where
   pub valid : IsValidEndpoint e
+  pub role_matches : e.role ≡ role
   pub sapi_matches : e.sapi ≡ sapi
   pub channel : e.channel ≡ Sdcch
   pub octets : EndOctets e
 
-record AreFit (a : SideState) : Type 0 where
-  pub link0 : IsFit Zero a.link0
-  pub link3 : IsFit Three a.link3
+record AreFit (role : Role) (a : SideState) : Type 0 where
+  pub link0 : IsFit role Zero a.link0
+  pub link3 : IsFit role Three a.link3
 
-AreFit-endpoint : (sapi : Sapi) (a : SideState) → AreFit a → IsFit sapi (endpoint_with_sapi sapi a)
+AreFit-endpoint : {role : Role} (sapi : Sapi) (a : SideState) → AreFit role a → IsFit role sapi (endpoint_with_sapi sapi a)
 AreFit-endpoint sapi a h = grind arith
 
-AreFit-with : (sapi : Sapi) (e : EndpointState) (a : SideState) → AreFit a → IsFit sapi e →
-    AreFit (with_sapi_endpoint_replaced sapi e a)
+AreFit-with : {role : Role} (sapi : Sapi) (e : EndpointState) (a : SideState) → AreFit role a → IsFit role sapi e →
+    AreFit role (with_sapi_endpoint_replaced sapi e a)
 AreFit-with Zero e a h fit = record { link0 = fit; link3 = h.link3 }
 AreFit-with Three e a h fit = record { link0 = h.link0; link3 = fit }
 
 -- after the step `d`, both endpoints satisfy `IsFit`, and the frames sent fit in a block and consist of octets
-record IsFitSideStep (d : SideStep) : Type 0 where
-  pub new_state_fits : AreFit d.new_state
+record IsFitSideStep (role : Role) (d : SideStep) : Type 0 where
+  pub new_state_fits : AreFit role d.new_state
   pub frames : All (FrameFits Sdcch) d.frames
   pub said : AllSay d.frames
 
-IsFitSideStep-outcome : (sapi : Sapi) (o : Outcome) (a : SideState) → AreFit a → Keeps (endpoint_with_sapi sapi a) o →
-    OutcomeOctets o →
-    IsFitSideStep (endpoint_step sapi o a)
+IsFitSideStep-outcome : {role : Role} (sapi : Sapi) (o : Outcome) (a : SideState) → AreFit role a →
+    Keeps (endpoint_with_sapi sapi a) o → OutcomeOctets o →
+    IsFitSideStep role (endpoint_step sapi o a)
 IsFitSideStep-outcome sapi o a h keeps octets =
     let fit = AreFit-endpoint sapi a h in
     record {
       new_state_fits = AreFit-with sapi o.new_state a h (record {
         valid = keeps.valid;
+        role_matches = keeps.role ∙ fit.role_matches;
         sapi_matches = keeps.sapi ∙ fit.sapi_matches;
         channel = keeps.channel ∙ fit.channel;
         octets = octets.end_octets;
@@ -205,28 +207,28 @@ IsFitSideStep-outcome sapi o a h keeps octets =
       said = octets.frames;
     }
 
-fit_call : (sapi : Sapi) (call : Call) (a : SideState) → CallOctets call → IsCallAllowedForEndpoint (endpoint_with_sapi sapi a) call →
-    AreFit a →
-    refusal_of call (endpoint_with_sapi sapi a) ≡ None → IsFitSideStep (layer3_call_step sapi call a)
+fit_call : {role : Role} (sapi : Sapi) (call : Call) (a : SideState) → CallOctets call →
+    IsCallAllowedForEndpoint (endpoint_with_sapi sapi a) call → AreFit role a →
+    refusal_of call (endpoint_with_sapi sapi a) ≡ None → IsFitSideStep role (layer3_call_step sapi call a)
 fit_call sapi call a octets has h ok =
     let fit = AreFit-endpoint sapi a h in
     IsFitSideStep-outcome sapi _ a h (keeps-call call _ fit.valid has ok) (call-octets call _ octets ok fit.valid.window fit.octets)
 
-fit_frame : (sapi : Sapi) (f : Frame) (a : SideState) → FrameFits Sdcch f → AreOctets (information f.content) → AreFit a →
-    IsFitSideStep (endpoint_step sapi (frame_outcome f (endpoint_with_sapi sapi a)) a)
+fit_frame : {role : Role} (sapi : Sapi) (f : Frame) (a : SideState) → FrameFits Sdcch f → AreOctets (information f.content) →
+    AreFit role a → IsFitSideStep role (endpoint_step sapi (frame_outcome f (endpoint_with_sapi sapi a)) a)
 fit_frame sapi f a fits octets h =
     let fit = AreFit-endpoint sapi a h in
     IsFitSideStep-outcome sapi _ a h (keeps-frame f _ fit.valid (rw fit.channel fits)) (frame-octets f _ octets fit.valid.window fit.octets)
 
-fit_nothing : (a : SideState) → AreFit a → IsFitSideStep (no_op_step a)
+fit_nothing : {role : Role} (a : SideState) → AreFit role a → IsFitSideStep role (no_op_step a)
 fit_nothing a h = record { new_state_fits = h; frames = All-nil (FrameFits Sdcch); said = All-nil SaysOctets }
 
-fit_read : (a : SideState) (accepted : Option Octets) (read : Option Frame) → IfSome accepted AreOctets →
-    ReadsFrame Sdcch accepted read → AreFit a → IsFitSideStep (step_for_read_frame read a)
+fit_read : {role : Role} (a : SideState) (accepted : Option Octets) (read : Option Frame) → IfSome accepted AreOctets →
+    ReadsFrame Sdcch accepted read → AreFit role a → IsFitSideStep role (step_for_read_frame read a)
 fit_read a accepted None octets reads h = fit_nothing a h
-fit_read a accepted (Some f) octets reads h =
+fit_read {role} a accepted (Some f) octets reads h =
     let well = reads-well Sdcch accepted f octets reads in
-    by_sapi f a IsFitSideStep (λ e. fit_frame Zero f a well.0 well.1 h) (λ e. fit_frame Three f a well.0 well.1 h)
+    by_sapi f a (IsFitSideStep role) (λ e. fit_frame Zero f a well.0 well.1 h) (λ e. fit_frame Three f a well.0 well.1 h)
     (λ e g. fit_nothing a h)
 
 -- frames that fit in a block and consist of octets have coded blocks
@@ -240,7 +242,7 @@ coded-exists tsc (f ∷ fs) known h said =
     let bs = coded-exists tsc fs known (All-tail (FrameFits Sdcch) f fs h) (All-tail SaysOctets f fs said) in
     (b.0 ∷ bs.0, (b.1, bs.1))
 
-text-exists : (tsc : ℕ) (role : Role) (received : Option Received) (d : SideStep) → tsc ≤ 7 → IsFitSideStep d →
+text-exists : (tsc : ℕ) (role : Role) (received : Option Received) (d : SideStep) → tsc ≤ 7 → IsFitSideStep role d →
     (y : List ℕ) × IsAnswerText tsc (Accepts (terminal_step_of role received d)) y
 text-exists tsc role received d known h =
     let bs = coded-exists tsc d.frames known h.frames h.said in (
@@ -256,7 +258,7 @@ Whole burst = length burst ≡ 148
 record Invariant (role : Role) (tsc : ℕ) (s : EndCommandState) : Type 0 where
   pub role_is : s.role ≡ role
   pub tsc_is : s.tsc ≡ tsc
-  pub links : AreFit s.links
+  pub links : AreFit s.role s.links
   pub at_most_3 : length s.held_bursts ≤ 3
   pub each : All Whole s.held_bursts
 
@@ -271,7 +273,7 @@ record SomeAnswer (s : EndCommandState) (Answers : SideState → Answer → Type
 
 call-answered : (s : EndCommandState) (sapi : Sapi) (call : Call) (o : Option Refused) →
     refusal_of call (endpoint_with_sapi sapi s.links) ≡ o →
-    s.tsc ≤ 7 → CallOctets call → IsCallAllowedForEndpoint (endpoint_with_sapi sapi s.links) call → AreFit s.links →
+    s.tsc ≤ 7 → CallOctets call → IsCallAllowedForEndpoint (endpoint_with_sapi sapi s.links) call → AreFit s.role s.links →
     SomeAnswer s (EndpointAnswersCall s.role s.links sapi call)
 call-answered s sapi call (Some why) is known octets has h = record {
   links = s.links;
@@ -301,8 +303,9 @@ request-of_endpoint : (e : EndpointState) (request : Request) → IsCallAllowedF
 request-of_endpoint e request = grind arith
 
 asking-exists : (s : EndCommandState) (event : Event) → IsCallOfRole s.role event × EventMessageIsOctets event → s.tsc ≤ 7 →
-    AreFit s.links → SomeAnswer s (SideAnswersCall s.role s.links event)
-asking-exists s (Open info) own known h = call-answered s Zero (Opens info) _ refl known own.1 h.link0.sapi_matches h
+    AreFit s.role s.links → SomeAnswer s (SideAnswersCall s.role s.links event)
+asking-exists s (Open info) own known h = call-answered s Zero (Opens info) _ refl known own.1
+    (h.link0.sapi_matches, h.link0.role_matches ∙ own.0) h
 asking-exists s (OpenBare other) own known h = call-answered s Three OpensWithoutInfo _ refl known tt h.link3.sapi_matches h
 asking-exists s (Ask other sapi request) own known h =
     call-answered s sapi (endpoint_call_of request) _ refl known (request_octets other sapi request own.1)
@@ -312,12 +315,12 @@ asking-exists s event own known h = absurd own.0
 -- ---- at least one answer to bursts
 
 arrival-exists : (s : EndCommandState) (bursts : List (List ℤ)) → length bursts ≡ 4 → All Whole bursts →
-    s.tsc ≤ 7 → AreFit s.links → (y : List ℕ) × (after : EndCommandState) × IsAnswerToFourBursts s bursts y after
+    s.tsc ≤ 7 → AreFit s.role s.links → (y : List ℕ) × (after : EndCommandState) × IsAnswerToFourBursts s bursts y after
 arrival-exists s bursts four each known h =
     let report = some_received_block bursts four each in
     let read = some_reading Sdcch report.0.accepted (accepted_count bursts report.0 report.1) in
     let d : SideStep = step_for_read_frame read.0 s.links in
-    let fit : IsFitSideStep d = fit_read s.links report.0.accepted read.0 (accepted_octets bursts report.0 report.1) read.1 h in
+    let fit : IsFitSideStep s.role d = fit_read s.links report.0.accepted read.0 (accepted_octets bursts report.0 report.1) read.1 h in
     let text = text-exists s.tsc s.role (Some report.0) d known fit in (
       text.0,
       record s { links = d.new_state; held_bursts = [] },
@@ -368,9 +371,10 @@ meaning-exists role tsc s line (Calls event) known k means =
 
 -- ---- every run can be continued
 
-IsFit-initial : (role : Role) (sapi : Sapi) → IsFit sapi (initial_endpoint role sapi Sdcch)
+IsFit-initial : (role : Role) (sapi : Sapi) → IsFit role sapi (initial_endpoint role sapi Sdcch)
 IsFit-initial role sapi = record {
   valid = IsValidEndpoint-initial role sapi Sdcch;
+  role_matches = refl;
   sapi_matches = refl;
   channel = refl;
   octets = record { sabm_info = All-nil (λ octet. octet < 256); messages = All-nil AreOctets };
@@ -386,7 +390,8 @@ invariant-start role tsc = record {
 }
 
 AreFit-call : (role : Role) (a : SideState) (sapi : Sapi) (call : Call) (b : SideState) (answer : Answer) → CallOctets call →
-    IsCallAllowedForEndpoint (endpoint_with_sapi sapi a) call → AreFit a → EndpointAnswersCall role a sapi call b answer → AreFit b
+    IsCallAllowedForEndpoint (endpoint_with_sapi sapi a) call → AreFit role a →
+    EndpointAnswersCall role a sapi call b answer → AreFit role b
 AreFit-call role a sapi call b (Refuses why) octets has h asked_call = rw asked_call.1 h
 AreFit-call role a sapi call b (Accepts step) octets has h asked_call =
     rw asked_call.1 (fit_call sapi call a octets has h
@@ -395,17 +400,16 @@ AreFit-call role a sapi call b (Accepts step) octets has h asked_call =
     not_because : (o : Option Refused) → as_event_refusal o ≡ None → o ≡ None
     not_because o e = grind arith
 
-AreFit-event : (role : Role) (a : SideState) (event : Event) (b : SideState) (answer : Answer) → EventMessageIsOctets event →
-    AreFit a →
-    SideAnswersCall role a event b answer → AreFit b
-AreFit-event role a (Open info) b answer octets h asked_call =
-    AreFit-call role a Zero (Opens info) b answer octets h.link0.sapi_matches h asked_call
-AreFit-event role a (OpenBare other) b answer octets h asked_call =
+AreFit-event : (role : Role) (a : SideState) (event : Event) (b : SideState) (answer : Answer) →
+    IsCallOfRole role event × EventMessageIsOctets event → AreFit role a → SideAnswersCall role a event b answer → AreFit role b
+AreFit-event role a (Open info) b answer own h asked_call =
+    AreFit-call role a Zero (Opens info) b answer own.1 (h.link0.sapi_matches, h.link0.role_matches ∙ own.0) h asked_call
+AreFit-event role a (OpenBare other) b answer own h asked_call =
     AreFit-call role a Three OpensWithoutInfo b answer tt h.link3.sapi_matches h asked_call
-AreFit-event role a (Ask other sapi request) b answer octets h asked_call =
-    AreFit-call role a sapi (endpoint_call_of request) b answer (request_octets other sapi request octets)
+AreFit-event role a (Ask other sapi request) b answer own h asked_call =
+    AreFit-call role a sapi (endpoint_call_of request) b answer (request_octets other sapi request own.1)
     (request-of_endpoint (endpoint_with_sapi sapi a) request) h asked_call
-AreFit-event role a event b answer octets h asked_call = absurd asked_call
+AreFit-event role a event b answer own h asked_call = absurd asked_call
 
 module _ (role : Role) (tsc : ℕ) where
   Invariant-bursts : (s b : EndCommandState) (soft : List ℤ) (y : List ℕ) → Invariant role tsc s → length soft ≡ 148 →
@@ -419,7 +423,7 @@ module _ (role : Role) (tsc : ℕ) where
   })
   Invariant-bursts s b soft y k count (inr (four, h)) =
       let heard = h.receives_bursts in
-      let fit : AreFit h.links = rw heard.new_state_is (fit_read s.links heard.report.accepted heard.frame
+      let fit : AreFit s.role h.links = rw heard.new_state_is (fit_read s.links heard.report.accepted heard.frame
       (accepted_octets _ heard.report heard.received) heard.reads k.links).new_state_fits in
       rw h.after_is (record { role_is = k.role_is; tsc_is = k.tsc_is; links = fit; at_most_3 = omega arith; each = All-nil Whole })
 
@@ -431,7 +435,7 @@ module _ (role : Role) (tsc : ℕ) where
   Invariant-step s b line y k (Calls event, means, h) = rw h.after_is (record {
     role_is = k.role_is;
     tsc_is = k.tsc_is;
-    links = AreFit-event s.role s.links event h.links h.answer (line-possible s.role _ line (Calls event) means).1 k.links h.answers_call;
+    links = AreFit-event s.role s.links event h.links h.answer (line-possible s.role _ line (Calls event) means) k.links h.answers_call;
     at_most_3 = k.at_most_3;
     each = k.each;
   })

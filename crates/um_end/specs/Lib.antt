@@ -11,3 +11,4 @@ pub mod EndLines
 pub mod EndRuns
 pub mod Commands
 pub mod TwoTerminals
+pub mod EndTurns

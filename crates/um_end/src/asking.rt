@@ -1,7 +1,9 @@
 //! Converts events into endpoint calls.
 ghost use Rattle.std.specs.Prelude.{◌≡◌};
-ghost use Rattle.um_link.specs.lapdm_window.Calls.{endpoint_call_of, IsCallAllowedForSapi};
+ghost use Rattle.um_link.specs.lapdm_window.Calls.{endpoint_call_of, IsCallAllowedFor};
+ghost use Rattle.um_link.specs.lapdm_window.Ends.{Role};
 ghost use Rattle.um_link.specs.Naming.{spec_event_of};
+ghost use Rattle.um_end.specs.Terminals.{IsCallOfRole};
 ghost use Rattle.um_end.specs.CallEvents.{IsCallEvent, sapi_of_call_event, endpoint_call_in_event};
 
 use lapdm_end::{Call, Sapi};
@@ -24,7 +26,8 @@ pub(crate) fn sapi_of_event(event: &Event<'_>) -> Sapi
 pub(crate) fn endpoint_call_of_event<'a>(event: &Event<'a>) -> Call<'a>
     requires call { IsCallEvent (spec_event_of event.now) }
     ensures asked_call { endpoint_call_of result ≡ endpoint_call_in_event (spec_event_of event.now) }
-    ensures sapi { IsCallAllowedForSapi (sapi_of_call_event (spec_event_of event.now)) (endpoint_call_of result) }
+    ensures allowed { (role : Role) → IsCallOfRole role (spec_event_of event.now)
+        → IsCallAllowedFor role (sapi_of_call_event (spec_event_of event.now)) (endpoint_call_of result) }
 {
     match *event {
         Event::Open(info) => Call::Open(info),

@@ -5,7 +5,7 @@ ghost use Rattle.um_link.specs.bit_blocks.Bits.{AllBits};
 ghost use Rattle.um_link.specs.um_block.conv_code.Likelihood.{AllSoftBits};
 ghost use Rattle.um_link.specs.um_block.Sent.{IsSentBlock};
 ghost use Rattle.um_link.specs.lapdm_frame.declared.Channel.TheVariants.{Sdcch};
-ghost use Rattle.lapdm_end.specs.Sides.{channel_of};
+ghost use Rattle.lapdm_end.specs.Sides.{channel_of, role_of};
 ghost use Rattle.um_link.specs.lapdm_link.Events as E;
 ghost use Rattle.um_link.specs.Naming.{spec_role_of, spec_event_of, spec_who_of, spec_step_of, result_with_step};
 ghost use Rattle.um_link.specs.um_block.declared.received.Received.{Received};
@@ -24,6 +24,7 @@ pub struct Terminal {
     tsc: u8,
     links: Side,
     ghost valid_tsc: { tsc ≤ 7 },
+    ghost role: { role_of links ≡ spec_role_of side },
     ghost channel: { channel_of links ≡ Sdcch },
 }
 

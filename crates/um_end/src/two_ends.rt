@@ -1,7 +1,9 @@
 //! Laws of two processes of `um end` that receive each other's bursts. The body of a law is empty: call it to use its contract in a proof.
-ghost use Rattle.std.specs.Prelude.{List};
+ghost use Rattle.std.specs.Prelude.{ℕ, List};
 ghost use Rattle.um_link.specs.lapdm_link.Claims.{Claims, HasNoticesInOrder, AckedAtMostDelivered};
 ghost use Rattle.um_end.specs.TwoTerminals.{TerminalStep, idle_terminals, AreStepsFrom, DeliversOldestBlock, AnyStepAllowed, session_log};
+ghost use Rattle.um_end.specs.EndRuns.{EndCommandState, AnswersEndCommandLine};
+ghost use Rattle.um_end.specs.EndTurns.{AnswersLineByStep};
 
 /// If the bursts of each block reach the other side in order and with at most light damage, or are lost as a whole, messages are delivered
 /// in order and before they are acknowledged (`Claims`), and no endpoint has more messages acknowledged than its peer has delivered.
@@ -13,4 +15,11 @@ pub fn law_two_terminals_deliver_in_order()
         AckedAtMostDelivered (session_log turns) }
     ensures order { (turns : List TerminalStep) → AreStepsFrom AnyStepAllowed idle_terminals turns
         → HasNoticesInOrder (session_log turns) }
+{}
+
+/// Law: each line that a process answers leaves its endpoints as they are and gets no answer, or it is a step of any two terminals of which
+/// the process is one: the call of the line, or the reception of the four bursts that it completes.
+pub fn law_end_command_lines_are_terminal_steps()
+    ensures { (s after : EndCommandState) (line text : List ℕ) → AnswersEndCommandLine s line text after
+        → AnswersLineByStep s line text after }
 {}

@@ -25,7 +25,7 @@ use Rattle.{
     Abstraction.{IsLayer3CallTo, IsValidWorld, Represents, StepRefines, queued_blocks},
     BlockTaking.TakingFrameRefines,
     Coded.{AppendsBlocks, AreCodedBlocks},
-    FourEndpoints.{HasEffects, IsOnChannel, Represents as EndsRepresent, channel_of_ends},
+    FourEndpoints.{HasEffects, AreSidesOn, Represents as EndsRepresent, channel_of_ends},
     Moves.{AppendsToQueue, DiffersOnlyInQueue, LosesOldestBlockFrom, ReceivesOldestBlockFrom},
     Queues.IsValidQueue,
     declared.{ends.BothSides.BothSides, events.Step.Step, links.WorldState.WorldState},
@@ -72,7 +72,7 @@ module _ (old : BothSides) (event_step : D.SideState → D.SideStep) (sapi : Sap
         let h = follows es.mobile st.mobile in
         rw is (record { mobile = h.represents; network = st.network }, record { frames = h.frames; notices = h.notices })
 
-    pub network-step : (role : Role) → role ≡ Network → IsOnChannel (channel_of_ends old) old →
+    pub network-step : (role : Role) → role ≡ Network → AreSidesOn (channel_of_ends old) old →
         S.StepRefines event_step old.network sapi effects m → RepresentsStep (record old { network = m }) effects (channel_of_ends old)
         (E.step_with_peer_unchanged role (event_step (E.side_with_role role es)) es)
     network-step role is on follows =

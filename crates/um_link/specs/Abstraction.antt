@@ -32,7 +32,7 @@ pub record Represents (w : WorldState) (a : AirState) : Type 0 where
 pub record IsValidWorld (w : WorldState) : Type 0 where
   pub tsc : w.tsc ≤ 7
   pub channel : w.channel ≡ F.channel_of_ends w.ends
-  pub ends : F.IsOnChannel (F.channel_of_ends w.ends) w.ends
+  pub ends : F.AreSidesOn (F.channel_of_ends w.ends) w.ends
   pub up : IsValidQueue w.up
   pub down : IsValidQueue w.down
 

@@ -4,6 +4,7 @@ use Rattle.lapdm_frame.specs.declared.Channel.{Channel}
 use Rattle.lapdm_frame.specs.Frames.{octets_of}
 use Rattle.um_air.specs.lapdm_window.declared.effects.Effects.{Effects}
 use Rattle.lapdm_end.specs.Sides as S
+use Rattle.um_air.specs.lapdm_window.Ends.{Mobile, Network}
 use Rattle.um_air.specs.lapdm_link.Events as E
 use Rattle.um_link.specs.declared.ends.BothSides.{BothSides}
 
@@ -12,8 +13,10 @@ pub record Represents (p : BothSides) (es : E.BothSides) : Type 0 where
   pub mobile : S.Represents p.mobile es.mobile
   pub network : S.Represents p.network es.network
 
--- both sides use this channel
-pub record IsOnChannel (channel : Channel) (p : BothSides) : Type 0 where
+-- `p` has a side of the mobile and one of the network, both on this channel
+pub record AreSidesOn (channel : Channel) (p : BothSides) : Type 0 where
+  pub mobile_role : S.role_of p.mobile ≡ Mobile
+  pub network_role : S.role_of p.network ≡ Network
   pub mobile : S.channel_of p.mobile ≡ channel
   pub network : S.channel_of p.network ≡ channel
 

@@ -3,7 +3,8 @@
 ghost use Rattle.std.specs.Prelude.{◌≡◌, None, []};
 ghost use Rattle.um_air.specs.lapdm_window.declared.Sapi.TheVariants as S;
 ghost use Rattle.um_air.specs.lapdm_window.declared.Sapi.{Sapi as AnySapi};
-ghost use Rattle.um_air.specs.lapdm_window.Calls.{endpoint_call_of, IsCallAllowedForSapi};
+ghost use Rattle.um_air.specs.lapdm_window.Ends.{Role as AnyRole};
+ghost use Rattle.um_air.specs.lapdm_window.Calls.{endpoint_call_of, IsCallAllowedFor};
 ghost use Rattle.um_air.specs.lapdm_link.Events as E;
 ghost use Rattle.um_link.specs.Naming.{spec_request_of};
 
@@ -43,7 +44,7 @@ impl<'a> Call<'a> {
     /// Converts this call into a call to a single endpoint (`lapdm_end::Call`).
     pub fn as_endpoint_call(self) -> EndCall<'a>
         ensures same { endpoint_call_of result ≡ E.endpoint_call_of (spec_request_of self.entry) }
-        ensures any { (sapi : AnySapi) → IsCallAllowedForSapi sapi (endpoint_call_of result) }
+        ensures any { (role : AnyRole) (sapi : AnySapi) → IsCallAllowedFor role sapi (endpoint_call_of result) }
     {
         match self {
             Call::Send(message) => EndCall::Send(message),

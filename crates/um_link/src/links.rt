@@ -8,7 +8,7 @@ ghost use Rattle.um_air.specs.lapdm_link.Events as E;
 ghost use Rattle.um_air.specs.Air as A;
 ghost use Rattle.um_air.specs.Air.{initial_session};
 ghost use Rattle.um_link.specs.Naming.{spec_role_of, spec_radio_path_event, spec_event_of, spec_step_of, result_with_step};
-ghost use Rattle.um_air.specs.lapdm_window.Calls.{endpoint_call_of, IsCallAllowedForSapi};
+ghost use Rattle.um_air.specs.lapdm_window.Calls.{endpoint_call_of, IsCallAllowedFor};
 ghost use Rattle.um_link.specs.Possible.{IsPossibleEvent, IsPossibleAirEvent};
 ghost use Rattle.um_block.specs.Tallies.{counter_plus_one, counter_plus};
 ghost use Rattle.um_link.specs.Queues.{AreBitIndices};
@@ -164,7 +164,7 @@ impl WorldState {
         step: &mut Step,
     ) -> Result<(), No>
         requires valid { IsValidWorld self.old }
-        requires call { IsCallAllowedForSapi sapi (endpoint_call_of call.now) }
+        requires call { IsCallAllowedFor (spec_role_of end) sapi (endpoint_call_of call.now) }
         ensures refines { (event : A.Event) → IsLayer3CallTo event (spec_role_of end) sapi (endpoint_call_of call.now)
             → StepRefines event self.old (result_with_step result step.new) self.new }
         ensures valid { IsValidWorld self.new }

@@ -1,6 +1,6 @@
 //! Reads the frame from an arriving block, and passes it to a side.
 ghost use Rattle.std.specs.Prelude.{◌≡◌};
-ghost use Rattle.um_link.specs.FourEndpoints.{IsOnChannel, channel_of_ends};
+ghost use Rattle.um_link.specs.FourEndpoints.{AreSidesOn, channel_of_ends};
 ghost use Rattle.um_link.specs.Naming.{spec_role_of};
 ghost use Rattle.um_link.specs.BlockTaking.{TakingFrameRefines, accepted_octets};
 
@@ -19,10 +19,10 @@ pub(crate) fn take_received_block(
     received: &Option<Received>,
     effects: &mut Effects,
 ) -> Sapi
-    requires on { IsOnChannel (channel_of_ends ends.old) ends.old }
+    requires on { AreSidesOn (channel_of_ends ends.old) ends.old }
     requires channel { channel ≡ channel_of_ends ends.old }
     ensures takes { TakingFrameRefines (spec_role_of end) channel (accepted_octets received.now) ends.old result effects.new ends.new }
-    ensures on { IsOnChannel (channel_of_ends ends.old) ends.new }
+    ensures on { AreSidesOn (channel_of_ends ends.old) ends.new }
 {
     let Some(report) = received else {
         effects.clear();

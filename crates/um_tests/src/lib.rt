@@ -18,6 +18,8 @@ mod driver;
 #[cfg(test)]
 mod end;
 #[cfg(test)]
+mod erasures;
+#[cfg(test)]
 mod error_bursts;
 #[cfg(test)]
 mod error_texts;
@@ -63,6 +65,10 @@ mod segments;
 mod show;
 #[cfg(test)]
 mod streams;
+#[cfg(test)]
+mod tdma_frames;
+#[cfg(test)]
+mod time_slots;
 #[cfg(test)]
 mod training_sequences;
 #[cfg(test)]

@@ -621,7 +621,7 @@ module _ (x : EndpointState) (w : HasWindowOfOne x) where
 
   -- the step in which an endpoint repeats a frame at T200 expiry satisfies `StepFacts`
   IsCalled-retransmits : (s : State) → x.state ≡ s → awaits_answer_in_state s (awaits_ack x) ≡ true →
-      IsCalled x T200Expires (sends_frame (frame_to_retransmit s x) (record x { retries = x.retries + 1 }))
+      IsCalled x T200Expires (sends_frame (awaited_frame true s x) (record x { retries = x.retries + 1 }))
   IsCalled-retransmits S.Opening e due =
       plain_step _ _ x w _ _ _ _ [] (inl refl, (tt, (e, refl)), tt) refl (remains refl refl refl) (inl refl) refl refl
   IsCalled-retransmits S.Closing e due =
@@ -630,11 +630,22 @@ module _ (x : EndpointState) (w : HasWindowOfOne x) where
       step_in_open _ _ x x.messages _ (in-repeats _ _ x w due) (λ y out comes h. h) (sym (append-nil _)) refl refl
   IsCalled-retransmits s e due = absurd (false≢true due)
 
+  -- so does the step in which it repeats the frame without counting it
+  IsCalled-repeats : (s : State) → x.state ≡ s → awaits_answer_in_state s (awaits_ack x) ≡ true →
+      IsCalled x Repeats (sends_frame (awaited_frame false s x) x)
+  IsCalled-repeats S.Opening e due =
+      plain_step _ _ x w _ _ _ _ [] (inl refl, (tt, (e, refl)), tt) refl (remains refl refl refl) (inl refl) refl refl
+  IsCalled-repeats S.Closing e due =
+      plain_step _ _ x w _ _ _ _ [] (inl refl, (tt, refl), tt) refl (remains refl refl refl) (inl refl) refl refl
+  IsCalled-repeats S.Open e due =
+      step_in_open _ _ x x.messages _ (in-repeats _ x.retries x w due) (λ y out comes h. h) (sym (append-nil _)) refl refl
+  IsCalled-repeats s e due = absurd (false≢true due)
+
   live : (s : State) → awaits_answer_in_state s (awaits_ack x) ≡ true → stage_of s ≤ 2
   live s h = grind arith
 
   t200_expiry : (b : Bool) → awaits_answer_in_state x.state (awaits_ack x) ≡ true → IsCalled x T200Expires
-      (if b then sends_frame (frame_to_retransmit x.state x) (record x { retries = x.retries + 1 }) else closes_and_reports R.Failed x)
+      (if b then sends_frame (awaited_frame true x.state x) (record x { retries = x.retries + 1 }) else closes_and_reports R.Failed x)
   t200_expiry true due = IsCalled-retransmits _ refl due
   t200_expiry false due = plain_step _ _ x w _ _ _ [] _ tt (live _ due, refl) (ends refl refl refl) (inl refl) refl refl
 
@@ -662,6 +673,7 @@ module _ (x : EndpointState) (w : HasWindowOfOne x) where
       let is_now = is_open-is _ (not_false _ (passes _ _ [] ok).not_refused) in
       plain_step _ _ x w _ _ 0 _ [] (inl refl, (tt, refl), tt) (rw is_now refl) (closes is_now refl refl refl) (inl refl) refl refl
   is_called T200Expires ok = t200_expiry (nat_lt x.retries (n200 x.channel x.state)) (not_false _ (passes _ _ [] ok).not_refused)
+  is_called Repeats ok = IsCalled-repeats _ refl (not_false _ (passes _ _ [] ok).not_refused)
   is_called SendsFillFrame ok = plain_step _ _ x w _ _ _ _ [] (inr refl, (tt, inr (refl, refl)), tt) refl
       (remains refl refl refl) (inl refl) refl refl
 

@@ -57,6 +57,9 @@ impl LapdmWindowView<'_> {
         if self.va > 7 || self.vr > 7 {
             return false;
         }
+        if self.vs == self.va && self.retries != 0 {
+            return false;
+        }
         done != 0 || usize::from(self.va) == self.segment_index % 8
     }
 }

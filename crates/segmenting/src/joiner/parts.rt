@@ -1,7 +1,7 @@
 //! Exports the state of a joiner as plain data, and restores a joiner from it.
 
 ghost use Rattle.std.specs.Prelude.{◌≡◌, ◌↔◌, ◌≤◌, false, List, [], length, IsTrue};
-ghost use Rattle.segmenting.specs.Joiners.{HasTakenSegments};
+ghost use Rattle.segmenting.specs.Joiners.{HasTakenSegments, IsPossiblePart};
 ghost use Rattle.segmenting.specs.Segments.{Segment, max_message_octets};
 ghost use Rattle.segmenting.specs.Parts.{values_of, SomeJoinerHasValues};
 
@@ -35,7 +35,7 @@ impl Joiner {
         // At least one list of segments leads a joiner to this state.
         ensures taken { IsTrue result → (taken : List Segment) × HasTakenSegments self.new taken }
     {
-        if octets.len() > LONGEST_MESSAGE || !is_empty_if_discarding(octets, part) {
+        if octets.len() > LONGEST_MESSAGE || !is_possible_part(part, octets) {
             return false;
         }
         let len = octets.len();
@@ -47,12 +47,13 @@ impl Joiner {
     }
 }
 
-// Returns whether a joiner in this state may hold these octets: while it discards an oversize message, it holds none.
-fn is_empty_if_discarding(octets: &[u8], reassembly: ReassemblyState) -> bool
-    ensures { IsTrue result ↔ (reassembly ≡ ReassemblyState.Discarding → octets.now ≡ []) }
+// Returns whether a joiner can hold these octets as this part of a message.
+fn is_possible_part(part: ReassemblyState, octets: &[u8]) -> bool
+    ensures { IsTrue result ↔ IsPossiblePart part octets.now }
 {
-    match reassembly {
+    match part {
+        ReassemblyState::Open => true,
+        ReassemblyState::Whole => !octets.is_empty(),
         ReassemblyState::Discarding => octets.is_empty(),
-        ReassemblyState::Open | ReassemblyState::Whole => true,
     }
 }

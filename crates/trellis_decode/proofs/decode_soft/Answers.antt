@@ -11,8 +11,8 @@ use Rattle.{
     proofs.{
       Viterbi.{IsMostLikely-best, likelihood-best, IsSurvivor-same},
       SurvivorLists.{traced_survivor, traced_survivor-bits, traced_survivor-state, last_state-bits},
+      decode_soft.Goals.After-metric_of_state_0,
     },
-    proofs.decode_soft.Goals.After-metric_of_state_0,
   },
 }
 use Rattle.trellis_decode.proofs.decode_soft.Goals as goal

@@ -26,16 +26,13 @@ fn line_of(octets: &[u8; 23], channel: Channel) -> Result<String, NoFrame> {
     let read = um::read_frame(octets, channel)?;
     let frame = read.view();
     let no_info: &[u8] = &[];
-    let (kind, pf, ns, nr, more, info) = match frame.body {
-        Body::I { ns, nr, p, more, info } => ("i", p, ns, nr, more, info),
-        Body::Rr { nr, pf } => ("rr", pf, 0, nr, false, no_info),
-        Body::Rnr { nr, pf } => ("rnr", pf, 0, nr, false, no_info),
-        Body::Rej { nr, pf } => ("rej", pf, 0, nr, false, no_info),
-        Body::Sabm { p, info } => ("sabm", p, 0, 0, false, info),
-        Body::Dm { f } => ("dm", f, 0, 0, false, no_info),
-        Body::Ui { p, info } => ("ui", p, 0, 0, false, info),
-        Body::Disc { p } => ("disc", p, 0, 0, false, no_info),
-        Body::Ua { f, info } => ("ua", f, 0, 0, false, info),
+    let kind = frame.body.kind().word();
+    let (pf, ns, nr, more, info) = match frame.body {
+        Body::I { ns, nr, p, more, info } => (p, ns, nr, more, info),
+        Body::Rr { nr, pf } | Body::Rnr { nr, pf } | Body::Rej { nr, pf } => (pf, 0, nr, false, no_info),
+        Body::Dm { f } => (f, 0, 0, false, no_info),
+        Body::Disc { p } => (p, 0, 0, false, no_info),
+        Body::Sabm { p, info } | Body::Ui { p, info } | Body::Ua { f: p, info } => (p, 0, 0, false, info),
     };
     let hex: String = if info.is_empty() { "-".into() } else { info.iter().map(|octet| format!("{octet:02x}")).collect() };
     let (sapi, cr, pf, more) = (frame.sapi, u8::from(frame.cr), u8::from(pf), u8::from(more));
@@ -51,7 +48,7 @@ fn main() {
         };
         match line_of(&octets, channel) {
             Ok(line) => println!("{name}: {layer1}{line}"),
-            Err(reason) => println!("{name}: not a frame ({})", format!("{reason:?}").to_lowercase()),
+            Err(reason) => println!("{name}: not a frame ({})", reason.word()),
         }
     }
 }

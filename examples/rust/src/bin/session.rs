@@ -6,7 +6,7 @@
 //!
 //!     cargo run --manifest-path examples/rust/Cargo.toml --bin session
 use std::{collections::VecDeque, error::Error};
-use um::{Body, Channel, Effects, End, Notice, Reason, Sapi};
+use um::{Channel, Effects, End, Notice, Reason, Sapi};
 use um_examples::Air;
 
 const SLOT: u32 = 235;
@@ -72,11 +72,15 @@ impl Side {
                 self.apply(&effects);
             }
         }
-        let Some(sent) = self.queue.pop_front() else { return Ok(()) };
+        let sent = match self.queue.pop_front() {
+            Some(sent) => sent,
+            None => return Ok(()),
+        };
         let octets = received(air, &sent)?;
-        let (kind, awaits_answer) = kind_of(&sent)?;
-        self.say(&format!("sends {kind}{}", if octets.is_some() { "" } else { ", which is lost" }));
-        if awaits_answer {
+        let read = um::read_frame(&sent, Channel::Sdcch)?;
+        let body = read.view().body;
+        self.say(&format!("sends {}{}", body.kind().word(), if octets.is_some() { "" } else { ", which is lost" }));
+        if body.awaits_answer() {
             self.timer = Some(T200);
         }
         if let Some(octets) = octets {
@@ -85,21 +89,6 @@ impl Side {
         }
         Ok(())
     }
-}
-
-/// The kind of a block's frame, and whether T200 counts from it.
-fn kind_of(sent: &[u8; 23]) -> Result<(&'static str, bool), um::NoFrame> {
-    Ok(match um::read_frame(sent, Channel::Sdcch)?.view().body {
-        Body::I { .. } => ("i", true),
-        Body::Rr { .. } => ("rr", false),
-        Body::Rnr { .. } => ("rnr", false),
-        Body::Rej { .. } => ("rej", false),
-        Body::Sabm { .. } => ("sabm", true),
-        Body::Dm { .. } => ("dm", false),
-        Body::Ui { .. } => ("ui", false),
-        Body::Disc { .. } => ("disc", true),
-        Body::Ua { .. } => ("ua", false),
-    })
 }
 
 /// Sends a block over the noisy path; one in four fades. `None` if it is lost.

@@ -1,8 +1,5 @@
 use Rattle.{
-  std.proofs.{
-    Common.{◌+◌, ◌/◌, ◌^◌, arith, bit_and, length-set, refl, take_all},
-    lemmas.{List.take_more_set, Nat.and_mask},
-  },
+  std.proofs.{Common.{◌+◌, ◌/◌, ◌^◌, arith, bit_and, length-set, refl, take_all}, lemmas.{List.take_more_set, Nat.and_mask}},
   fire_code.{specs.Registers.low_bits, proofs.Lemmas.{AllBits-low_bits, register_bits_split}},
 }
 use Rattle.fire_code.proofs.registers.bits_of_register.Goals as goal

@@ -1,7 +1,4 @@
-use Rattle.{
-  std.proofs.Common.{◌+◌, ◌-◌, ◌*◌, arith, refl},
-  fire_code.{specs.Registers.low_bits, proofs.Lemmas.put_together},
-}
+use Rattle.{std.proofs.Common.{◌+◌, ◌-◌, ◌*◌, arith, refl}, fire_code.{specs.Registers.low_bits, proofs.Lemmas.put_together}}
 use Rattle.fire_code.proofs.registers.register_from_bits.Goals as goal
 
 pub loop-m-init : goal.loop-m-init

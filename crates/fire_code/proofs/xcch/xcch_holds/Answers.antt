@@ -1,7 +1,4 @@
-use Rattle.{
-  std.proofs.{Common.bit_xor, lemmas.Bool.Decides.{Decides-like, Decides-eqb}},
-  fire_code.proofs.Lemmas.{cut, xcch_sum},
-}
+use Rattle.{std.proofs.{Common.bit_xor, lemmas.Bool.Decides.{Decides-like, Decides-eqb}}, fire_code.proofs.Lemmas.{cut, xcch_sum}}
 use Rattle.fire_code.proofs.xcch.xcch_holds.Goals as goal
 
 pub returns : goal.returns

@@ -460,18 +460,18 @@ initial-direction = direction (last (omega arith)) (last (omega arith)) (omega a
 
 -- ---- the invariant that a property E holds for each endpoint and a property F holds for each frame in transit
 
-module _ (E : Sapi → EndpointState → Type 0) (F : Frame → Type 0) where
+module _ (E : Role → Sapi → EndpointState → Type 0) (F : Frame → Type 0) where
   pub record Holds (channel : Channel) (w : World) : Type 0 where
     pub on_channel : w.channel ≡ channel
-    pub ends : (r : Role) (s : Sapi) → E s (end_of r s w)
+    pub ends : (r : Role) (s : Sapi) → E r s (end_of r s w)
     pub queues : (r : Role) → All F (way r w)
 
-  Holds-acts : (channel : Channel) (r : Role) (s : Sapi) (o : Outcome) (w : World) → Holds channel w → E s o.new_state
+  Holds-acts : (channel : Channel) (r : Role) (s : Sapi) (o : Outcome) (w : World) → Holds channel w → E r s o.new_state
       × All F o.frames →
       Holds channel (acted r s o w)
   Holds-acts channel r s o w h g = record {
     on_channel = h.on_channel;
-    ends = ends_do (λ r' s' e. E s' e) r s o w g.0 (λ r' s' n. h.ends r' s');
+    ends = ends_do (λ r' s' e. E r' s' e) r s o w g.0 (λ r' s' n. h.ends r' s');
     queues = each_way (λ r'. All F (way r' (acted r s o w))) r (rw (way-acted r s o w) (All-append F _ _ (h.queues r) g.1))
         (rw (way-acted_other r s o w) (h.queues _));
   }
@@ -486,9 +486,9 @@ module _ (E : Sapi → EndpointState → Type 0) (F : Frame → Type 0) where
   -- an event preserves the invariant `Holds` if every call, every received frame and every SABM of another mobile does
   pub holds-step : (Says : List LogLine → Type 0) (Known : Role → Frame → Type 0) (channel : Channel) (w : World) →
       Holds channel w → ((r : Role) (s : Sapi) (call : Call) → IsPlaced r s call → refusal_of call (end_of r s w) ≡ None →
-      (let o = call_outcome call (end_of r s w) in Says (said r s (call ∷ []) o.notices) → E s o.new_state × All F o.frames)) →
+      (let o = call_outcome call (end_of r s w) in Says (said r s (call ∷ []) o.notices) → E r s o.new_state × All F o.frames)) →
       ((r : Role) (s : Sapi) (f : Frame) → Known (other r) f →
-      (let o = frame_outcome f (end_of r s w) in E s o.new_state × All F o.frames)) →
+      (let o = frame_outcome f (end_of r s w) in E r s o.new_state × All F o.frames)) →
       ((info : Message) → rival_refusal w.channel info ≡ None → Says (RivalSabm info ∷ []) → F (rival_sabm info)) →
       (event : Event) → KnowsBy (refusal event w) Known event → Says (answer_log_lines event (answer event w)) →
       Holds channel (world_after event w)
@@ -502,9 +502,10 @@ module _ (E : Sapi → EndpointState → Type 0) (F : Frame → Type 0) where
         queues = each_way _ Mobile (All-push F _ _ (h.queues Mobile) (rival info ok l)) (h.queues Network);
       }) _ known
 
--- the endpoint satisfies `IsValidEndpoint` and has this channel and SAPI
-pub record FitsEnd (channel : Channel) (s : Sapi) (e : EndpointState) : Type 0 where
+-- the endpoint satisfies `IsValidEndpoint` and has this channel, role and SAPI
+pub record FitsEnd (channel : Channel) (r : Role) (s : Sapi) (e : EndpointState) : Type 0 where
   pub on_channel : e.channel ≡ channel
+  pub of_role : e.role ≡ r
   pub on_sapi : e.sapi ≡ s
   pub valid : IsValidEndpoint e
 
@@ -515,14 +516,14 @@ AllFit channel fs = All (FrameFits channel) fs
 abbrev pub IsFitting : Channel → World → Type 0
 IsFitting channel w = Holds (FitsEnd channel) (FrameFits channel) channel w
 
--- every call that an event makes to an endpoint exists for the SAPI of this endpoint
-has_call : (r : Role) (s : Sapi) (call : Call) (x : EndpointState) → IsPlaced r s call → x.sapi ≡ s →
+-- every call that an event makes to an endpoint exists for the role and the SAPI of this endpoint
+has_call : (r : Role) (s : Sapi) (call : Call) (x : EndpointState) → IsPlaced r s call → x.role ≡ r → x.sapi ≡ s →
     IsCallAllowedForEndpoint x call
-has_call r s call x placed at = grind arith
+has_call r s call x placed role at = grind arith
 
-fits-kept : (channel : Channel) (s : Sapi) (e : EndpointState) (o : Outcome) → FitsEnd channel s e → Keeps e o →
-    FitsEnd channel s o.new_state × AllFit channel o.frames
-fits-kept channel s e o h g = grind arith
+fits-kept : (channel : Channel) (r : Role) (s : Sapi) (e : EndpointState) (o : Outcome) → FitsEnd channel r s e → Keeps e o →
+    FitsEnd channel r s o.new_state × AllFit channel o.frames
+fits-kept channel r s e o h g = grind arith
 
 rival_fits : (channel : Channel) (w : World) (info : Message) → w.channel ≡ channel → rival_refusal w.channel info ≡ None →
     FrameFits channel (rival_sabm info)
@@ -532,9 +533,9 @@ rival_fits channel w info same ok = grind arith
 pub fits-step : (channel : Channel) (w : World) (event : Event) → KnowsBy (refusal event w) (λ sender f. FrameFits channel f) event →
     IsFitting channel w → IsFitting channel (world_after event w)
 fits-step channel w event known h = holds-step _ _ (λ ls. Unit {0}) (λ sender f. FrameFits channel f) _ w h
-    (λ r s call placed ok l. fits-kept _ s (end_of r s w) _ (h.ends r s)
-    (keeps-call _ _ (h.ends r s).valid (has_call r s _ (end_of r s w) placed (h.ends r s).on_sapi) ok))
-    (λ r s f fits. fits-kept _ s _ _ (h.ends r s) (keeps-frame f _ (h.ends r s).valid (rw (h.ends r s).on_channel fits)))
+    (λ r s call placed ok l. fits-kept _ r s (end_of r s w) _ (h.ends r s)
+    (keeps-call _ _ (h.ends r s).valid (has_call r s _ (end_of r s w) placed (h.ends r s).of_role (h.ends r s).on_sapi) ok))
+    (λ r s f fits. fits-kept _ r s _ _ (h.ends r s) (keeps-frame f _ (h.ends r s).valid (rw (h.ends r s).on_channel fits)))
     (λ info ok l. rival_fits _ w _ h.on_channel ok) _ known tt
 
 pub initial-fits : (capacity : QueueCapacity) (channel : Channel) → IsFitting channel (initial_world capacity channel)
@@ -546,7 +547,7 @@ with_items_appended-all : (F : Frame → Type 0) (r : Role) (fs : List Frame) (w
 with_items_appended-all F Mobile fs ws h = rw drop-append_seam at (All-drop F (length ws.up) _ (h Mobile))
 with_items_appended-all F Network fs ws h = rw drop-append_seam at (All-drop F (length ws.down) _ (h Network))
 
-pub event_step-holds : (E : Sapi → EndpointState → Type 0) (F : Frame →
+pub event_step-holds : (E : Role → Sapi → EndpointState → Type 0) (F : Frame →
     Type 0) (channel : Channel) (w : World) (event : Event) (o : Option EventRefusal) →
     o ≡ None → Holds E F channel (world_after_possible_refusal o event w) → All F (event_step event w.ends).frames
 event_step-holds E F channel w event o none h =

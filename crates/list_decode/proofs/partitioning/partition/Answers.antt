@@ -1,11 +1,9 @@
 use Rattle.{
   std.proofs.{Common.{arith, rules, ◌+◌, ◌*◌, ◌%◌, get_or, refl, ap, w32, FitsSigned}, lemmas.Int.to_z-of_z},
-  list_decode.proofs.{
-    Choices.deviation-candidate,
-    Spans.{IsSpanOfWord-after, IsSpanOfWord-deviation},
-    partitioning.partition.Goals.After-apply,
+  list_decode.{
+    proofs.{Choices.deviation-candidate, Spans.{IsSpanOfWord-after, IsSpanOfWord-deviation}, partitioning.partition.Goals.After-apply},
+    specs.{Passes.soft_bits_of_pass, Ranking.IsCandidate},
   },
-  list_decode.specs.{Passes.soft_bits_of_pass, Ranking.IsCandidate},
   weight_bound.proofs.conv_code.Lemmas.bit_at-most_1,
 }
 use Rattle.list_decode.proofs.partitioning.partition.Goals as goal

@@ -1,7 +1,7 @@
 use Rattle.{
-  std.proofs.{Common.{◌≡◌, ◌+◌, ◌*◌, ◌-◌, ◌<◌, drop, refl, subst, arith}, lemmas.List.drop_all},
+  std.proofs.{Common.{◌≡◌, ◌+◌, ◌*◌, ◌-◌, ◌<◌, drop, refl, subst, arith}, lemmas.{Int.ints, List.drop_all}},
   trellis_decode.{
-    specs.{Hard.hard_lane_metrics, SurvivorPaths.AreMetricsWithin},
+    specs.{Hard.{DifferByAtMost, hard_lane_metrics}, SurvivorPaths.AreMetricsWithin},
     proofs.{AcsSteps.{AreSignedOctets-pair, pair_at, pair_and_after, HaveHeadroom8-within, hard_octets}, SurvivorLists.AreSurvivors-none},
   },
 }
@@ -12,6 +12,7 @@ loop-k-init c =
     record {
       walk = rw (drop_all 8 (c.args.soft.now) (omega (arith, c.requires.count))) (AreSurvivors-none _);
       within = c.requires.within;
+      near = c.requires.near;
       lanes = c.requires.lanes;
       count = refl;
     }
@@ -19,6 +20,9 @@ loop-k-init c =
 pub step-walk-requires-clause-headroom : goal.step-walk-requires-clause-headroom
 step-walk-requires-clause-headroom c =
     HaveHeadroom8-within _ _ (omega arith) c.loop-k.invariant.lanes.count c.loop-k.invariant.within
+
+pub step-walk-requires-clause-near : goal.step-walk-requires-clause-near
+step-walk-requires-clause-near c j k lj lk = omega (arith, ints, c.loop-k.invariant.near j k lj lk)
 
 pub step-walk-requires-clause-count : goal.step-walk-requires-clause-count
 step-walk-requires-clause-count c = grind arith
@@ -37,6 +41,8 @@ loop-k-preserved c =
       within = subst (λ most. AreMetricsWithin most (hard_lane_metrics c.step-walk.result.values.lanes)) (omega arith)
           (c.step-walk.ensures.within pair has (AreSignedOctets-pair _ _ (hard_octets _ c.requires.hard))
           (58368 + 256 * (4 - k)) c.loop-k.invariant.within);
+      near = subst (λ most. DifferByAtMost most c.step-walk.result.values.lanes) (omega arith)
+          (c.step-walk.ensures.near (8 + 2 * (4 - k)) c.loop-k.invariant.near);
       lanes = c.step-walk.ensures.lanes;
       count = c.step-walk.ensures.count;
     }

@@ -1,13 +1,14 @@
 -- Induction from the tail to the front, as for `fill_survivors`, but in 8-bit lanes.
 use Rattle.{
   std.proofs.{
-    Common.{◌≡◌, ℕ, ◌*◌, ◌+◌, ◌-◌, ◌<◌, drop, length, ◌∙◌, subst, arith},
+    Common.{◌≡◌, ℕ, ◌*◌, ◌+◌, ◌-◌, ◌<◌, drop, length, ◌∙◌, ap, sym, subst, arith},
     lemmas.List.{length-set, Elements.{All-drop, All-take}},
   },
   trellis_decode.{
     specs.{Hard.{IsHardBit, hard_lane_metrics}, AcsLanes.lane_of_state, SurvivorPaths.{survivor_traceback, HoldLaneNumbersFromIndex}},
     proofs.{AcsSteps.hard_octets, SurvivorLists.{HoldLaneNumbersFromIndex-last, AreSurvivors-map_lanes, HoldLaneNumbersFromIndex-more}},
     proofs.{SurvivorLists.{last_map, more_survivors, AreMetricsWithin-best, AreMetricsWithin-most}, Viterbi.IsSurvivor-to_end},
+    proofs.SurvivorLists.DifferByAtMost-survivors,
   },
 }
 use Rattle.trellis_decode.proofs.hard.fill_hard_survivors.Goals as goal
@@ -48,6 +49,13 @@ extend_hard_survivors-walk-requires-clause-within c =
     (λ s. survivor_traceback (drop group c.loop-group.survivors) (lane_of_state s)) (hard_octets soft c.requires.hard)
     (omega (arith, c.requires.count))
     c.loop-group.invariant.low c.loop-group.invariant.best
+
+pub extend_hard_survivors-walk-requires-clause-near : goal.extend_hard_survivors-walk-requires-clause-near
+extend_hard_survivors-walk-requires-clause-near c =
+    DifferByAtMost-survivors c.loop-group.values.lanes c.args.soft.now c.loop-group.group c.loop-group.survivors
+    (hard_octets _ c.requires.hard)
+    (c.requires.count ∙ ap (λ n. 8 * n) (sym (c.loop-group.auto.survivors
+    ∙ length-set c.args.survivors.now (length c.args.survivors.now - 1) _))) c.loop-group.invariant.best
 
 pub loop-group-preserved : goal.loop-group-preserved
 loop-group-preserved c =

@@ -4,16 +4,16 @@ use Rattle.{
 }
 use Rattle.trellis_decode.proofs.survivors.extend_survivor_map.Goals as goal
 
-pub extend_survivor_map_swizzle_fixed-requires-clause-zero : goal.extend_survivor_map_swizzle_fixed-requires-clause-zero
-extend_survivor_map_swizzle_fixed-requires-clause-zero c = AreInt8-joined c.args.low.lanes _ c.requires.low c.requires.high
+pub extend_survivor_map_by_metrics-requires-clause-zero : goal.extend_survivor_map_by_metrics-requires-clause-zero
+extend_survivor_map_by_metrics-requires-clause-zero c = AreInt8-joined c.args.low.lanes _ c.requires.low c.requires.high
 
-pub extend_survivor_map_swizzle_fixed-requires-clause-one : goal.extend_survivor_map_swizzle_fixed-requires-clause-one
-extend_survivor_map_swizzle_fixed-requires-clause-one c = AreInt8-splat (pos 0) (omega arith)
+pub extend_survivor_map_by_metrics-requires-clause-one : goal.extend_survivor_map_by_metrics-requires-clause-one
+extend_survivor_map_by_metrics-requires-clause-one c = AreInt8-splat (pos 0) (omega arith)
 
 pub returns-clause-each : goal.returns-clause-each
 returns-clause-each c s lt =
     cc (
-      c.extend_survivor_map_swizzle_fixed.ensures.each _ (inside s lt),
+      c.extend_survivor_map_by_metrics.ensures.each _ (inside s lt),
       next_lane-state s lt _,
       joined-decision c.args.low.lanes c.args.high.lanes
           c.requires.low c.requires.high s lt,

@@ -5,13 +5,8 @@ use Rattle.{
     specs.{Lanes.{IsSignedOctet, lane}, AcsLanes.{HasBranchMetrics, path_metric}},
     proofs.{
       AcsSteps.{AreSignedOctets-pair, pair_at, pair_at-take_drop, pair_and_after},
-      SurvivorLists.{
-        HasDecisionsAndMetrics-more,
-        HasDecisionsAndMetrics-same,
-        HasDecisionsAndMetrics-differences,
-        HasDecisionsAndMetrics-even,
-      },
-      SurvivorLists.HasDecisionsAndMetrics-odd,
+      SurvivorLists.{HasDecisionsAndMetrics-more, HasDecisionsAndMetrics-same, HasDecisionsAndMetrics-differences},
+      SurvivorLists.{HasDecisionsAndMetrics-even, HasDecisionsAndMetrics-odd},
       AcsVectors.{cast_lanes, cast_lanes-subtract_lanes},
     },
   },

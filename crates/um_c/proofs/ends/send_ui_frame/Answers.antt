@@ -1,11 +1,14 @@
 use Rattle.{
   std.proofs.{Common.refl, lemmas.Result.IfErr-weaker},
-  um_air.specs.lapdm_window.{Ends.EndpointState, Calls.{Call, SendsUi, SendsFillFrame, IsUiFrameCall, endpoint_call_of}},
-  um_c.{specs.EndCalls.EndpointSupportsCall, proofs.Calls.{answered_by, is_read, OnOk-map}},
+  um_air.specs.lapdm_window.{
+    Ends.EndpointState,
+    Calls.{Call, IsCallAllowedForEndpoint, SendsUi, SendsFillFrame, IsUiFrameCall, endpoint_call_of},
+  },
+  um_c.proofs.Calls.{answered_by, is_read, OnOk-map},
 }
 use Rattle.um_c.proofs.ends.send_ui_frame.Goals as goal
 
-placeholder_endpoint : (call : Call) (e : EndpointState) → IsUiFrameCall call → EndpointSupportsCall e call
+placeholder_endpoint : (call : Call) (e : EndpointState) → IsUiFrameCall call → IsCallAllowedForEndpoint e call
 placeholder_endpoint (SendsUi m) e h = tt
 placeholder_endpoint SendsFillFrame e h = tt
 placeholder_endpoint other e h = absurd h

@@ -1,6 +1,7 @@
 use Rattle.{
-  std.proofs.{Common.{refl, sym, ◌∙◌, ap}, lemmas.Bool.false≢true},
-  um_c.specs.declared.{states.CEndpoint.CEndpoint, sides.CSide.CSide},
+  std.proofs.{Common.{refl, subst, sym, ◌≡◌, ◌∙◌, ap}, lemmas.Bool.false≢true},
+  um_air.specs.lapdm_window.declared.Sapi.TheVariants.Zero,
+  um_c.specs.{SideCalls.endpoint_of, States.{IsCanonicalStruct, sapi_of}, declared.{states.CEndpoint.CEndpoint, sides.CSide.CSide}},
 }
 use Rattle.um_c.proofs.sides.um_side_take.Goals as goal
 
@@ -41,3 +42,9 @@ returns-clause-answers_block c = record {
         u.1,
       );
 }
+
+pub returns-clause-c_struct : goal.returns-clause-c_struct
+returns-clause-c_struct c zero s is =
+    let after : CSide = record c.args.side.now { link0 = c.um_end_take-answer-2.new.end } in
+    let same : Zero ≡ s = cc (sym (is ∙ ap sapi_of (c.write_sapi_if_successful-2.ensures.written zero))) in
+    subst (λ s. IsCanonicalStruct (endpoint_of s after)) same (c.um_end_take-answer-2.ensures.c_struct zero)

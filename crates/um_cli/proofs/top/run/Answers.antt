@@ -1,27 +1,29 @@
 -- In each branch of `run`, the clauses follow from the clauses of the command that the branch runs (`Lemmas`).
 use Rattle.{
   std.proofs.Common.{refl, ℕ, List, Option},
-  um_driver.specs.{Table.IsRun, declared.status.Status.Status},
+  um_driver.specs.{Rules.Rules, Table.IsRun, declared.status.Status.Status},
   um_cli.{
     specs.{
       EndAnswers.end_rules_with_ml_decoding,
       declared.words.Invocation.{Invocation, TheVariants.{Code, Replay, Show, Margin, Repair, End}},
     },
-    proofs.Lemmas.{table_of, due_of, at_shape, recovers_code, replay_headline, end-most_likely},
+    proofs.Lemmas.{table_of, due_of, at_shape, recovers_code, replay_headline, end-weaker, end_rules-likely, end_rules-steps},
   },
   um_bursts.proofs.Lemmas.replay_is_determined,
   um_code.proofs.CodeRules.code_is_determined,
   um_show.proofs.ShowRules.show_is_determined,
   um_margin.proofs.Lemmas.margin_is_determined,
   um_repair.proofs.Lemmas.repair_is_determined,
-  um_end.{specs.{um_link.Naming.spec_role_of, EndRuns.initial_end_command_state}, proofs.EndSteps.end_is_determined},
+  um_end.specs.{um_link.Naming.spec_role_of, EndRuns.{EndCommandState, initial_end_command_state}, EndTurns.end_rules_as_terminal_steps},
+  um_end.proofs.EndSteps.end_is_determined,
 }
 use Rattle.um_cli.proofs.top.run.Goals as goal
 
-abbrev EndIsMostLikely : Invocation → Status → (left left' taken taken' : Option (List ℕ)) → Type 0
-EndIsMostLikely (End side tsc) status left left' taken taken' =
-    IsRun end_rules_with_ml_decoding (initial_end_command_state (spec_role_of side) tsc) (λ last. Unit {0}) status left left' taken taken'
-EndIsMostLikely command status left left' taken taken' = Unit {0}
+-- a run of `end`, if the command is `end`, is a run of these rules
+abbrev IsEndRunOf : Rules EndCommandState → Invocation → Status → (left left' taken taken' : Option (List ℕ)) → Type 0
+IsEndRunOf rules (End side tsc) status left left' taken taken' =
+    IsRun rules (initial_end_command_state (spec_role_of side) tsc) (λ last. Unit {0}) status left left' taken taken'
+IsEndRunOf rules command status left left' taken taken' = Unit {0}
 
 pub returns-in-Some-Code-clause-due : goal.returns-in-Some-Code-clause-due
 returns-in-Some-Code-clause-due g c =
@@ -91,6 +93,16 @@ returns-in-Some-End-clause-end_most_likely g c = λ side tsc is.
     let begun = initial_end_command_state (spec_role_of c.in-Some-End.side) c.in-Some-End.tsc in
     at_shape _ _ (End c.in-Some-End.side c.in-Some-End.tsc) (λ P p. p) _ _ c.in-Some-End.ensures.command
     c.in-Some-End.field-0-is _ c.new-in-Some-End.ensures.start run.result
-    (λ command. EndIsMostLikely command run.result (g.S.Source.left c.args.input.now) (g.S.Source.left run.new.input)
-    (g.K.Sink.taken c.args.output.now) (g.K.Sink.taken run.new.output))
-    (end-most_likely begun c.new-in-Some-End.ensures.start _ run.result _ _ _ _ run.ensures.table) (End side tsc) is
+    (λ command. IsEndRunOf end_rules_with_ml_decoding command run.result (g.S.Source.left c.args.input.now)
+    (g.S.Source.left run.new.input) (g.K.Sink.taken c.args.output.now) (g.K.Sink.taken run.new.output))
+    (end-weaker end_rules-likely begun c.new-in-Some-End.ensures.start _ run.result _ _ _ _ run.ensures.table) (End side tsc) is
+
+pub returns-in-Some-End-clause-end_steps : goal.returns-in-Some-End-clause-end_steps
+returns-in-Some-End-clause-end_steps g c = λ side tsc is.
+    let run = c.drive-in-Some-End in
+    let begun = initial_end_command_state (spec_role_of c.in-Some-End.side) c.in-Some-End.tsc in
+    at_shape _ _ (End c.in-Some-End.side c.in-Some-End.tsc) (λ P p. p) _ _ c.in-Some-End.ensures.command
+    c.in-Some-End.field-0-is _ c.new-in-Some-End.ensures.start run.result
+    (λ command. IsEndRunOf end_rules_as_terminal_steps command run.result (g.S.Source.left c.args.input.now)
+    (g.S.Source.left run.new.input) (g.K.Sink.taken c.args.output.now) (g.K.Sink.taken run.new.output))
+    (end-weaker end_rules-steps begun c.new-in-Some-End.ensures.start _ run.result _ _ _ _ run.ensures.table) (End side tsc) is

@@ -1,6 +1,6 @@
 use Rattle.{
-  std.proofs.Common.{arith, length-drop, length-take, sym, take-append-drop, ◌∙◌},
-  std.{proofs.{KnownBytes.Appends-kept, lemmas.Result.MatchResult-from_err}, specs.Io.KnownBytes.Appends},
+  std.proofs.{Common.{arith, length-drop, length-take, sym, take-append-drop, ◌∙◌}, KnownBytes.Appends-kept},
+  std.{proofs.lemmas.Result.MatchResult-from_err, specs.Io.KnownBytes.Appends},
   um_driver.specs.Table.SinkTakesPrefix,
   um_io.proofs.Lemmas.Appends-front,
 }

@@ -1,6 +1,6 @@
 use Rattle.{
-  std.proofs.Common.{◌≡◌, ◌&&◌, ◌+◌, ◌-◌, ◌*◌, length, drop, ap, ap₂, ◌∙◌, arith},
-  std.{proofs.lemmas.List.{take_all, length-drop}, specs.List.list_all},
+  std.proofs.{Common.{◌≡◌, ◌&&◌, ◌+◌, ◌-◌, ◌*◌, length, drop, ap, ap₂, ◌∙◌, arith}, lemmas.List.take_all},
+  std.{proofs.lemmas.List.length-drop, specs.List.list_all},
   hex.specs.Hex.is_hex_digit,
   um_lines.proofs.Texts.{all_more, all_overlapping},
 }

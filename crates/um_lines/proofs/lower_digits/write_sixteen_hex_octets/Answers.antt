@@ -1,7 +1,4 @@
-use Rattle.{
-  std.proofs.{Common.{◌+◌, ◌*◌, ◌<◌, length, arith}, lemmas.List.length-set},
-  um_lines.proofs.Texts.digits_set,
-}
+use Rattle.{std.proofs.{Common.{◌+◌, ◌*◌, ◌<◌, length, arith}, lemmas.List.length-set}, um_lines.proofs.Texts.digits_set}
 use Rattle.um_lines.proofs.lower_digits.write_sixteen_hex_octets.Goals as goal
 
 pub loop-i-preserved : goal.loop-i-preserved

@@ -1,18 +1,16 @@
 use Rattle.{
-  std.proofs.Common.{refl, sym, ◌∙◌},
-  lapdm_window.specs.{declared.State.TheVariants.Opening, Ends.IsBeforeOpen},
-  lapdm_end.proofs.Lemmas.{moved, both, unopened-moved, Represents-moved},
+  std.proofs.Common.{refl, sym, ◌≡◌, ◌∙◌, ap},
+  lapdm_window.specs.declared.State.TheVariants.{Idle, Opening},
+  lapdm_end.{specs.Abstraction.segment_repeats_in, proofs.Lemmas.{moved, both, Represents-moved}},
 }
 use Rattle.lapdm_end.proofs.ends.Endpoint.begin_establishment.Goals as goal
 
 pub returns-clause-refines : goal.returns-clause-refines
 returns-clause-refines c e h =
-    let m = c.args.self.now in
     let info = c.args.info.now in
-    let idle : IsBeforeOpen e.state = rw (sym h.state ∙ c.requires.idle) tt in
-    both (Represents-moved h.valid h.address h.variables refl c.new-self.ensures (rw (← h.address.channel) c.requires.fits)
-    (λ three. c.requires.empty_on_sapi3 (h.address.sapi ∙ three)) (λ u. idle) (record {
-      window = unopened-moved (h.valid.no_message_before_open idle)
-          (rw c.requires.idle at h.represents_in_state);
-      retry_count = refl;
-    })) (λ s. record { frames = c.send_sabm.ensures.frames (moved Opening info 0 e) s; notices = c.send_sabm.ensures.notices })
+    let is : e.state ≡ Idle = sym h.state ∙ c.requires.idle in
+    both (Represents-moved h.valid h.address h.variables h.unacked_messages refl c.new-self.ensures
+    (rw (← h.address.channel) c.requires.fits) (rw (← h.address.sapi) c.requires.possible)
+    (λ u zero. sym h.address.role ∙ c.requires.mobile_opens_sapi0 (h.address.sapi ∙ zero)) (λ u. rw is tt) refl
+    (h.segment_repeats ∙ ap (λ s. segment_repeats_in s e) is))
+    (λ s. record { frames = c.send_sabm.ensures.frames (moved Opening info 0 e) s; notices = c.send_sabm.ensures.notices })

@@ -10,5 +10,7 @@ returns-clause-represents c =
       state = refl;
       sabm_info = c.new.ensures;
       variables = window.variables;
-      represents_in_state = window;
+      unacked_messages = window.unacked_messages;
+      retries = refl;
+      segment_repeats = window.retries;
     }

@@ -1,7 +1,10 @@
 use Rattle.{
   std.proofs.Common.{rules, ◌≡◌, refl},
   lapdm_window.specs.{declared.State.TheVariants.Open, Ends.EndpointState, Calls.with_queued_message},
-  lapdm_end.{specs.Windows.RepresentsOpenEndpoint, proofs.Lemmas.{same_rules_in_open, Runs-open, refines-open, sabm_info-sapi3}},
+  lapdm_end.{
+    specs.Windows.RepresentsOpenEndpoint,
+    proofs.Lemmas.{same_rules_in_open, Runs-open, refines-open, kept_in_open, unrepeated_in_open},
+  },
 }
 use Rattle.lapdm_end.proofs.ends.Endpoint.send_into.Goals as goal
 
@@ -12,4 +15,5 @@ returns-clause-refines c e h =
     let f : EndpointState = with_queued_message c.args.message.now e in
     let g = c.send_next.ensures.refines f (same_rules_in_open still_open refl refl refl refl
     (c.in_default.ensures.taken e still_open.window)) in
-    refines-open _ open_now h.sabm_info (sabm_info-sapi3 h) c.clear.ensures.frames c.clear.ensures.notices h.address.channel g
+    refines-open _ open_now h.sabm_info (kept_in_open open_now h) (unrepeated_in_open open_now h) c.clear.ensures.frames
+    c.clear.ensures.notices h.address.channel g

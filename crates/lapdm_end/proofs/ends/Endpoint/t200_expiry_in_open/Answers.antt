@@ -1,8 +1,11 @@
 use Rattle.{
   std.proofs.Common.{refl, sym, ◌∙◌, ap, subst, ◌+◌},
   lapdm_window.specs.{declared.Timer.Timer, Ends.{EndpointState, n200}, Answers.state_after_t200},
-  lapdm_end.{specs.Windows.RepresentsOpenEndpoint, proofs.Lemmas.{same_rules_in_open, as_outcome, Runs-open, refines-open}},
-  lapdm_end.proofs.Lemmas.{sabm_info-sapi3, t200_result-spent, t200_result-again, t200_expiry-closes, t200_expiry-open},
+  lapdm_end.{
+    specs.{Abstraction.segment_repeats_in, Windows.RepresentsOpenEndpoint},
+    proofs.Lemmas.{same_rules_in_open, as_outcome, Runs-open, refines-open, kept_in_open, unrepeated_in_open, t200_result-spent},
+    proofs.Lemmas.{t200_result-again, t200_expiry-closes, t200_expiry-open},
+  },
 }
 use Rattle.lapdm_window.specs.Abstraction as W
 use Rattle.lapdm_end.proofs.ends.Endpoint.t200_expiry_in_open.Goals as goal
@@ -22,7 +25,9 @@ returns-in-Spent-clause-refines c e h =
       state = h.state;
       sabm_info = h.sabm_info;
       variables = window.variables;
-      represents_in_state = rw c.requires.open window;
+      unacked_messages = window.unacked_messages;
+      retries = h.retries;
+      segment_repeats = window.retries ∙ sym (ap (λ s. segment_repeats_in s e) still_open.state);
     }))
 
 pub returns-in-Again-clause-refines : goal.returns-in-Again-clause-refines
@@ -36,4 +41,5 @@ returns-in-Again-clause-refines c e h =
     (c.on_timer.ensures.counted e still_open.window) in
     let g = c.send_outstanding_segment.ensures.refines f (same_rules_in_open still_open refl refl refl refl window) in
     as_outcome e (t200_expiry-open e still_open.state again.0 again.1) (refines-open _ c.requires.open h.sabm_info
-    (sabm_info-sapi3 h) c.clear.ensures.frames c.clear.ensures.notices h.address.channel g)
+    (kept_in_open c.requires.open h) (unrepeated_in_open c.requires.open h) c.clear.ensures.frames c.clear.ensures.notices
+    h.address.channel g)

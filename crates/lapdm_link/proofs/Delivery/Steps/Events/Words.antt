@@ -55,8 +55,9 @@ pub use Rattle.lapdm_window.specs.Rules.{
   is_open,
 }
 pub use Rattle.lapdm_window.specs.{Rules.{acked_message_number, segment_notices}, Calls.{Call, Opens, OpensWithoutInfo, refusal_of}}
-pub use Rattle.lapdm_window.specs.Calls.{call_outcome, Sends, SendsUi, Closes, T200Expires, SendsFillFrame, is_idle, message_refusal_checks}
-pub use Rattle.lapdm_window.specs.Calls.{single_frame_refusal_checks, with_queued_message, frame_to_retransmit, IsCallAllowedForEndpoint}
+pub use Rattle.lapdm_window.specs.Calls.{call_outcome, Sends, SendsUi, Closes, T200Expires, Repeats, SendsFillFrame, is_idle}
+pub use Rattle.lapdm_window.specs.Calls.{message_refusal_checks}
+pub use Rattle.lapdm_window.specs.Calls.{single_frame_refusal_checks, with_queued_message, awaited_frame, IsCallAllowedForEndpoint}
 pub use Rattle.lapdm_window.specs.Tables.{frame_outcome}
 pub use Rattle.lapdm_window.specs.{Tables.closes_and_reports, Steps.IsSameEndpoint}
 pub use Rattle.lapdm_window.proofs.segmenting.Lemmas.{messages_ending_in_segments-all}

@@ -1,5 +1,5 @@
 use Rattle.{
-  std.proofs.{Common.{refl, sym, ◌∙◌, arith, ◌≤◌, length}, lemmas.Bool.Decides.nat_tests},
+  std.proofs.{Common.{sym, ◌∙◌, arith, ◌≤◌, length}, lemmas.Bool.Decides.nat_tests},
   lapdm_window.proofs.Windows.{next_number, is_left, has_segment_to_send-left, HasWindowOfOne-next},
 }
 use Rattle.lapdm_window.proofs.window.Window.send_next.Goals as goal
@@ -20,5 +20,5 @@ returns-clause-sent c e h =
           (is_left h some_held);
       variables = grind (arith, next_number e.sent_segments w.vs h.variables.vs);
       unacked_messages = grind arith;
-      retries = λ _. refl;
+      retries = grind (arith, nat_tests);
     }

@@ -1,0 +1,267 @@
+/* Tests data links through um.h: what each side sends slot by slot, with T200 of two slots and without delay. The blocks are written by
+ * hand from 3GPP TS 44.006, and the slots in which they come from the rules of docs/DECISIONS.md. */
+#include "um.h"
+#include <stdio.h>
+#include <string.h>
+
+static int failed;
+
+static void check(bool holds, const char *what)
+{
+	if (!holds) {
+		printf("library: %s\n", what);
+		failed = 1;
+	}
+}
+
+static const uint8_t L1[2] = { 0x5a, 0xa5 };
+
+/* One channel: what each side sent in the last slot, and what it reported last. */
+typedef struct pair {
+	um_datalink sides[2]; /* the mobile, the network */
+	uint8_t blocks[2][23];
+	bool arrives[2];
+	uint8_t answers[2];
+	um_report reports[2]; /* of um_datalink_take */
+	um_report given_up[2]; /* of um_datalink_next */
+} pair;
+
+static void start(pair *p, uint8_t channel)
+{
+	memset(p, 0, sizeof *p);
+	for (int side = 0; side < 2; side++)
+		check(um_datalink_new(&p->sides[side], (uint8_t)side, channel, 2, 4), "a new data link");
+}
+
+/* What was sent in the last slot arrives. */
+static void arrive(pair *p)
+{
+	for (int side = 0; side < 2; side++) {
+		memset(&p->reports[side], 0, sizeof p->reports[side]);
+		if (p->arrives[!side])
+			check(um_datalink_take(&p->sides[side], p->blocks[!side], &p->reports[side]) == UM_END_DONE, "a block is taken");
+	}
+}
+
+/* Both sides fill their slot; the block of a side is lost if its bit is set. */
+static void fill(pair *p, int lost)
+{
+	for (int side = 0; side < 2; side++) {
+		memset(p->blocks[side], 0xee, 23);
+		p->answers[side] = um_datalink_next(&p->sides[side], L1, p->blocks[side], &p->given_up[side]);
+		p->arrives[side] = !(lost >> side & 1);
+	}
+}
+
+static void slot(pair *p, int lost)
+{
+	arrive(p);
+	fill(p, lost);
+}
+
+static bool sends(const pair *p, int side, const char *octets, size_t count)
+{
+	const uint8_t *block = p->blocks[side];
+	size_t at = p->sides[side].link0.end.channel == UM_SACCH ? 2 : 0;
+	if (p->answers[side] != UM_END_DONE || (at && memcmp(block, L1, 2)) || memcmp(block + at, octets, count))
+		return false;
+	for (size_t i = at + count; i < 23; i++)
+		if (block[i] != 0x2b)
+			return false;
+	return true;
+}
+
+static bool is_free(const pair *p, int side)
+{
+	const uint8_t *block = p->blocks[side];
+	size_t at = p->sides[side].link0.end.channel == UM_SACCH ? 2 : 0;
+	return p->answers[side] == UM_END_FREE && block[at] == (side ? 0x03 : 0x01) && block[at + 1] == 0x03 && block[at + 2] == 0x01;
+}
+
+static bool reports(const um_report *r, uint8_t sapi, uint8_t kind, uint8_t count)
+{
+	return r->notice_count == 1 && r->sapis[0] == sapi && r->notices[0].kind == kind && r->notices[0].message.count == count;
+}
+
+static um_message message_of(uint8_t octet, uint8_t count)
+{
+	um_message m = { 0 };
+	m.count = count;
+	memset(m.octets, octet, count);
+	return m;
+}
+
+static void open_both(pair *p, uint8_t channel)
+{
+	um_message info = message_of(1, 1);
+	start(p, channel);
+	check(um_datalink_open(&p->sides[0], &info) == UM_END_DONE, "the mobile opens");
+	fill(p, 0);
+	check(sends(p, 0, "\x01\x3f\x05\x01", 4) && is_free(p, 1), "SABM in the slot of the call");
+	slot(p, 0);
+	check(reports(&p->reports[1], 0, UM_OPENED, 1) && sends(p, 1, "\x01\x73\x05\x01", 4) && is_free(p, 0), "UA in the next slot");
+	arrive(p);
+	check(reports(&p->reports[0], 0, UM_OPENED, 1), "the mobile reports opened");
+}
+
+/* Two segments: a round trip of two slots each. */
+static void test_message(void)
+{
+	pair p;
+	um_message m = message_of(9, 21);
+	open_both(&p, UM_SDCCH);
+	check(um_datalink_send(&p.sides[0], 0, &m) == UM_END_DONE, "a message");
+	fill(&p, 0);
+	check(sends(&p, 0, "\x01\x00\x53\x09\x09\x09\x09\x09\x09\x09\x09\x09\x09\x09\x09\x09\x09\x09\x09\x09\x09\x09\x09", 23), "first segment");
+	slot(&p, 0);
+	check(sends(&p, 1, "\x01\x21\x01", 3) && is_free(&p, 0), "RR 1");
+	slot(&p, 0);
+	check(sends(&p, 0, "\x01\x02\x05\x09", 4) && is_free(&p, 1), "second segment");
+	slot(&p, 0);
+	check(reports(&p.reports[1], 0, UM_GOT, 21) && sends(&p, 1, "\x01\x41\x01", 3), "got, RR 2");
+	slot(&p, 0);
+	check(reports(&p.reports[0], 0, UM_ACKED, 0) && p.reports[0].notices[0].number == 1 && is_free(&p, 0), "acked 1");
+}
+
+/* A lost I frame is repeated after T200, with P = 1 and the N(R) of now; a lost answer costs another repeat. */
+static void test_loss(void)
+{
+	pair p;
+	um_message m = message_of(9, 2), other = message_of(8, 1);
+	open_both(&p, UM_SDCCH);
+	check(um_datalink_send(&p.sides[0], 0, &m) == UM_END_DONE, "a call of layer 3");
+	fill(&p, 1);
+	check(sends(&p, 0, "\x01\x00\x09\x09\x09", 5), "an I frame that is lost");
+	arrive(&p);
+	check(um_datalink_send(&p.sides[1], 0, &other) == UM_END_DONE, "a call of layer 3");
+	fill(&p, 0);
+	check(is_free(&p, 0) && sends(&p, 1, "\x03\x00\x05\x08", 4), "T200 counts; the network's I frame");
+	slot(&p, 0);
+	check(reports(&p.reports[0], 0, UM_GOT, 1) && sends(&p, 0, "\x01\x30\x09\x09\x09", 5), "the repeat, P = 1, says N(R) = 1, and no RR");
+	slot(&p, 2);
+	const um_report *both = &p.reports[1];
+	check(both->notice_count == 2 && both->notices[0].kind == UM_ACKED && both->notices[1].kind == UM_GOT, "acked, got");
+	check(sends(&p, 1, "\x01\x31\x01", 3) && is_free(&p, 0), "RR, F = 1, which is lost");
+	slot(&p, 0);
+	check(sends(&p, 0, "\x01\x30\x09\x09\x09", 5), "a second repeat");
+	slot(&p, 0);
+	check(sends(&p, 1, "\x01\x39\x01", 3), "REJ, F = 1");
+	slot(&p, 0);
+	check(reports(&p.reports[0], 0, UM_ACKED, 0) && is_free(&p, 0) && p.sides[0].link0.end.repeats == 0, "acked");
+}
+
+/* Six lost SABMs, every second slot, and the mobile gives up in the slot after T200. */
+static void test_give_up(void)
+{
+	pair p;
+	um_message info = message_of(1, 1);
+	start(&p, UM_SDCCH);
+	check(um_datalink_open(&p.sides[0], &info) == UM_END_DONE, "a call of layer 3");
+	fill(&p, 1);
+	for (int i = 1; i < 12; i++) {
+		check(i % 2 ? sends(&p, 0, "\x01\x3f\x05\x01", 4) : is_free(&p, 0), "a SABM every second slot");
+		slot(&p, 1);
+	}
+	check(is_free(&p, 0) && p.given_up[0].notice_count == 0, "T200 of the last SABM runs");
+	slot(&p, 0);
+	check(is_free(&p, 0) && reports(&p.given_up[0], 0, UM_ENDED, 0) && p.given_up[0].notices[0].reason == UM_FAILED, "given up");
+}
+
+/* SAPI 3: SAPI 0 goes first, a SABM finds a closed end afresh, and local end release. */
+static void test_sapi3(void)
+{
+	pair p;
+	um_message m = message_of(7, 3);
+	open_both(&p, UM_SDCCH);
+	check(um_datalink_open_bare(&p.sides[1]) == UM_END_DONE, "the network opens SAPI 3");
+	check(um_datalink_send(&p.sides[1], 0, &m) == UM_END_DONE, "a call of layer 3");
+	fill(&p, 0);
+	check(sends(&p, 1, "\x03\x00\x0d\x07\x07\x07", 6), "SAPI 0 goes first");
+	slot(&p, 0);
+	check(sends(&p, 1, "\x0f\x3f\x01", 3) && sends(&p, 0, "\x03\x21\x01", 3), "then the SABM of SAPI 3");
+	slot(&p, 0);
+	check(reports(&p.reports[0], 3, UM_OPENED, 0) && sends(&p, 0, "\x0f\x73\x01", 3), "its UA");
+	slot(&p, 0);
+	check(reports(&p.reports[1], 3, UM_OPENED, 0), "SAPI 3 is open");
+	check(um_datalink_close(&p.sides[0], 3) == UM_END_DONE, "the mobile releases SAPI 3");
+	fill(&p, 0);
+	check(sends(&p, 0, "\x0d\x53\x01", 3), "DISC");
+	slot(&p, 0);
+	check(reports(&p.reports[1], 3, UM_ENDED, 0) && sends(&p, 1, "\x0d\x73\x01", 3), "UA, ended");
+	slot(&p, 0);
+	check(reports(&p.reports[0], 3, UM_ENDED, 0), "ended");
+	check(um_datalink_open_bare(&p.sides[0]) == UM_END_DONE, "the mobile opens it again");
+	fill(&p, 0);
+	check(sends(&p, 0, "\x0d\x3f\x01", 3), "a second SABM");
+	slot(&p, 0);
+	check(reports(&p.reports[1], 3, UM_OPENED, 0) && sends(&p, 1, "\x0d\x73\x01", 3), "a closed end starts afresh");
+	check(um_datalink_close_local(&p.sides[1], 3) == UM_END_DONE && p.sides[1].link3.end.state == UM_IDLE, "local end release");
+}
+
+/* A mobile drops SAPI 3 while SAPI 0 is not established; on SACCH the caller says whether it is. Layer 1 octets are the caller's. */
+static void test_order_of_links(void)
+{
+	pair p;
+	start(&p, UM_SDCCH);
+	check(um_datalink_open_bare(&p.sides[1]) == UM_END_DONE, "a call of layer 3");
+	fill(&p, 0);
+	check(sends(&p, 1, "\x0f\x3f\x01", 3), "a SABM of SAPI 3");
+	slot(&p, 0);
+	check(p.reports[0].notice_count == 0 && is_free(&p, 0) && p.sides[0].link3.end.state == UM_IDLE, "the mobile drops it");
+	start(&p, UM_SACCH);
+	check(um_datalink_open_bare(&p.sides[1]) == UM_END_DONE, "a call of layer 3");
+	fill(&p, 0);
+	check(sends(&p, 1, "\x0f\x3f\x01", 3), "the layer 1 octets are those given");
+	check(um_datalink_main(&p.sides[0], true) == UM_END_DONE, "SAPI 0 of the main channel is established");
+	slot(&p, 0);
+	check(reports(&p.reports[0], 3, UM_OPENED, 0) && sends(&p, 0, "\x0f\x73\x01", 3), "the mobile takes it");
+	um_message m = message_of(6, 2);
+	uint8_t block[23];
+	check(um_datalink_unit(&p.sides[1], 0, &m, L1, block) == UM_END_DONE && !memcmp(block, "\x5a\xa5\x03\x03\x09\x06\x06\x2b", 8), "UI");
+}
+
+static void test_refusals(void)
+{
+	um_datalink a, b;
+	um_report report;
+	uint8_t block[23] = { 0 };
+	um_message empty = message_of(0, 0), info = message_of(1, 1);
+	memset(&a, 0xee, sizeof a);
+	memset(&report, 0xee, sizeof report);
+	b = a;
+	check(!um_datalink_new(&a, 2, UM_SDCCH, 2, 4) && !um_datalink_new(&a, UM_MOBILE, 2, 2, 4), "no such role or channel");
+	check(!um_datalink_new(&a, UM_MOBILE, UM_SDCCH, 0, 4) && !um_datalink_new(&a, UM_MOBILE, UM_SDCCH, 2, 0), "T200 of 0");
+	check(!memcmp(&a, &b, sizeof a) && !um_datalink_valid(&a), "nothing is written, and that is no data link");
+	check(um_datalink_next(&a, L1, block, &report) == UM_END_NONE && um_datalink_take(&a, block, &report) == UM_END_NONE, "no data link");
+	check(um_datalink_open_bare(&a) == UM_END_NONE && um_datalink_main(&a, true) == UM_END_NONE, "no data link");
+	check(um_datalink_new(&a, UM_NETWORK, UM_SDCCH, 2, 4) && um_datalink_valid(&a), "a data link");
+	b = a;
+	check(um_datalink_open(&a, &info) == UM_END_NO_CALL && um_datalink_send(&a, 1, &info) == UM_END_NO_CALL, "no such call");
+	check(um_datalink_close(&a, 3) == UM_END_NOT_OPEN && um_datalink_close_local(&a, 2) == UM_END_NO_CALL, "not open, no such SAPI");
+	check(um_datalink_unit(&a, 0, &empty, L1, block) == UM_END_EMPTY, "an empty message");
+	check(um_datalink_take(&a, block, &report) == UM_END_NO_FRAME && !memcmp(&a, &b, sizeof a), "no frame, and nothing changes");
+	b.link3.end.role = UM_MOBILE;
+	check(!um_datalink_valid(&b), "two roles");
+	b = a;
+	b.link0.t200 = 0;
+	check(!um_datalink_valid(&b), "a T200 of 0");
+	b = a;
+	b.link0.owed = 1;
+	check(!um_datalink_valid(&b), "an answer that is none");
+	memset(b.link0.answer, 0x2b, 23);
+	memcpy(b.link0.answer, "\x01\x73\x01", 3);
+	check(um_datalink_valid(&b), "a UA");
+	memcpy(b.link0.answer, "\x03\x53\x01", 3);
+	check(!um_datalink_valid(&b), "a DISC is no answer");
+}
+
+int main(void)
+{
+	test_message();
+	test_loss();
+	test_give_up();
+	test_sapi3();
+	test_order_of_links();
+	test_refusals();
+	return failed;
+}

@@ -1,0 +1,3 @@
+from typing import Tuple
+
+def each(name: str, address: int, count: int, columns: Tuple[Tuple[int, int], ...]) -> int: ...

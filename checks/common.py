@@ -1,0 +1,38 @@
+"""Functions that the checks in Python share, as those in common.sh."""
+import os
+import shutil
+import subprocess
+import sys
+
+TOP = os.path.join(os.path.dirname(os.path.abspath(__file__)), "..")
+CHECK = os.path.basename(sys.argv[0])
+
+
+def skip(part, reason):
+    """Tells that a part of the check is left out; checks/run counts such lines, and checks/may_skip lists some."""
+    print(f"{CHECK}: skipped: {part}: {reason}", flush=True)
+
+
+def skip_all(reason):
+    """Ends a check that tested nothing."""
+    skip("everything", reason)
+    sys.exit(77)
+
+
+def needs(*tools):
+    for tool in tools:
+        if not shutil.which(tool):
+            skip_all(f"no {tool} here")
+
+
+def lack_of_program():
+    """Why ./um starts no program here, or nothing."""
+    done = subprocess.run([os.path.join(TOP, "um"), "make", "1", "0"], stdin=subprocess.DEVNULL, capture_output=True, text=True, check=False)
+    said = done.stderr.strip().removeprefix("um: ").split(", ")[0].split(": ")[0]
+    return f"no program here: {said}" if done.returncode == 127 else ""
+
+
+def needs_program():
+    reason = lack_of_program()
+    if reason:
+        skip_all(reason)

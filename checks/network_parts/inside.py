@@ -1,0 +1,77 @@
+"""Runs in a network namespace of its own, as its first process: starts the Osmocom programs and the cell in the working directory, and
+prints the account as JSON. When it ends, the kernel ends all that it started. Its argument is the options, as JSON (runs.py)."""
+import fcntl
+import json
+import os
+import random
+import shutil
+import socket
+import sqlite3
+import struct
+import subprocess
+import sys
+import time
+import types
+
+HERE = os.path.dirname(os.path.abspath(__file__))
+ROOT = os.path.dirname(os.path.dirname(HERE))
+sys.path[:0] = [os.path.join(ROOT, "bindings", "python"), os.path.join(ROOT, "examples", "network"), HERE]
+SUBSCRIBERS = 100
+
+
+def raise_loopback():
+    """Sets the flags UP and RUNNING of the interface lo."""
+    with socket.socket(socket.AF_INET, socket.SOCK_DGRAM) as any_socket:
+        fcntl.ioctl(any_socket, 0x8914, struct.pack("16sH14x", b"lo", 0x41))
+
+
+def start(name, preload, ahead):
+    """Starts a program of Osmocom, with its messages in a file."""
+    environment = dict(os.environ, LD_PRELOAD=":".join(filter(None, preload)))
+    with open(name + ".log", "wb") as log:
+        return subprocess.Popen([*ahead, name, "-c", os.path.join(HERE, "cfg", name + ".cfg")], stdout=log, stderr=log, env=environment)
+
+
+def await_line(file, text, seconds):
+    for _ in range(int(seconds * 5)):
+        if text in open(file, errors="replace").read():
+            return True
+        time.sleep(0.2)
+    return False
+
+
+def create_subscribers():
+    subprocess.run(["osmo-hlr-db-tool", "-l", "hlr.db", "create"], check=True, capture_output=True)
+    with sqlite3.connect("hlr.db") as database:
+        rows = [("00101%010d" % index, str(10000 + index)) for index in range(SUBSCRIBERS)]
+        database.executemany("insert into subscriber (imsi, msisdn) values (?, ?)", rows)
+
+
+def realtime():
+    """The words that start a program with realtime priority, for the clock's sake, where that is allowed. This process takes it, too."""
+    words = ("chrt", "-f", "1")
+    if not shutil.which("chrt") or subprocess.run([*words, "true"], capture_output=True).returncode:
+        return ()
+    os.sched_setscheduler(0, os.SCHED_FIFO, os.sched_param(1))
+    return words
+
+
+def main():
+    options = types.SimpleNamespace(**json.loads(sys.argv[1]))
+    random.seed(options.seed)
+    raise_loopback()
+    create_subscribers()
+    ahead = realtime()
+    for name in ("osmo-stp", "osmo-hlr", "osmo-mgw", "osmo-msc", "osmo-bsc"):
+        start(name, [options.sctp], ahead)
+        time.sleep(0.3)
+    if not await_line("osmo-bsc.log", "BSSMAP assocation is up", 30):  # the controller's own spelling
+        sys.exit("osmo-bsc and osmo-msc did not connect")
+    from cell import Cell
+
+    cell = Cell(options)
+    cell.station = start("osmo-bts-trx", [options.preload if options.station else "", options.sctp], ahead)
+    print(json.dumps(cell.run()))
+
+
+main()

@@ -1,0 +1,230 @@
+"""Runs of the network, each in a namespace of its own: what checks/network tests, one run with options, one session to read, and a table.
+
+    checks/network [run OPTIONS | show | long SESSIONS]"""
+import argparse
+import collections
+import concurrent.futures
+import json
+import os
+import shutil
+import signal
+import subprocess
+import sys
+import tempfile
+
+INSIDE = os.path.join(os.path.dirname(os.path.abspath(__file__)), "inside.py")
+MEMORY = "/dev/shm"  # the programs wait for each write of their data bases
+TRIES = 3  # of a run that the base station itself ends
+OPTIONS = (
+    ("sessions", 40, "sessions that mobiles begin, besides answers to pages"), ("mobiles", 20, "mobiles"),
+    ("busy", 12, "mobiles that have a session at a time"), ("kinds", "update message message detach", "what they choose from"),
+    ("text", "", "text of each short message; without it random octets"), ("linger", 0, "frames to wait for pages after the last session"),
+    ("seconds", 300.0, "longest run"), ("seed", 1, "seed"), ("block", 0.0, "share of blocks lost"), ("burst", 0.0, "share of bursts lost"),
+    ("bit", 0.0, "share of bits flipped"), ("noise", 0.0, "standard deviation of noise added to the bits, which are -1 and 1"),
+    ("twins", 0.0, "share of accesses that a second mobile makes too, so that both contend for the channel"),
+    ("t200", 2, "T200 of the mobiles on SAPI 0, in slots"), ("t200_sapi3", 2, "the same on SAPI 3"),
+    ("among", 64, "words that a mobile tries for a block"),
+    ("station", 0, "words that the base station tries, by libum_osmo.so; 0: it decodes by libosmocoding"),
+    ("show", 0, "1: print each event"),
+)
+DEFAULTS = {name: default for name, default, _ in OPTIONS}
+QUICK = (("noise and lost blocks", dict(noise=0.65, block=0.03, twins=0.1)),)
+FULL = (
+    ("noise and lost blocks", dict(noise=0.65, block=0.03, twins=0.1)),
+    ("lost blocks and bursts", dict(block=0.05, burst=0.1, twins=0.2)),
+    ("4 % of bits flipped, the base station with libum_osmo.so", dict(bit=0.04, station=64)),
+    ("noise of sigma 0.75, the base station with libum_osmo.so", dict(noise=0.75, station=64)),
+)
+LONG = (
+    ("clear", {}), ("10 % of blocks lost", dict(block=0.1)), ("20 % of bursts lost", dict(burst=0.2)),
+    ("4 % of bits flipped", dict(bit=0.04)), ("noise, sigma 0.7", dict(noise=0.7)),
+)
+TIMES = ((2, 2), (2, 4), (4, 6))  # T200 on SAPI 0 and SAPI 3
+NOISY = (("4 % of bits flipped", dict(bit=0.04)), ("noise, sigma 0.75", dict(noise=0.75)))
+DECODERS = ((0, "libosmocoding"), (1, "`um`, one word"), (64, "`um`, 64 words"))
+
+
+class Run:
+    """One run with these options, until it is whole or was tried three times. `results` are the accounts of all tries."""
+
+    def __init__(self, given, options):
+        self.options, self.results, self.failure = {**DEFAULTS, **options}, [], ""
+        for number in range(TRIES):
+            self._start(given, dict(self.options, seed=self.options["seed"] + number))
+            if self.failure or not self.results[-1]["ended"]:
+                break
+
+    def _start(self, given, options):
+        environment = dict(os.environ, UM_OSMO_AMONG=str(options["station"] or 1))
+        options = json.dumps(dict(options, sctp=given.sctp, preload=given.preload))
+        folder = tempfile.mkdtemp(prefix="network-", dir=MEMORY if os.access(MEMORY, os.W_OK) else None)
+        try:
+            child = subprocess.Popen([*given.own.split(), sys.executable, INSIDE, options], cwd=folder, env=environment,
+                                     stdout=subprocess.PIPE, text=True)
+            try:
+                for line in child.stdout:
+                    if line.startswith("{"):
+                        self.results.append(json.loads(line))
+                    else:
+                        print(line, end="", flush=True)
+                self.failure = "" if child.wait() == 0 else f"status {child.returncode}"
+            finally:
+                child.kill()
+        finally:
+            if given.keep:
+                print(f"network: logs in {folder}")
+            else:
+                shutil.rmtree(folder, ignore_errors=True)
+
+    def total(self, name):
+        """The counts of the last try."""
+        return collections.Counter(self.results[-1][name] if self.results else {})
+
+    @property
+    def whole(self):
+        return bool(self.results) and not self.results[-1]["ended"]
+
+    @property
+    def wrong(self):
+        """What was wrong in all tries."""
+        return [text for result in self.results for text in result["wrong"]]
+
+    @property
+    def outcomes(self):
+        """How many sessions of the last try ended in each way; one that lost contention was another mobile's."""
+        counts = collections.Counter()
+        for _, how, count in self.results[-1]["outcomes"] if self.results else ():
+            counts[how] += count
+        return counts
+
+    @property
+    def share(self):
+        counts = self.outcomes
+        return counts["complete"] / max(1, sum(counts.values()) - counts["contention"])
+
+    def rejected(self):
+        """The share of the uplink's blocks that the base station rejected."""
+        blocks = self.total("blocks")
+        return (blocks["ar"] + blocks["rr"]) / max(1, sum(blocks.values()))
+
+    def saved(self):
+        """How many blocks the base station accepted of those that `um` rejects with one word, and how many these are."""
+        blocks = self.total("blocks")
+        return blocks["ra"], blocks["ra"] + blocks["rr"]
+
+
+def told(name, run):
+    """Prints a run in a line or two. Its status: 0, 1 if something is wrong, 77 if the base station ended itself in each try."""
+    counts = run.outcomes
+    others = ", ".join(f"{count} {how}" for how, count in counts.most_common() if how != "complete")
+    print(f"network: {name}: {counts['complete']} sessions complete ({others or 'no other'}), {len(run.wrong)} wrong; "
+          f"{run.total('counts')['short messages received']} short messages received; "
+          f"the base station rejected {100 * run.rejected():.1f} % of the uplink's blocks")
+    ended = sum(result["ended"] for result in run.results)
+    if ended and run.whole:
+        print(f"network: {name}: the base station ended itself in {ended} tries before (load {os.getloadavg()[0]:.0f}): "
+              + run.results[0]["reason"])
+    for text in run.wrong[:20]:
+        print("  wrong: " + text)
+    if run.wrong:
+        return 1
+    if run.failure or not run.results:
+        print(f"network: {name}: the network did not start or the run failed: {run.failure}")
+        return 1
+    if not run.whole:
+        print(f"network: skipped: machine too busy: the base station ended itself in each of {TRIES} tries of: {name}: "
+              + run.results[-1]["reason"])
+        return 77
+    if run.results[-1]["unfinished"]:
+        print(f"network: {name}: sessions were not over after {run.options['seconds']:.0f} s")
+        return 1
+    if run.share < 0.5:
+        print(f"network: {name}: only {100 * run.share:.0f} % of the sessions are complete; expected at least half")
+        return 1
+    return 0
+
+
+def check(given):
+    statuses = set()
+    for name, options in QUICK if os.environ.get("QUICK") == "quick" else FULL:
+        if options.get("station") and not given.preload:
+            print(f"network: skipped: {name}: no make or no cc here")
+            continue
+        run = Run(given, options)
+        status = told(name, run)
+        saved, lost = run.saved()
+        if status == 0 and options.get("station"):
+            print(f"network: {name}: it accepted {saved} of the {lost} blocks that are lost with one word")
+            status = int(lost < 20 or saved < 0.75 * lost)
+        statuses.add(status)
+    return 1 if 1 in statuses else 0 if 0 in statuses else 77
+
+
+def long_run(given, options):
+    """A run for a table; its details are printed on standard error."""
+    run = Run(given, dict(options, seconds=60 + 3 * options["sessions"]))
+    print(f"{options}: {len(run.wrong)} wrong; tries {len(run.results)}; load {os.getloadavg()[0]:.1f}; "
+          f"{dict(run.total('counts'))}; {dict(run.total('blocks'))}", *run.wrong, sep="\n  wrong: ", file=sys.stderr, flush=True)
+    return run
+
+
+def tables(given):
+    """The rows of the tables in docs/INTEROP.md. The status is 1 if a run is not whole or something is wrong."""
+    sessions = given.number // (len(LONG) * len(TIMES))
+    rows = [(name, f"{times[0]}, {times[1]}", dict(options, sessions=sessions, t200=times[0], t200_sapi3=times[1], twins=0.1, among=1))
+            for name, options in LONG for times in TIMES]
+    rows += [(name, decoder, dict(options, sessions=sessions, station=words)) for name, options in NOISY for words, decoder in DECODERS]
+    with concurrent.futures.ThreadPoolExecutor(given.jobs) as jobs:
+        runs = list(jobs.map(lambda row: long_run(given, row[2]), rows))
+    print("| Air | T200 | sessions | complete | why the others were not | uplink blocks | rejected by `um` alone | by osmo-bts alone |")
+    print("|-|-|-|-|-|-|-|-|")
+    for (name, what, options), run in zip(rows, runs):
+        counts, blocks = run.outcomes, run.total("blocks")
+        if (name, what) == (NOISY[0][0], DECODERS[0][1]):
+            print("\n| Air | The base station decodes by | sessions | complete | uplink blocks | rejected |\n|-|-|-|-|-|-|")
+        others = ", ".join(f"{count} {how}" for how, count in counts.most_common() if how not in ("complete", "contention"))
+        print(f"| {name} | {what} | {sum(counts.values()) - counts['contention']} | {100 * run.share:.1f} %", end=" | ")
+        print(f"{sum(blocks.values())} | {100 * run.rejected():.2f} % |" if "station" in options else
+              f"{others} | {sum(blocks.values())} | {blocks['ra']} | {blocks['ar']} |")
+    print(f"\n{sum(sum(run.outcomes.values()) for run in runs)} sessions, {sum(len(run.wrong) for run in runs)} wrong, "
+          f"{sum(run.total('counts')['messages that osmo-bts cut'] for run in runs)} messages that osmo-bts cut")
+    return int(any(run.wrong or not run.whole for run in runs))
+
+
+def act(given):
+    """The status of what is asked for."""
+    if given.what == "check":
+        return check(given)
+    if given.what == "long":
+        return tables(given)
+    options = {name: getattr(given, name) for name in DEFAULTS}
+    if given.what == "show":
+        options.update(sessions=2, mobiles=1, kinds="message", text="hello from um", linger=2000, show=1)
+    run = Run(given, options)
+    status = told("run", run)
+    for how, count in sorted((run.total("counts") + run.total("blocks")).items()):
+        print(f"{count:7} {how}")
+    return status
+
+
+def main():
+    signal.signal(signal.SIGTERM, lambda *_: sys.exit(1))
+    parser = argparse.ArgumentParser(prog="checks/network", usage="checks/network [run OPTIONS | show | long SESSIONS]",
+                                     formatter_class=argparse.RawDescriptionHelpFormatter, description=__doc__.split("\n")[0])
+    parser.add_argument("what", nargs="?", choices=("check", "run", "show", "long"), default="check",
+                        help="run: one run with options; show: one mobile, message by message; long: the table of docs/INTEROP.md")
+    parser.add_argument("number", nargs="?", type=int, default=2000, help="sessions of the table (2000)")
+    for name in ("own", "work", "sctp", "preload"):
+        parser.add_argument("--" + name, help=argparse.SUPPRESS)
+    parser.add_argument("--jobs", type=int, default=1, help="runs of the table at a time (1)")
+    parser.add_argument("--keep", action="store_true", help="keep the logs")
+    for name, default, text in OPTIONS:
+        parser.add_argument("--" + name, type=type(default), default=default, help=f"{text} ({default})")
+    given = parser.parse_args()
+    try:
+        sys.exit(act(given))
+    finally:
+        shutil.rmtree(given.work, ignore_errors=True)
+
+
+main()

@@ -1,0 +1,153 @@
+"""The mobile of examples/network, with all that it reports tested, at that time, against what the network says of itself on Abis."""
+import random
+
+from mobile import Mobile
+from tdma import LOST, common_place, dedicated_place
+
+BSIC, TSC = 13, 5  # as in osmo-bsc.cfg
+
+
+class Watched(Mobile):
+    def __init__(self, cell, index):
+        self.cell, self.index, self.ahead, self.truth = cell, index, random.randrange(1000000), None
+        self.twin, self.alone = None, True
+        super().__init__("00101%010d" % index, self._say, cell.options.among, (cell.options.t200, cell.options.t200_sapi3))
+
+    def _say(self, text):
+        self.cell.log(self.index, text)
+        self.expect(not text.startswith("not a frame"), text)
+
+    def expect(self, holds, text):
+        self.cell.expect(holds, f"mobile {self.index}: {self.kind}: {text}")
+
+    # -- bursts and blocks
+
+    def place(self, fn):
+        return common_place(fn, True) if self.channel is None else dedicated_place(self.channel, fn)
+
+    def frame(self, fn):
+        """Hears what the base station sent on timeslot `tn` in this frame. The mobile's own count of frames is another."""
+        if self.channel is not None and self.truth is not self.cell.rsl.truths[self.channel]:
+            self.ended("channel given to another")
+        name, at = self.place(fn) or (None, 0)
+        burst = self.cell.recent[self.tn, fn % 8]
+        soft = self.cell.air.carry(burst, (self.index, name), fn - at) if burst else None
+        self.hear(fn + self.ahead, soft or LOST)
+        self.expect(self.offset is None or (self.fn, self.bsic) == (fn, BSIC), f"frame {self.fn}, BSIC {self.bsic} in frame {fn}")
+
+    def hear_block(self, name, report):
+        self.cell.counts[f"blocks {'accepted' if report.accepted else 'rejected'} on {name}"] += 1
+        if report.accepted:
+            sent = self.cell.sent_block(self.tn, self.fn)
+            if sent is None:  # a channel that begins within a block: the base station sent other bursts before
+                self.cell.counts["blocks accepted of which not all bursts were sent"] += 1
+            self.expect(sent in (None, report.accepted) and report.tsc == TSC, f"{name}: {report.accepted.hex()}, tsc {report.tsc}")
+            if name == "bcch" or name == "ccch" and report.accepted[2] == 0x3F:
+                known = report.accepted in self.cell.rsl.common or not any(report.accepted)  # zeros until the controller gave a block
+                self.expect(known, f"{name}: {report.accepted.hex()}")
+        super().hear_block(name, report)
+
+    def heard_slow(self, frame):
+        known = any(message[1:].startswith(frame.info) for message in self.cell.rsl.filling)
+        self.expect(frame.kind == "ui" and known, f"sacch: {frame}")
+
+    def _report(self):
+        block = super()._report()
+        self.reported.append(bytes([(block[0] & 31) << 3, block[1]]) + block[5:])
+        return block
+
+    # -- the session
+
+    def begin(self, kind, first):
+        super().begin(kind, first)
+        self.twin, self.alone, self.truth = None, True, None
+
+    def follow(self, leader):
+        """Takes the leader's assignment for its own, so that both contend for one channel."""
+        leader.twin, self.next_access = self, self.fn + 2000
+
+    def speak(self):
+        burst = super().speak()
+        if burst and self.twin and self.channel is None:
+            self.twin.accesses = list(self.accesses)
+        return burst
+
+    def _assigned(self, channel):
+        self.truth = self.cell.rsl.truths[channel]
+        for other in self.cell.mobiles:  # another took it, too
+            if other is not self and other.truth is self.truth:
+                self.alone = other.alone = False
+        # of each link: what the network got of it and sent on it, and where in these lists it began and is now
+        self.ours, self.theirs, self.base, self.taken = dict(self.truth.up), dict(self.truth.down), {0: 0, 3: 0}, {0: 0, 3: 0}
+        self.sent, self.acked, self.reported = {0: [], 3: []}, {0: 0, 3: 0}, []
+        super()._assigned(channel)
+
+    def ended(self, how):
+        if self.truth:
+            self.cell.counts["measurement results"] += len(self.truth.results)
+            sent = iter(self.reported)
+            self.expect(not self.alone or all(result in sent for result in self.truth.results), "measurement results")
+            for sapi in (0, 3) if self.truth.opened.get(0) == self.first else ():
+                up = self.ours[sapi][self.base[sapi] :]
+                self.expect(up == self.sent[sapi][: len(up)], f"the network got {[message.hex() for message in up]}")
+            opened = self.truth.opened.get(0)
+            if how != "complete" and opened not in (None, self.first):
+                how = "contention"  # if not by the UA, the mobile learned it by a DM, or when the channel went
+            elif how == "refused" and opened:
+                how = "refused, though the network had opened the link"
+        self.cell.outcomes[self.kind, how] += 1
+        super().ended(how)
+
+    # -- notices
+
+    def notice(self, sapi, notice):
+        kind, value = notice
+        self.cell.counts[f"notices {kind}"] += 1
+        self._say(f"{kind} {sapi} {value.hex() if isinstance(value, bytes) else value}")
+        if getattr(self, f"_{kind}")(sapi, value):
+            super().notice(sapi, notice)
+
+    def _opened(self, sapi, _):
+        truth = self.truth
+        self.expect(sapi in truth.opened and (sapi == 3 or truth.opened[0] == self.first), f"opened {sapi}")
+        if self.theirs[sapi] is not truth.down[sapi]:
+            self.theirs[sapi], self.taken[sapi] = truth.down[sapi], 0
+        self.ours[sapi], self.base[sapi], self.sent[sapi], self.acked[sapi] = truth.up[sapi], len(truth.up[sapi]), [], 0
+        return True
+
+    def _acked(self, sapi, _):
+        self.acked[sapi] += 1
+        count = self.acked[sapi]
+        self.expect(self.ours[sapi][self.base[sapi] :][:count] == self.sent[sapi][:count], f"acked {sapi}")
+        return True
+
+    def _got(self, sapi, message):
+        """Tests that it is the network's next one. osmo-bts cuts a message if it takes a repeated SABM for a new one."""
+        wanted = self.theirs[sapi][self.taken[sapi] :]
+        if sapi in self.truth.reopened:
+            while wanted and not wanted[0].endswith(message):
+                wanted.pop(0)
+        whole = wanted[:1] == [message]
+        self.cell.counts["messages that osmo-bts cut"] += not whole
+        self.expect(whole or (wanted and sapi in self.truth.reopened), f"got {sapi} {message.hex()}")
+        self.taken[sapi] = len(self.theirs[sapi]) - len(wanted) + 1
+        return whole
+
+    def _closed(self, sapi, reason):
+        opened = self.truth.opened.get(sapi, "no link")
+        self.expect(reason != "contention" or opened not in ("no link", self.first), "contention")
+        self.expect(reason != "released" or sapi in self.truth.released, f"released {sapi}")
+        return True
+
+    def _unit(self, sapi, message):
+        self.expect(False, f"unit {sapi} {message.hex()}")
+
+    def _oversize(self, sapi, _):
+        self.expect(False, f"oversize {sapi}")
+
+    def send(self, sapi, message):
+        self.sent[sapi].append(super().send(sapi, message))
+
+    def received(self, message):
+        self.cell.counts["short messages received"] += 1
+        self.expect(any(message.endswith(text) for text in self.cell.texts), f"short message {message.hex()}")

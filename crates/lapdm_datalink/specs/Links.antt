@@ -1,0 +1,213 @@
+-- One link of a data link: an endpoint, the answer that it owes, and T200 in slots. A link has no queue: what it sends in a slot is a
+-- function of this state. T200 is that of GSM 04.06, section 5.8.1; all other rules here are this project's own.
+use Rattle.std.specs.Prelude.{ℕ, ◌-◌, Bool, true, false, not, ◌&&◌, ◌||◌, if◌then◌else◌, nat_eq, List, [], ◌∷◌}
+use Rattle.std.specs.Prelude.{Option, Some}
+use Rattle.std.specs.Prelude.{None}
+use Rattle.lapdm_frame.specs.Content.{Content, I, Rr, Sabm, Dm, Ui, Disc, Ua, Frame}
+use Rattle.lapdm_end.specs.lapdm_window.declared.Sapi.{Sapi}
+use Rattle.lapdm_end.specs.lapdm_window.declared.Sapi.TheVariants.{Zero, Three}
+use Rattle.lapdm_end.specs.lapdm_window.declared.State.{State}
+use Rattle.lapdm_end.specs.lapdm_window.declared.State.TheVariants.{Opening, Closing, Closed}
+use Rattle.lapdm_end.specs.lapdm_window.declared.Notice.{Notice}
+use Rattle.lapdm_end.specs.lapdm_window.segmenting.Segments.{Message}
+use Rattle.lapdm_end.specs.lapdm_window.Ends.{EndpointState, Outcome, initial_endpoint, awaits_answer, command_frame}
+use Rattle.lapdm_end.specs.lapdm_window.Rules.{is_open}
+use Rattle.lapdm_end.specs.lapdm_window.Tables.{frame_outcome, is_command}
+use Rattle.lapdm_end.specs.lapdm_window.Calls.{Call, OpensWithoutInfo, awaited_frame, t200_expiry, call_outcome}
+use Rattle.lapdm_link.specs.Worlds.{rej_replaced_by_rr}
+
+-- the state of a link
+pub record LinkState : Type 0 where
+  pub endpoint : EndpointState
+  -- T200 in slots
+  pub t200 : ℕ
+  -- the answer (UA, DM, RR or REJ) that waits for a slot
+  pub answer : Option Frame
+  -- whether the frame that awaits an answer has been sent
+  pub is_sent : Bool
+  -- the slots until that frame is due; it is due at 0
+  pub clock : ℕ
+
+-- a link with this endpoint and T200 that has sent nothing
+abbrev pub link_with : (endpoint : EndpointState) (t200 : ℕ) → LinkState
+link_with e t = record { endpoint = e; t200 = t; answer = None; is_sent = false; clock = 0 }
+
+-- the link afresh: with the initial endpoint of its role, SAPI and channel
+abbrev pub afresh : LinkState → LinkState
+afresh l = link_with (initial_endpoint l.endpoint.role l.endpoint.sapi l.endpoint.channel) l.t200
+
+-- ---- what the endpoint returns
+
+-- whether a frame with this content awaits an answer
+abbrev pub is_awaiting_kind : Content → Bool
+is_awaiting_kind (I ns nr p more info) = true
+is_awaiting_kind (Sabm p info) = true
+is_awaiting_kind (Disc p) = true
+is_awaiting_kind other = false
+
+-- the link after its endpoint returns this frame: a frame that awaits an answer is due now, and any other replaces the answer owed
+abbrev pub with_frame : Frame → LinkState → LinkState
+with_frame f l = if is_awaiting_kind f.content then record l { is_sent = false; clock = 0 } else record l { answer = Some f }
+
+-- the link after its endpoint returns these frames, in order
+abbrev pub with_frames : List Frame → LinkState → LinkState
+with_frames [] l = l
+with_frames (f ∷ fs) l = with_frames fs (with_frame f l)
+
+-- the link after its endpoint has this outcome
+abbrev pub with_outcome : Outcome → LinkState → LinkState
+with_outcome o l = with_frames o.frames (record l { endpoint = o.new_state })
+
+-- ---- a second opening of SAPI 3 finds the link afresh
+
+-- whether the state is Closed
+abbrev pub is_closed : State → Bool
+is_closed Closed = true
+is_closed other = false
+
+-- whether the call or frame opens the link of SAPI 3
+abbrev pub is_opening_call : Call → Bool
+is_opening_call OpensWithoutInfo = true
+is_opening_call other = false
+
+abbrev pub is_opening_content : Content → Bool
+is_opening_content (Sabm p []) = true
+is_opening_content other = false
+
+abbrev pub is_sapi3 : Sapi → Bool
+is_sapi3 Zero = false
+is_sapi3 Three = true
+
+-- whether a link is closed and opened again by this call, or by this received frame
+abbrev pub is_reopened_by_call : Call → LinkState → Bool
+is_reopened_by_call call l = is_closed l.endpoint.state && is_opening_call call
+
+abbrev pub is_reopened_by_frame : Frame → LinkState → Bool
+is_reopened_by_frame f l =
+    is_sapi3 l.endpoint.sapi && is_closed l.endpoint.state && is_opening_content f.content && is_command l.endpoint f
+
+-- the link as a call, or a received frame, finds it
+abbrev pub for_call : Call → LinkState → LinkState
+for_call call l = if is_reopened_by_call call l then afresh l else l
+
+abbrev pub for_frame : Frame → LinkState → LinkState
+for_frame f l = if is_reopened_by_frame f l then afresh l else l
+
+-- ---- calls and received frames
+
+-- the link after it carries out a call of layer 3
+abbrev pub after_call : Call → LinkState → LinkState
+after_call call l = let m = for_call call l in with_outcome (call_outcome call m.endpoint) m
+
+-- the UI frame that an endpoint sends with this message, which changes nothing
+abbrev pub ui_frame : (m : Message) (endpoint : EndpointState) → Frame
+ui_frame m e = command_frame e (Ui false m)
+
+-- whether a frame with this content answers a SABM or DISC
+abbrev pub is_unnumbered_answer : Content → Bool
+is_unnumbered_answer (Ua f info) = true
+is_unnumbered_answer (Dm f) = true
+is_unnumbered_answer other = false
+
+-- whether the endpoint waits for the answer to a SABM or DISC
+abbrev pub awaits_unnumbered_answer : State → Bool
+awaits_unnumbered_answer Opening = true
+awaits_unnumbered_answer Closing = true
+awaits_unnumbered_answer other = false
+
+-- whether the link ignores a received frame: nothing answers a SABM or DISC that was not sent yet
+abbrev pub ignores : Frame → LinkState → Bool
+ignores f l = is_unnumbered_answer f.content && awaits_unnumbered_answer l.endpoint.state && not l.is_sent
+
+-- what the endpoint does with a received frame; a REJ counts as an RR
+abbrev pub received_outcome : Frame → LinkState → Outcome
+received_outcome f l = frame_outcome (record f { content = rej_replaced_by_rr f.content }) l.endpoint
+
+-- the link after it receives a frame of its SAPI
+abbrev pub after_frame : Frame → LinkState → LinkState
+after_frame f l = if ignores f l then l else (let m = for_frame f l in with_outcome (received_outcome f m) m)
+
+-- the notices that the link reports then
+abbrev pub frame_notices : Frame → LinkState → List Notice
+frame_notices f l = if ignores f l then [] else (received_outcome f (for_frame f l)).notices
+
+-- ---- what a link sends in a slot
+
+-- the link after a slot has passed
+abbrev pub after_slot : LinkState → LinkState
+after_slot l = record l { clock = l.clock - 1 }
+
+-- whether the frame that awaits an answer is due
+abbrev pub is_due : LinkState → Bool
+is_due l = awaits_answer l.endpoint && nat_eq l.clock 0
+
+-- whether this is the content of an RR with F = 0, which says no more than the N(R) of an I frame
+abbrev pub is_plain_rr : Content → Bool
+is_plain_rr (Rr nr false) = true
+is_plain_rr other = false
+
+-- whether the state is Opening
+abbrev pub is_opening : State → Bool
+is_opening Opening = true
+is_opening other = false
+
+-- whether the own SABM was not sent yet; it goes before the UA to the SABM of the other side
+abbrev pub sabm_goes_first : LinkState → Bool
+sabm_goes_first l = is_due l && is_opening l.endpoint.state && not l.is_sent
+
+-- whether the link keeps back this answer in a slot: an I frame that is due says it, or the own SABM goes first
+abbrev pub keeps_back : Frame → LinkState → Bool
+keeps_back f l = (is_plain_rr f.content && is_due l && is_open l.endpoint.state) || sabm_goes_first l
+
+-- what a link does in a slot: its state afterwards, the frame for the slot, if any, and the notices reported
+pub record SlotOutcome : Type 0 where
+  pub link : LinkState
+  pub frame : Option Frame
+  pub notices : List Notice
+
+-- the first of some frames, if any
+abbrev pub first_frame : List Frame → Option Frame
+first_frame [] = None
+first_frame (f ∷ fs) = Some f
+
+-- the link sends nothing
+abbrev pub sends_nothing : LinkState → SlotOutcome
+sends_nothing l = record { link = l; frame = None; notices = [] }
+
+-- the link sends the answer that it owes
+abbrev pub sends_answer : Frame → LinkState → SlotOutcome
+sends_answer f l = record { link = record l { answer = None }; frame = Some f; notices = [] }
+
+-- the frame that awaits an answer is sent for the first time, made now, and T200 starts
+abbrev pub sends_awaited : LinkState → SlotOutcome
+sends_awaited l = record {
+  link = record l { is_sent = true; clock = l.t200 };
+  frame = Some (awaited_frame false l.endpoint.state l.endpoint);
+  notices = [];
+}
+
+-- T200 has expired: the frame is repeated and T200 starts again, or the link is given up
+abbrev pub expires : LinkState → SlotOutcome
+expires l =
+    let o = t200_expiry l.endpoint in
+    record { link = record l { endpoint = o.new_state; clock = l.t200 }; frame = first_frame o.frames; notices = o.notices }
+
+-- the link without the answer that the frame that is due makes needless
+abbrev pub without_needless_answer : LinkState → LinkState
+without_needless_answer l = if sabm_goes_first l then l else record l { answer = None }
+
+-- the link sends the frame that is due, if one is
+abbrev pub sends_due_frame : LinkState → SlotOutcome
+sends_due_frame l =
+    if is_due l
+    then (let m = without_needless_answer l in if l.is_sent then expires m else sends_awaited m)
+    else sends_nothing l
+
+-- what the link does in a slot that it may use, given the answer that it owes: it sends this answer, or the frame that is due
+abbrev pub slot_outcome_owing : (answer : Option Frame) (link : LinkState) → SlotOutcome
+slot_outcome_owing None l = sends_due_frame l
+slot_outcome_owing (Some f) l = if keeps_back f l then sends_due_frame l else sends_answer f l
+
+-- what the link does in a slot that it may use
+abbrev pub slot_outcome : LinkState → SlotOutcome
+slot_outcome l = slot_outcome_owing l.answer l

@@ -1,0 +1,256 @@
+//! A data link: both links of one side of a channel, slot by slot.
+
+ghost use Rattle.std.specs.Prelude.{◌≡◌, ◌≢◌, Option, Some, None, IfSome, IfNone, IfOk, OnOk, OnErr};
+ghost use Rattle.std.specs.Option.{option_map};
+ghost use Rattle.std.specs.Result.{result_err};
+ghost use Rattle.lapdm_frame.specs.Content.{frame_of_view};
+ghost use Rattle.lapdm_frame.specs.Frames.{FrameFits, octets_of};
+ghost use Rattle.lapdm_end.specs.lapdm_window.Calls.{endpoint_call_of, IsCallAllowedFor, SendsUi, refusal_of};
+ghost use Rattle.lapdm_end.specs.lapdm_window.declared.Sapi.TheVariants as P;
+ghost use Rattle.lapdm_end.specs.Addresses.{spec_role_of};
+ghost use Rattle.lapdm_datalink.specs.Links.{afresh, for_call, after_call, after_frame, frame_notices, ui_frame};
+ghost use Rattle.lapdm_datalink.specs.DataLinks.{
+  DataLinkState,
+  initial_data_link,
+  link_with_sapi,
+  with_link,
+  takes_sapi3,
+  holds_up_sapi3,
+  sapi_for_frame,
+  after_arrival,
+  notices_of_taking,
+  with_clocks_moved,
+  data_link_outcome,
+};
+ghost use Rattle.lapdm_datalink.specs.Abstraction.{channel_of as link_channel, role_of as link_role, sapi_of, notices_if};
+
+use crate::links::Link;
+use lapdm_end::{Call, Channel, Effects, Refused, Role, Sapi, State};
+use lapdm_frame::{BLOCK_OCTETS, Body, FrameView};
+
+/// A data link: both links of a mobile or of a network, and what it knows of the slot.
+#[derive(Debug, Drop)]
+pub struct DataLink {
+    pub(crate) link0: Link,
+    pub(crate) link3: Link,
+    // Whether a frame of SAPI 0 other than UI was received since the last slot.
+    pub(crate) heard_sapi0: bool,
+    // On SACCH, whether the link of SAPI 0 on the main channel is established.
+    pub(crate) is_main_established: bool,
+    ghost one_role: { link_role link3 ≡ link_role link0 },
+    ghost one_channel: { link_channel link3 ≡ link_channel link0 },
+    ghost sapi0: { sapi_of link0 ≡ P.Zero },
+    ghost sapi3: { sapi_of link3 ≡ P.Three },
+}
+
+/// What a data link does in a slot.
+#[derive(Clone, Copy, Debug)]
+pub struct Slot {
+    /// The block to send, or `None` if the slot is free.
+    pub block: Option<[u8; BLOCK_OCTETS]>,
+    /// Whether the link of SAPI 0 was given up in this slot: it is closed as failed.
+    pub gave_up0: bool,
+    /// Whether the link of SAPI 3 was given up in this slot.
+    pub gave_up3: bool,
+}
+
+impl DataLink {
+    ghost use Rattle.lapdm_datalink.specs.Sides.{Represents, link_of, other, channel_of, role_of};
+
+    /// Creates a data link with both links in Idle, and T200 of each in slots.
+    pub fn new_on(role: Role, channel: Channel, t200: u8, t200_sapi3: u8) -> DataLink
+        ensures represents { t200 ≢ 0 → t200_sapi3 ≢ 0
+            → Represents result (initial_data_link (spec_role_of role) channel t200 t200_sapi3) }
+        ensures role { role_of result ≡ spec_role_of role }
+        ensures channel { channel_of result ≡ channel }
+    {
+        DataLink {
+            link0: Link::new_on(role, Sapi::Zero, channel, t200),
+            link3: Link::new_on(role, Sapi::Three, channel, t200_sapi3),
+            heard_sapi0: false,
+            is_main_established: false,
+        }
+    }
+
+    /// Carries out a call of layer 3 to the link with this SAPI. A link of SAPI 3 that is closed starts afresh first if the call opens it.
+    /// A
+    /// refused call changes nothing.
+    pub fn call(&mut self, sapi: Sapi, call: &Call<'_>) -> Result<(), Refused>
+        requires { IsCallAllowedFor (role_of self.old) sapi (endpoint_call_of call.now) }
+        ensures refusal { (s : DataLinkState) → Represents self.old s → result_err result
+            ≡ refusal_of (endpoint_call_of call.now) (for_call (endpoint_call_of call.now) (link_with_sapi sapi s)).endpoint }
+        ensures done { OnOk result ((s : DataLinkState) → Represents self.old s
+            → Represents self.new (with_link sapi (after_call (endpoint_call_of call.now) (link_with_sapi sapi s)) s)) }
+        ensures refused { OnErr result ((s : DataLinkState) → Represents self.old s
+            → Represents self.new (with_link sapi (for_call (endpoint_call_of call.now) (link_with_sapi sapi s)) s)) }
+        ensures others { link_of (other sapi) self.new ≡ link_of (other sapi) self.old }
+        ensures role { role_of self.new ≡ role_of self.old }
+        ensures channel { channel_of self.new ≡ channel_of self.old }
+    {
+        match sapi {
+            Sapi::Zero => self.link0.call(call),
+            Sapi::Three => self.link3.call(call),
+        }
+    }
+
+    /// Encodes a UI frame with this SAPI, for a slot that is free.
+    pub fn unit(&mut self, sapi: Sapi, message: &[u8]) -> Result<[u8; BLOCK_OCTETS], Refused>
+        ensures refusal { (s : DataLinkState) → Represents self.old s
+            → result_err result ≡ refusal_of (SendsUi message.now) (link_with_sapi sapi s).endpoint }
+        ensures block { IfOk result (λ block. (s : DataLinkState) → Represents self.old s
+            → block ≡ octets_of (channel_of self.old) (ui_frame message.now (link_with_sapi sapi s).endpoint)) }
+        ensures unchanged { self.new ≡ self.old }
+    {
+        match sapi {
+            Sapi::Zero => self.link0.unit(message),
+            Sapi::Three => self.link3.unit(message),
+        }
+    }
+
+    /// Starts the link of this SAPI afresh (local end release): nothing is sent or reported.
+    pub fn restart(&mut self, sapi: Sapi)
+        ensures represents { (s : DataLinkState) → Represents self.old s
+            → Represents self.new (with_link sapi (afresh (link_with_sapi sapi s)) s) }
+        ensures others { link_of (other sapi) self.new ≡ link_of (other sapi) self.old }
+        ensures role { role_of self.new ≡ role_of self.old }
+        ensures channel { channel_of self.new ≡ channel_of self.old }
+    {
+        match sapi {
+            Sapi::Zero => self.link0.restart(),
+            Sapi::Three => self.link3.restart(),
+        }
+    }
+
+    /// Returns the side of the data link.
+    pub fn role(&self) -> Role
+        ensures role { spec_role_of result ≡ role_of self.now }
+        ensures represents { (s : DataLinkState) → Represents self.now s → spec_role_of result ≡ s.link0.endpoint.role }
+    {
+        self.link0.endpoint.role()
+    }
+
+    /// Returns the channel of the data link.
+    pub fn channel(&self) -> Channel
+        ensures channel { result ≡ channel_of self.now }
+        ensures represents { (s : DataLinkState) → Represents self.now s → result ≡ s.link0.endpoint.channel }
+    {
+        self.link0.endpoint.channel()
+    }
+
+    // Returns whether the data link takes frames of SAPI 3.
+    fn takes_sapi3(&self) -> bool
+        ensures { (s : DataLinkState) → Represents self.now s → result ≡ takes_sapi3 s }
+    {
+        match (self.link0.endpoint.role(), self.link0.endpoint.channel()) {
+            (Role::Network, _) => true,
+            (Role::Mobile, Channel::Sdcch) => match self.link0.endpoint.state() {
+                State::Open | State::Closing => true,
+                State::Idle | State::Opening | State::Closed => false,
+            },
+            (Role::Mobile, Channel::Sacch) => self.is_main_established,
+        }
+    }
+
+    // Returns the SAPI of the link that takes a received frame, or `None` if the data link drops it.
+    fn sapi_for(&self, frame: &FrameView<'_>) -> Option<Sapi>
+        ensures { (s : DataLinkState) → Represents self.now s → result ≡ sapi_for_frame (frame_of_view frame.now) s }
+    {
+        if frame.sapi == 0 {
+            return Some(Sapi::Zero);
+        }
+        if frame.sapi == 3 && self.takes_sapi3() {
+            return Some(Sapi::Three);
+        }
+        None
+    }
+
+    /// Processes a received frame, and replaces the notices in `effects` by those of the link that takes it. Returns the SAPI of that
+    /// link, or
+    /// `None` if the frame is dropped.
+    pub fn take(&mut self, frame: &FrameView<'_>, effects: &mut Effects) -> Option<Sapi>
+        requires { FrameFits (channel_of self.old) (frame_of_view frame.now) }
+        ensures sapi { (s : DataLinkState) → Represents self.old s → result ≡ sapi_for_frame (frame_of_view frame.now) s }
+        ensures represents { (s : DataLinkState) → Represents self.old s
+            → Represents self.new (after_arrival (frame_of_view frame.now) s) }
+        ensures notices { (s : DataLinkState) → Represents self.old s
+            → effects.new.notices ≡ notices_of_taking result (frame_of_view frame.now) s }
+        ensures others { IfSome result (λ sapi. link_of (other sapi) self.new ≡ link_of (other sapi) self.old) }
+        ensures dropped0 { IfNone result (link_of P.Zero self.new ≡ link_of P.Zero self.old) }
+        ensures dropped3 { IfNone result (link_of P.Three self.new ≡ link_of P.Three self.old) }
+        ensures role { role_of self.new ≡ role_of self.old }
+        ensures channel { channel_of self.new ≡ channel_of self.old }
+    {
+        let sapi = self.sapi_for(frame);
+        self.heard_sapi0 = holds_up_sapi3(frame);
+        match sapi {
+            Some(sapi) => self.pass(sapi, frame, effects),
+            None => effects.clear(),
+        }
+        sapi
+    }
+
+    // Passes a frame to the link with this SAPI.
+    fn pass(&mut self, sapi: Sapi, frame: &FrameView<'_>, effects: &mut Effects)
+        requires { FrameFits (channel_of self.old) (frame_of_view frame.now) }
+        ensures represents { (s : DataLinkState) → Represents self.old s
+            → Represents self.new (with_link sapi (after_frame (frame_of_view frame.now) (link_with_sapi sapi s)) s) }
+        ensures notices { (s : DataLinkState) → Represents self.old s
+            → effects.new.notices ≡ frame_notices (frame_of_view frame.now) (link_with_sapi sapi s) }
+        ensures others { link_of (other sapi) self.new ≡ link_of (other sapi) self.old }
+        ensures role { role_of self.new ≡ role_of self.old }
+        ensures channel { channel_of self.new ≡ channel_of self.old }
+    {
+        match sapi {
+            Sapi::Zero => self.link0.take(frame, effects),
+            Sapi::Three => self.link3.take(frame, effects),
+        }
+    }
+
+    // Counts the slot for T200: for that of SAPI 3 only if no frame of SAPI 0 took the place of its answer.
+    fn move_clocks(&mut self)
+        ensures represents { (s : DataLinkState) → Represents self.old s → Represents self.new (with_clocks_moved s) }
+        ensures role { role_of self.new ≡ role_of self.old }
+        ensures channel { channel_of self.new ≡ channel_of self.old }
+    {
+        self.link0.count_slot_unless(false);
+        self.link3.count_slot_unless(self.heard_sapi0);
+        self.heard_sapi0 = false;
+    }
+
+    /// Returns what the data link does in this slot: SAPI 0 goes first.
+    pub fn next(&mut self) -> Slot
+        ensures represents { (s : DataLinkState) → Represents self.old s → Represents self.new (data_link_outcome s).new_state }
+        ensures block { (s : DataLinkState) → Represents self.old s
+            → result.block ≡ option_map (octets_of (channel_of self.old)) (data_link_outcome s).frame }
+        ensures gave_up0 { (s : DataLinkState) → Represents self.old s → notices_if result.gave_up0 ≡ (data_link_outcome s).notices0 }
+        ensures gave_up3 { (s : DataLinkState) → Represents self.old s → notices_if result.gave_up3 ≡ (data_link_outcome s).notices3 }
+        ensures role { role_of self.new ≡ role_of self.old }
+        ensures channel { channel_of self.new ≡ channel_of self.old }
+    {
+        self.move_clocks();
+        let slot0 = self.link0.slot();
+        if let Some(_) = slot0.block {
+            return Slot {
+                block: slot0.block,
+                gave_up0: slot0.gave_up,
+                gave_up3: false,
+            };
+        }
+        let slot3 = self.link3.slot();
+        Slot {
+            block: slot3.block,
+            gave_up0: slot0.gave_up,
+            gave_up3: slot3.gave_up,
+        }
+    }
+}
+
+// Returns whether this received frame took the slot of an answer on SAPI 3.
+fn holds_up_sapi3(frame: &FrameView<'_>) -> bool
+    ensures { result ≡ holds_up_sapi3 (frame_of_view frame.now) }
+{
+    match frame.body {
+        Body::Ui { .. } => false,
+        _ => frame.sapi == 0,
+    }
+}

@@ -1,0 +1,33 @@
+//! Laws of one link, slot by slot. The body of a law is empty: call it to use its contract in a proof.
+
+ghost use Rattle.std.specs.Prelude.{◌≡◌, ◌⊎◌, ◌||◌, ℕ, Bool, true, false, nat_eq, Some, None};
+ghost use Rattle.lapdm_end.specs.lapdm_window.declared.State.TheVariants.{Open, Closed};
+ghost use Rattle.lapdm_end.specs.lapdm_window.segmenting.Segments.{Segment};
+ghost use Rattle.lapdm_end.specs.lapdm_window.Ends.{vr};
+ghost use Rattle.lapdm_datalink.specs.Links.{LinkState, after_slot, slot_outcome, sabm_goes_first};
+ghost use Rattle.lapdm_datalink.specs.Slots.{IsStepOfEndpoint, nr_of, took};
+
+/// Law: in a slot, the endpoint of a link does nothing, repeats the frame that awaits an answer without counting it, or handles the expiry
+/// of
+/// T200. What goes out is the answer owed, or the frame of that call.
+#[tactic(auto, using(crate::proofs::Answering::step_of_endpoint))]
+pub fn law_slot_is_a_step_of_the_endpoint()
+    ensures { (l : LinkState) → IsStepOfEndpoint l (slot_outcome l) }
+{}
+
+/// Law: a link that has the slot owes nothing after it, unless its own SABM went first.
+#[tactic(auto, using(crate::proofs::Answering::owes_nothing))]
+pub fn law_answer_waits_for_one_slot()
+    ensures { (l : LinkState) → sabm_goes_first l ≡ false → (slot_outcome l).link.answer ≡ None }
+{}
+
+/// Law: if an open link that owes nothing takes an I frame that is in sequence or polls, the next slot that the link has carries an N(R)
+/// equal
+/// to V(R), or the link is given up in it.
+#[tactic(auto, using(crate::proofs::Answering::answers_i_frame))]
+pub fn law_i_frame_is_answered_in_the_next_slot()
+    ensures { (l : LinkState) → l.endpoint.state ≡ Open → l.answer ≡ None → (ns nr : ℕ) (poll : Bool) (segment : Segment)
+        → (nat_eq ns (vr l.endpoint) || poll) ≡ true
+        → (nr_of (slot_outcome (after_slot (took ns nr poll segment l))).frame ≡ Some (vr (took ns nr poll segment l).endpoint))
+        ⊎ ((slot_outcome (after_slot (took ns nr poll segment l))).link.endpoint.state ≡ Closed) }
+{}

@@ -1,0 +1,17 @@
+//! A data link: one side of a channel, mobile or network, with its loop. It decides what goes into each slot, without a queue or a timer:
+//! the
+//! frame that awaits an answer is made in its slot, and T200 counts slots. No call allocates memory.
+#![tactic(auto)]
+
+mod data_links;
+mod laws;
+mod links;
+mod parts;
+
+pub use data_links::{DataLink, Slot};
+pub use laws::{
+    law_answer_waits_for_one_slot, law_i_frame_is_answered_in_the_next_slot,
+    law_slot_is_a_step_of_the_endpoint,
+};
+pub use links::{Link, LinkSlot};
+pub use parts::{DataLinkView, LinkView};

@@ -1,0 +1,445 @@
+//! One link of a data link: what its endpoint sends, slot by slot.
+
+ghost use Rattle.std.specs.Prelude.{◌≡◌, ◌≤◌, ◌<◌, ◌↔◌, [], ◌∷◌, if◌then◌else◌, map, length, true};
+ghost use Rattle.std.specs.Prelude.{false, All, List, IsTrue, IfOk, OnErr};
+ghost use Rattle.std.specs.Prelude.{OnOk, Some, None};
+ghost use Rattle.std.specs.Option.{option_map};
+ghost use Rattle.std.specs.Result.{result_err};
+ghost use Rattle.lapdm_frame.specs.Content.{Frame, content_of_body, frame_of_view};
+ghost use Rattle.lapdm_frame.specs.Frames.{FrameFits, octets_of};
+ghost use Rattle.lapdm_end.specs.lapdm_window.Calls.{endpoint_call_of, IsCallAllowedFor, SendsUi, refusal_of, call_outcome};
+ghost use Rattle.lapdm_end.specs.lapdm_window.Ends.{initial_endpoint, awaits_answer};
+ghost use Rattle.lapdm_end.specs.lapdm_window.declared.Sapi.TheVariants as P;
+ghost use Rattle.lapdm_link.specs.Worlds.{rej_replaced_by_rr};
+ghost use Rattle.lapdm_end.specs.Addresses.{spec_role_of};
+ghost use Rattle.lapdm_datalink.specs.Links.{
+  LinkState,
+  link_with,
+  afresh,
+  is_awaiting_kind,
+  with_frame,
+  with_frames,
+  with_outcome,
+  for_call,
+  for_frame,
+  is_reopened_by_frame,
+  after_call,
+  after_frame,
+  frame_notices,
+  received_outcome,
+  ui_frame,
+  is_unnumbered_answer,
+  ignores,
+  after_slot,
+  is_due,
+  is_plain_rr,
+  sabm_goes_first,
+  without_needless_answer,
+  keeps_back,
+  expires,
+  sends_due_frame,
+  slot_outcome,
+};
+ghost use Rattle.lapdm_datalink.specs.Abstraction.{channel_of, role_of, sapi_of, Represents, IsAnswer, notices_if};
+
+use lapdm_end::{Call, Channel, Effects, Endpoint, Refused, Role, Sapi, State};
+use lapdm_frame::{BLOCK_OCTETS, Body, FrameView, read_on};
+
+/// A link of one SAPI, and what it has to send.
+#[derive(Debug, Drop)]
+pub struct Link {
+    pub(crate) endpoint: Endpoint,
+    // T200 in slots.
+    pub(crate) t200: u8,
+    // The answer that waits for a slot.
+    pub(crate) answer: Option<[u8; BLOCK_OCTETS]>,
+    // Whether the frame that awaits an answer was sent.
+    pub(crate) is_sent: bool,
+    // The slots until that frame is due.
+    pub(crate) clock: u8,
+}
+
+/// What a link does in a slot.
+#[derive(Clone, Copy, Debug)]
+pub struct LinkSlot {
+    /// The block to send, if any.
+    pub block: Option<[u8; BLOCK_OCTETS]>,
+    /// Whether the link was given up in this slot: it is closed as failed.
+    pub gave_up: bool,
+}
+
+// Returns the body as the endpoint takes it: an RR in place of a REJ.
+fn with_rr_for_rej(body: Body<'_>) -> Body<'_>
+    ensures { content_of_body result ≡ rej_replaced_by_rr (content_of_body body.entry) }
+{
+    match body {
+        Body::Rej { nr, pf } => Body::Rr { nr, pf },
+        other => other,
+    }
+}
+
+// Returns whether a frame with this body awaits an answer.
+pub(crate) fn is_awaiting_kind(body: &Body<'_>) -> bool
+    ensures { result ≡ is_awaiting_kind (content_of_body body.now) }
+{
+    match *body {
+        Body::I { .. } | Body::Sabm { .. } | Body::Disc { .. } => true,
+        _ => false,
+    }
+}
+
+fn is_unnumbered_answer(body: &Body<'_>) -> bool
+    ensures { result ≡ is_unnumbered_answer (content_of_body body.now) }
+{
+    match *body {
+        Body::Ua { .. } | Body::Dm { .. } => true,
+        _ => false,
+    }
+}
+
+// Returns whether the block encodes an RR with F = 0.
+fn is_plain_rr(block: &[u8; BLOCK_OCTETS], channel: Channel) -> bool
+    ensures { (f : Frame) → FrameFits channel f → block.now ≡ octets_of channel f → result ≡ is_plain_rr f.content }
+{
+    match read_on(block, channel) {
+        Err(_) => false,
+        Ok(frame) => match frame.body {
+            Body::Rr { pf, .. } => !pf,
+            _ => false,
+        },
+    }
+}
+
+impl Link {
+    /// Creates a link in Idle with this role, SAPI and channel, and T200 in slots.
+    pub fn new_on(role: Role, sapi: Sapi, channel: Channel, t200: u8) -> Link
+        ensures represents { Represents result (link_with (initial_endpoint (spec_role_of role) sapi channel) t200) }
+        ensures role { role_of result ≡ spec_role_of role }
+        ensures sapi { sapi_of result ≡ sapi }
+        ensures channel { channel_of result ≡ channel }
+    {
+        Link {
+            endpoint: Endpoint::new_on(role, sapi, channel),
+            t200,
+            answer: None,
+            is_sent: false,
+            clock: 0,
+        }
+    }
+
+    /// Starts the link afresh: with a new endpoint, which owes nothing and has sent nothing.
+    pub fn restart(&mut self)
+        ensures represents { (l : LinkState) → Represents self.old l → Represents self.new (afresh l) }
+        ensures role { role_of self.new ≡ role_of self.old }
+        ensures sapi { sapi_of self.new ≡ sapi_of self.old }
+        ensures channel { channel_of self.new ≡ channel_of self.old }
+    {
+        let end = &self.endpoint;
+        let fresh = Endpoint::new_on(end.role(), end.sapi(), end.channel());
+        self.endpoint = fresh;
+        self.answer = None;
+        self.is_sent = false;
+        self.clock = 0;
+    }
+
+    /// Carries out a call of layer 3. A link that is closed starts afresh first if the call opens it. A refused call changes nothing.
+    pub fn call(&mut self, call: &Call<'_>) -> Result<(), Refused>
+        requires { IsCallAllowedFor (role_of self.old) (sapi_of self.old) (endpoint_call_of call.now) }
+        ensures refusal { (l : LinkState) → Represents self.old l
+            → result_err result ≡ refusal_of (endpoint_call_of call.now) (for_call (endpoint_call_of call.now) l).endpoint }
+        ensures done { OnOk result ((l : LinkState) → Represents self.old l
+            → Represents self.new (after_call (endpoint_call_of call.now) l)) }
+        ensures refused { OnErr result ((l : LinkState) → Represents self.old l
+            → Represents self.new (for_call (endpoint_call_of call.now) l)) }
+        ensures role { role_of self.new ≡ role_of self.old }
+        ensures sapi { sapi_of self.new ≡ sapi_of self.old }
+        ensures channel { channel_of self.new ≡ channel_of self.old }
+    {
+        self.restart_if_reopened_by_call(call);
+        self.call_endpoint(call)
+    }
+
+    fn restart_if_reopened_by_call(&mut self, call: &Call<'_>)
+        ensures represents { (l : LinkState) → Represents self.old l → Represents self.new (for_call (endpoint_call_of call.now) l) }
+        ensures role { role_of self.new ≡ role_of self.old }
+        ensures sapi { sapi_of self.new ≡ sapi_of self.old }
+        ensures channel { channel_of self.new ≡ channel_of self.old }
+    {
+        if let Call::OpenBare = *call {
+            if self.endpoint.state() == State::Closed {
+                self.restart();
+            }
+        }
+    }
+
+    // Passes a call to the endpoint, and keeps the frames that it returns.
+    fn call_endpoint(&mut self, call: &Call<'_>) -> Result<(), Refused>
+        requires { IsCallAllowedFor (role_of self.old) (sapi_of self.old) (endpoint_call_of call.now) }
+        ensures refusal { (l : LinkState) → Represents self.old l
+            → result_err result ≡ refusal_of (endpoint_call_of call.now) l.endpoint }
+        ensures done { OnOk result ((l : LinkState) → Represents self.old l
+            → Represents self.new (with_outcome (call_outcome (endpoint_call_of call.now) l.endpoint) l)) }
+        ensures refused { OnErr result (self.new ≡ self.old) }
+        ensures role { role_of self.new ≡ role_of self.old }
+        ensures sapi { sapi_of self.new ≡ sapi_of self.old }
+        ensures channel { channel_of self.new ≡ channel_of self.old }
+    {
+        let mut effects = Effects::new();
+        match self.endpoint.call(call, &mut effects) {
+            Err(refusal) => Err(refusal),
+            Ok(()) => {
+                self.keep_all(effects.frames.as_slice());
+                Ok(())
+            }
+        }
+    }
+
+    // Keeps of a frame that the endpoint returned what the slots need: an answer, or that the frame that awaits one is due.
+    fn keep(&mut self, block: &[u8; BLOCK_OCTETS])
+        ensures kept { (f : Frame) (l : LinkState) → FrameFits l.endpoint.channel f → block.now ≡ octets_of l.endpoint.channel f
+            → Represents self.old l → Represents self.new (with_frame f l) }
+        ensures role { role_of self.new ≡ role_of self.old }
+        ensures sapi { sapi_of self.new ≡ sapi_of self.old }
+        ensures channel { channel_of self.new ≡ channel_of self.old }
+    {
+        let Ok(frame) = read_on(block, self.endpoint.channel()) else {
+            return;
+        };
+        if is_awaiting_kind(&frame.body) {
+            self.is_sent = false;
+            self.clock = 0;
+            return;
+        }
+        self.answer = Some(*block);
+    }
+
+    // Keeps at most two frames that the endpoint returned.
+    fn keep_all(&mut self, blocks: &[[u8; BLOCK_OCTETS]])
+        requires { length blocks.now ≤ 2 }
+        ensures kept { (fs : List Frame) (l : LinkState) → All (FrameFits l.endpoint.channel) fs
+            → blocks.now ≡ map (octets_of l.endpoint.channel) fs → Represents self.old l → Represents self.new (with_frames fs l) }
+        ensures role { role_of self.new ≡ role_of self.old }
+        ensures sapi { sapi_of self.new ≡ sapi_of self.old }
+        ensures channel { channel_of self.new ≡ channel_of self.old }
+    {
+        if blocks.is_empty() {
+            return;
+        }
+        self.keep(&blocks[0]);
+        if blocks.len() == 1 {
+            return;
+        }
+        self.keep(&blocks[1]);
+    }
+
+    // Returns whether the link ignores a received frame: nothing answers a SABM or DISC that was not sent yet.
+    fn ignores(&self, frame: &FrameView<'_>) -> bool
+        ensures { (l : LinkState) → Represents self.now l → result ≡ ignores (frame_of_view frame.now) l }
+    {
+        if self.is_sent || !is_unnumbered_answer(&frame.body) {
+            return false;
+        }
+        match self.endpoint.state() {
+            State::Opening | State::Closing => true,
+            State::Idle | State::Open | State::Closed => false,
+        }
+    }
+
+    // Returns whether the link is closed and this received frame opens it again.
+    fn is_reopened_by(&self, frame: &FrameView<'_>) -> bool
+        ensures { (l : LinkState) → Represents self.now l → result ≡ is_reopened_by_frame (frame_of_view frame.now) l }
+    {
+        if self.endpoint.sapi() != Sapi::Three || self.endpoint.state() != State::Closed {
+            return false;
+        }
+        let Body::Sabm { info, .. } = frame.body else {
+            return false;
+        };
+        info.is_empty() && frame.cr == (self.endpoint.role() == Role::Mobile)
+    }
+
+    /// Processes a received frame of this SAPI, and writes the notices that the link reports to `effects`.
+    pub fn take(&mut self, frame: &FrameView<'_>, effects: &mut Effects)
+        requires { FrameFits (channel_of self.old) (frame_of_view frame.now) }
+        ensures done { (l : LinkState) → Represents self.old l → Represents self.new (after_frame (frame_of_view frame.now) l) }
+        ensures notices { (l : LinkState) → Represents self.old l
+            → effects.new.notices ≡ frame_notices (frame_of_view frame.now) l }
+        ensures role { role_of self.new ≡ role_of self.old }
+        ensures sapi { sapi_of self.new ≡ sapi_of self.old }
+        ensures channel { channel_of self.new ≡ channel_of self.old }
+    {
+        if self.ignores(frame) {
+            effects.clear();
+            return;
+        }
+        self.restart_if_reopened_by(frame);
+        self.take_considered(frame, effects);
+    }
+
+    fn restart_if_reopened_by(&mut self, frame: &FrameView<'_>)
+        ensures represents { (l : LinkState) → Represents self.old l → Represents self.new (for_frame (frame_of_view frame.now) l) }
+        ensures role { role_of self.new ≡ role_of self.old }
+        ensures sapi { sapi_of self.new ≡ sapi_of self.old }
+        ensures channel { channel_of self.new ≡ channel_of self.old }
+    {
+        if self.is_reopened_by(frame) {
+            self.restart();
+        }
+    }
+
+    // Passes a frame to the endpoint, and keeps the frames that it returns.
+    fn take_considered(&mut self, frame: &FrameView<'_>, effects: &mut Effects)
+        requires { FrameFits (channel_of self.old) (frame_of_view frame.now) }
+        ensures done { (l : LinkState) → Represents self.old l
+            → Represents self.new (with_outcome (received_outcome (frame_of_view frame.now) l) l) }
+        ensures notices { (l : LinkState) → Represents self.old l
+            → effects.new.notices ≡ (received_outcome (frame_of_view frame.now) l).notices }
+        ensures role { role_of self.new ≡ role_of self.old }
+        ensures sapi { sapi_of self.new ≡ sapi_of self.old }
+        ensures channel { channel_of self.new ≡ channel_of self.old }
+    {
+        let heard = FrameView {
+            sapi: frame.sapi,
+            cr: frame.cr,
+            body: with_rr_for_rej(frame.body),
+        };
+        self.endpoint.take_frame_into(&heard, effects);
+        self.keep_all(effects.frames.as_slice());
+    }
+
+    /// Encodes a UI frame, for a slot that is free.
+    pub fn unit(&mut self, message: &[u8]) -> Result<[u8; BLOCK_OCTETS], Refused>
+        ensures refusal { (l : LinkState) → Represents self.old l → result_err result ≡ refusal_of (SendsUi message.now) l.endpoint }
+        ensures block { IfOk result (λ block. (l : LinkState) → Represents self.old l
+            → block ≡ octets_of (channel_of self.old) (ui_frame message.now l.endpoint)) }
+        ensures unchanged { self.new ≡ self.old }
+    {
+        self.endpoint.ui_block(message)
+    }
+
+    /// Counts a slot, unless it does not count.
+    pub fn count_slot_unless(&mut self, is_stopped: bool)
+        ensures represents { (l : LinkState) → Represents self.old l → Represents self.new (if is_stopped then l else after_slot l) }
+        ensures role { role_of self.new ≡ role_of self.old }
+        ensures sapi { sapi_of self.new ≡ sapi_of self.old }
+        ensures channel { channel_of self.new ≡ channel_of self.old }
+    {
+        if !is_stopped && self.clock > 0 {
+            self.clock -= 1;
+        }
+    }
+
+    fn is_due(&self) -> bool
+        ensures { (l : LinkState) → Represents self.now l → result ≡ is_due l }
+    {
+        self.clock == 0 && self.endpoint.awaits_answer()
+    }
+
+    // Returns whether the own SABM was not sent yet, so that it goes before the UA to the SABM of the other side.
+    fn sabm_goes_first(&self) -> bool
+        ensures { (l : LinkState) → Represents self.now l → result ≡ sabm_goes_first l }
+    {
+        !self.is_sent && self.endpoint.state() == State::Opening && self.is_due()
+    }
+
+    // Returns whether the link keeps back this answer in a slot.
+    fn keeps_back(&self, block: &[u8; BLOCK_OCTETS]) -> bool
+        ensures { (f : Frame) (l : LinkState) → FrameFits l.endpoint.channel f → block.now ≡ octets_of l.endpoint.channel f
+            → Represents self.now l → result ≡ keeps_back f l }
+    {
+        if self.sabm_goes_first() {
+            return true;
+        }
+        self.endpoint.state() == State::Open
+            && self.is_due()
+            && is_plain_rr(block, self.endpoint.channel())
+    }
+
+    /// Returns what the link does in a slot that it may use: it sends the answer that it owes, or the frame that is due.
+    pub fn slot(&mut self) -> LinkSlot
+        ensures represents { (l : LinkState) → Represents self.old l → Represents self.new (slot_outcome l).link }
+        ensures block { (l : LinkState) → Represents self.old l
+            → result.block ≡ option_map (octets_of l.endpoint.channel) (slot_outcome l).frame }
+        ensures gave_up { (l : LinkState) → Represents self.old l → notices_if result.gave_up ≡ (slot_outcome l).notices }
+        ensures role { role_of self.new ≡ role_of self.old }
+        ensures sapi { sapi_of self.new ≡ sapi_of self.old }
+        ensures channel { channel_of self.new ≡ channel_of self.old }
+    {
+        let Some(block) = self.answer else {
+            return self.send_due_frame();
+        };
+        if self.keeps_back(&block) {
+            return self.send_due_frame();
+        }
+        self.answer = None;
+        LinkSlot {
+            block: Some(block),
+            gave_up: false,
+        }
+    }
+
+    fn send_due_frame(&mut self) -> LinkSlot
+        ensures represents { (l : LinkState) → Represents self.old l → Represents self.new (sends_due_frame l).link }
+        ensures block { (l : LinkState) → Represents self.old l
+            → result.block ≡ option_map (octets_of l.endpoint.channel) (sends_due_frame l).frame }
+        ensures gave_up { (l : LinkState) → Represents self.old l → notices_if result.gave_up ≡ (sends_due_frame l).notices }
+        ensures role { role_of self.new ≡ role_of self.old }
+        ensures sapi { sapi_of self.new ≡ sapi_of self.old }
+        ensures channel { channel_of self.new ≡ channel_of self.old }
+    {
+        if !self.is_due() {
+            return LinkSlot {
+                block: None,
+                gave_up: false,
+            };
+        }
+        self.drop_needless_answer();
+        if self.is_sent {
+            return self.expire();
+        }
+        self.is_sent = true;
+        self.clock = self.t200;
+        LinkSlot {
+            block: self.endpoint.awaited(),
+            gave_up: false,
+        }
+    }
+
+    // Drops the answer that the frame that is due makes needless.
+    fn drop_needless_answer(&mut self)
+        ensures represents { (l : LinkState) → Represents self.old l → Represents self.new (without_needless_answer l) }
+        ensures role { role_of self.new ≡ role_of self.old }
+        ensures sapi { sapi_of self.new ≡ sapi_of self.old }
+        ensures channel { channel_of self.new ≡ channel_of self.old }
+    {
+        if !self.sabm_goes_first() {
+            self.answer = None;
+        }
+    }
+
+    // Handles T200 expiry: repeats the frame that awaits an answer, or gives the link up.
+    fn expire(&mut self) -> LinkSlot
+        ensures represents { (l : LinkState) → awaits_answer l.endpoint ≡ true → Represents self.old l
+            → Represents self.new (expires l).link }
+        ensures block { (l : LinkState) → awaits_answer l.endpoint ≡ true → Represents self.old l
+            → result.block ≡ option_map (octets_of l.endpoint.channel) (expires l).frame }
+        ensures gave_up { (l : LinkState) → awaits_answer l.endpoint ≡ true → Represents self.old l
+            → notices_if result.gave_up ≡ (expires l).notices }
+        ensures role { role_of self.new ≡ role_of self.old }
+        ensures sapi { sapi_of self.new ≡ sapi_of self.old }
+        ensures channel { channel_of self.new ≡ channel_of self.old }
+    {
+        let mut effects = Effects::new();
+        self.clock = self.t200;
+        match self.endpoint.call(&Call::Timer, &mut effects) {
+            Err(_) => LinkSlot {
+                block: None,
+                gave_up: false,
+            },
+            Ok(()) => LinkSlot {
+                block: effects.frames.as_slice().first().copied(),
+                gave_up: !effects.notices.as_slice().is_empty(),
+            },
+        }
+    }
+}

@@ -1,0 +1,223 @@
+-- No frame carries bursts of two rows, and the bursts of a block have one place.
+use Rattle.bit_blocks.proofs.Lemmas.{at_passes_below, both_true, passes_below}
+use Rattle.std.proofs.Common.{Bool, Contains, Option, None, Some, [], ap, arith, eqb, false, ltb, not, refl, subst, sym, true}
+use Rattle.std.proofs.Common.{ℕ, cond, inl, inr, ◌%◌, ◌&&◌, ◌*◌, ◌+◌, ◌-◌, ◌/◌, ◌<◌, ◌∙◌, ◌≡◌}
+use Rattle.std.proofs.Common.{◌≢◌, ◌⊎◌, ◌||◌}
+use Rattle.std.specs.List.{list_all}
+use Rattle.std.proofs.lemmas.Bool.Decides.{Decides-eqb, Decides-ltb, Decides-or, nat_tests}
+use Rattle.std.proofs.lemmas.List.Elements.{All-cons, All-contains, All-nil}
+use Rattle.std.proofs.lemmas.Bool.{cases_lt}
+use Rattle.tdma.specs.declared.channels.Channel.TheVariants.{Sacch}
+use Rattle.std.proofs.lemmas.List.Sums.{AllPass-from_list_all}
+use Rattle.tdma.specs.Channels.{Mapping, burst_spacing, carries, frames_since, mappings, place_at, place_of, position_of}
+use Rattle.tdma.specs.declared.TheConstants.{HYPERFRAME}
+use Rattle.tdma.specs.declared.channels.Combination.{Combination}
+use Rattle.tdma.specs.declared.channels.Combination.TheVariants.{BcchCcch, BcchCcchSdcch4, Sdcch8, TchF}
+use Rattle.tdma.specs.declared.channels.Direction.{Direction}
+use Rattle.tdma.specs.declared.channels.Direction.TheVariants.{Downlink, Uplink}
+use Rattle.tdma.specs.declared.schedule.Position.{Position}
+use Rattle.tdma.proofs.Cycles.{position_at_remainder, repeats, same_since}
+use Rattle.tdma.proofs.Tables.{is_same, same_positions}
+
+-- ## Alone: computed for each row at each of 102 frames.
+
+abbrev burst_of_row : (spacing : ℕ) (row : Mapping) (frame : ℕ) → Position
+burst_of_row s row f = record { channel = row.channel; subchannel = row.subchannel; burst = frames_since row f / s }
+
+-- the row repeats, begins within its length, and has only bursts that are the frame's place
+abbrev is_alone : (place : Option Position) (frame : ℕ) (row : Mapping) → Bool
+is_alone place f row = not (carries 1 row f) || is_same place (Some (burst_of_row 1 row f))
+
+abbrev are_alone : (c : Combination) (d : Direction) → ℕ → Bool
+are_alone c d n = list_all (is_alone (position_of c d 0 n) n) (mappings c d 0)
+
+alone_iv_down : passes_below (are_alone BcchCcch Downlink) 102 ≡ true
+unfolding passes_below
+alone_iv_down = cc
+
+alone_iv_up : passes_below (are_alone BcchCcch Uplink) 102 ≡ true
+unfolding passes_below
+alone_iv_up = cc
+
+alone_v_down : passes_below (are_alone BcchCcchSdcch4 Downlink) 102 ≡ true
+unfolding passes_below
+alone_v_down = cc
+
+alone_v_up : passes_below (are_alone BcchCcchSdcch4 Uplink) 102 ≡ true
+unfolding passes_below
+alone_v_up = cc
+
+alone_vii_down : passes_below (are_alone Sdcch8 Downlink) 102 ≡ true
+unfolding passes_below
+alone_vii_down = cc
+
+alone_vii_up : passes_below (are_alone Sdcch8 Uplink) 102 ≡ true
+unfolding passes_below
+alone_vii_up = cc
+
+all_alone : (c : Combination) (d : Direction) → c ≢ TchF → passes_below (are_alone c d) 102 ≡ true
+all_alone BcchCcch Downlink h = alone_iv_down
+all_alone BcchCcch Uplink h = alone_iv_up
+all_alone BcchCcchSdcch4 Downlink h = alone_v_down
+all_alone BcchCcchSdcch4 Uplink h = alone_v_up
+all_alone Sdcch8 Downlink h = alone_vii_down
+all_alone Sdcch8 Uplink h = alone_vii_up
+all_alone TchF d h = absurd (h refl)
+
+-- a row repeats every 51 or 102 frames, and begins within this length
+abbrev is_row : Mapping → Bool
+is_row m = repeats m && (ltb m.first m.repeat_length && ltb m.bursts 5)
+
+rows_are_rows : (c : Combination) (d : Direction) → c ≢ TchF → list_all is_row (mappings c d 0) ≡ true
+rows_are_rows BcchCcch Downlink h = refl
+rows_are_rows BcchCcch Uplink h = refl
+rows_are_rows BcchCcchSdcch4 Downlink h = refl
+rows_are_rows BcchCcchSdcch4 Uplink h = refl
+rows_are_rows Sdcch8 Downlink h = refl
+rows_are_rows Sdcch8 Uplink h = refl
+rows_are_rows TchF d h = absurd (h refl)
+
+row_is_row : (c : Combination) (d : Direction) (row : Mapping) → c ≢ TchF → Contains (mappings c d 0) row → is_row row ≡ true
+row_is_row c d row h among =
+    All-contains (λ m. is_row m ≡ true) (mappings c d 0) row (AllPass-from_list_all is_row (mappings c d 0) (rows_are_rows c d h)) among
+
+implied : (a b : Bool) → a ≡ true → (not a || b) ≡ true → b ≡ true
+implied true b h e = e
+implied false b h e = cc
+
+alone_at : (c : Combination) (d : Direction) (row : Mapping) (n : ℕ) → c ≢ TchF → Contains (mappings c d 0) row → n < 102 →
+    carries 1 row n ≡ true → position_of c d 0 n ≡ Some (burst_of_row 1 row n)
+alone_at c d row n h among lt carried =
+    let here = at_passes_below (are_alone c d) 102 (all_alone c d h) n lt in
+    let alone = All-contains (λ m. is_alone (position_of c d 0 n) n m ≡ true) (mappings c d 0) row
+    (AllPass-from_list_all (is_alone (position_of c d 0 n) n) (mappings c d 0) here) among in
+    same_positions _ _ (implied (carries 1 row n) (is_same (position_of c d 0 n) (Some (burst_of_row 1 row n))) carried alone)
+
+mappings_same : (c : Combination) (d : Direction) (timeslot : ℕ) → c ≢ TchF → mappings c d timeslot ≡ mappings c d 0
+mappings_same BcchCcch Downlink t h = refl
+mappings_same BcchCcch Uplink t h = refl
+mappings_same BcchCcchSdcch4 Downlink t h = refl
+mappings_same BcchCcchSdcch4 Uplink t h = refl
+mappings_same Sdcch8 Downlink t h = refl
+mappings_same Sdcch8 Uplink t h = refl
+mappings_same TchF d t h = absurd (h refl)
+
+alone_in_slot : (c : Combination) (d : Direction) (timeslot f : ℕ) (row : Mapping) → c ≢ TchF →
+    Contains (mappings c d timeslot) row →
+    carries 1 row f ≡ true → position_of c d timeslot f ≡ Some (burst_of_row 1 row f)
+alone_in_slot c d t f row h among carried =
+    let there = subst (λ ms. Contains ms row) (mappings_same c d t h) among in
+    let rows = both_true (repeats row) (ltb row.first row.repeat_length && ltb row.bursts 5) (row_is_row c d row h there) in
+    let since : frames_since row (f % 102) ≡ frames_since row f = same_since row (f % 102) f rows.0 (omega arith) in
+    let carried' : carries 1 row (f % 102) ≡ true =
+    ap (λ n. eqb (n % 1) 0 && ltb (n / 1) row.bursts) since ∙ carried in
+    position_at_remainder c d t f h
+    ∙ alone_at c d row (f % 102) h there (omega arith) carried'
+    ∙ ap (λ n. Some (let p : Position = record { channel = row.channel; subchannel = row.subchannel; burst = n / 1 } in p)) since
+
+traffic_row : (t : ℕ) → Mapping
+traffic_row t = record { channel = Sacch; subchannel = 0; bursts = 4; repeat_length = 104; first = 12 + 13 * t }
+
+traffic_alone : (d : Direction) (t f : ℕ) (row : Mapping) → Contains (mappings TchF d t) row →
+    carries 26 row f ≡ true → position_of TchF d t f ≡ Some (burst_of_row 26 row f)
+unfolding traffic_row
+traffic_alone d t f row among =
+    let P : Mapping → Type 0 = λ m. carries 26 m f ≡ true → position_of TchF d t f ≡ Some (burst_of_row 26 m f) in
+    let own : P (traffic_row t) = λ carried. ap (λ b. cond b (Some (burst_of_row 26 (traffic_row t) f)) None) carried in
+    All-contains P (mappings TchF d t) row (All-cons P (traffic_row t) [] own (All-nil P)) among
+
+pub alone_anywhere : (c : Combination) (d : Direction) (timeslot f : ℕ) (row : Mapping) → Contains (mappings c d timeslot) row →
+    carries (burst_spacing c) row f ≡ true → position_of c d timeslot f ≡ Some (burst_of_row (burst_spacing c) row f)
+alone_anywhere BcchCcch d t f row = alone_in_slot BcchCcch d t f row (λ e. cc)
+alone_anywhere BcchCcchSdcch4 d t f row = alone_in_slot BcchCcchSdcch4 d t f row (λ e. cc)
+alone_anywhere Sdcch8 d t f row = alone_in_slot Sdcch8 d t f row (λ e. cc)
+alone_anywhere TchF d t f row = traffic_alone d t f row
+
+-- ## InOrder: the bursts of a row come in order after its first frame.
+
+since_first : (r start n b : ℕ) → (r ≡ 51) ⊎ (r ≡ 102) → start < r → b < 4 →
+    ((((start + r * n) % HYPERFRAME + b) % HYPERFRAME) % r + r - start) % r ≡ b
+since_first r start n b (inl h) within lt = rw h (since_first_51 start n b (omega arith) lt)
+  where
+    since_first_51 : (start n b : ℕ) → start < 51 → b < 4 →
+        ((((start + 51 * n) % HYPERFRAME + b) % HYPERFRAME) % 51 + 51 - start) % 51 ≡ b
+    since_first_51 start n b within lt = omega arith
+since_first r start n b (inr h) within lt = rw h (since_first_102 start n b (omega arith) lt)
+  where
+    since_first_102 : (start n b : ℕ) → start < 102 → b < 4 →
+        ((((start + 102 * n) % HYPERFRAME + b) % HYPERFRAME) % 102 + 102 - start) % 102 ≡ b
+    since_first_102 start n b within lt = omega arith
+
+since_first_104 : (start n b : ℕ) → start < 104 → b < 4 →
+    ((((start + 104 * n) % HYPERFRAME + 26 * b) % HYPERFRAME) % 104 + 104 - start) % 104 ≡ 26 * b
+since_first_104 start n b within lt = omega arith
+
+back_to_first : (first s b : ℕ) → first < HYPERFRAME → s * b < 104 →
+    ((first + s * b) % HYPERFRAME + HYPERFRAME - s * b) % HYPERFRAME ≡ first
+back_to_first first s b within lt = let ahead : ℕ = s * b in elim (cases_lt (first + ahead) HYPERFRAME) [
+  | inl below ↦ omega arith
+  | inr over ↦ omega arith
+]
+
+place_of_burst : (s f first b : ℕ) (p : Option Position) (row : Mapping) → p ≡ Some (burst_of_row s row f) →
+    frames_since row f / s ≡ b → (f + HYPERFRAME - s * b) % HYPERFRAME ≡ first →
+    place_at s f p ≡ Some (record { first = first; position = record { channel = row.channel; subchannel = row.subchannel; burst = b } })
+place_of_burst s f first b p row is burst back = cc
+
+-- the row carries its burst b in this frame
+carries_burst : (s f b : ℕ) (row : Mapping) → b < row.bursts → frames_since row f % s ≡ 0 → frames_since row f / s ≡ b →
+    carries s row f ≡ true
+carries_burst s f b row lt whole burst = grind (arith, nat_tests)
+
+pub placed_in_slot : (c : Combination) (d : Direction) (timeslot n b : ℕ) (row : Mapping) → c ≢ TchF →
+    Contains (mappings c d timeslot) row → b < row.bursts →
+    let first = (row.first + row.repeat_length * n) % HYPERFRAME in
+    place_at 1 ((first + 1 * b) % HYPERFRAME) (position_of c d timeslot ((first + 1 * b) % HYPERFRAME)) ≡
+    Some (record { first = first; position = record { channel = row.channel; subchannel = row.subchannel; burst = b } })
+placed_in_slot c d t n b row h among lt =
+    let there = subst (λ ms. Contains ms row) (mappings_same c d t h) among in
+    let short : Bool = ltb row.bursts 5 in
+    let starts : Bool = ltb row.first row.repeat_length in
+    let one = both_true (repeats row) (starts && short) (row_is_row c d row h there) in
+    let two = both_true starts short one.1 in
+    let length = (Decides-or (eqb row.repeat_length 51) (eqb row.repeat_length 102) (Decides-eqb row.repeat_length 51)
+    (Decides-eqb row.repeat_length 102)).0 one.0 in
+    let four : b < 4 = (let few : row.bursts < 5 = (Decides-ltb row.bursts 5).0 two.1 in omega arith) in
+    let first : ℕ = (row.first + row.repeat_length * n) % HYPERFRAME in
+    let f : ℕ = (first + 1 * b) % HYPERFRAME in
+    let plain : (first + b) % HYPERFRAME ≡ f = omega arith in
+    let since : frames_since row f ≡ b =
+    sym (ap (frames_since row) plain)
+    ∙ since_first row.repeat_length row.first n b length ((Decides-ltb row.first row.repeat_length).0 two.0) four in
+    let burst : frames_since row f / 1 ≡ b = omega arith in
+    let whole : frames_since row f % 1 ≡ 0 = omega arith in
+    let under : first < HYPERFRAME = omega arith in
+    place_of_burst 1 f first b (position_of c d t f) row (alone_in_slot c d t f row h among (carries_burst 1 f b row lt whole burst)) burst
+    (back_to_first first 1 b under (omega arith))
+
+pub placed_in_traffic : (d : Direction) (timeslot n b : ℕ) (row : Mapping) → timeslot < 8 →
+    Contains (mappings TchF d timeslot) row → b < row.bursts →
+    let first = (row.first + row.repeat_length * n) % HYPERFRAME in
+    place_of TchF d timeslot ((first + 26 * b) % HYPERFRAME) ≡
+    Some (record { first = first; position = record { channel = row.channel; subchannel = row.subchannel; burst = b } })
+placed_in_traffic d t n b row slot among lt =
+    let P : Mapping → Type 0 = λ m. (m.repeat_length ≡ 104) × (m.first < 104) × (m.bursts ≡ 4) in
+    let shape : P row = All-contains P (mappings TchF d t) row (All-cons P _ [] (refl, omega arith, refl) (All-nil P)) among in
+    let first : ℕ = (row.first + row.repeat_length * n) % HYPERFRAME in
+    let f : ℕ = (first + 26 * b) % HYPERFRAME in
+    let since : frames_since row f ≡ 26 * b = rw (shape.0) (since_first_104 row.first n b shape.1 (omega arith)) in
+    let burst : frames_since row f / 26 ≡ b = omega arith in
+    let whole : frames_since row f % 26 ≡ 0 = omega arith in
+    let under : first < HYPERFRAME = omega arith in
+    place_of_burst 26 f first b (position_of TchF d t f) row (traffic_alone d t f row among (carries_burst 26 f b row lt whole burst)) burst
+    (back_to_first first 26 b under (omega arith))
+
+pub placed : (c : Combination) (d : Direction) (timeslot n b : ℕ) (row : Mapping) → timeslot < 8 →
+    Contains (mappings c d timeslot) row → b < row.bursts →
+    let first = (row.first + row.repeat_length * n) % HYPERFRAME in
+    place_of c d timeslot ((first + burst_spacing c * b) % HYPERFRAME) ≡
+    Some (record { first = first; position = record { channel = row.channel; subchannel = row.subchannel; burst = b } })
+placed BcchCcch d t n b row slot among lt = placed_in_slot BcchCcch d t n b row (λ e. cc) among lt
+placed BcchCcchSdcch4 d t n b row slot among lt = placed_in_slot BcchCcchSdcch4 d t n b row (λ e. cc) among lt
+placed Sdcch8 d t n b row slot among lt = placed_in_slot Sdcch8 d t n b row (λ e. cc) among lt
+placed TchF d t n b row slot among lt = placed_in_traffic d t n b row slot among lt

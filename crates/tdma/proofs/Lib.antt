@@ -1,0 +1,4 @@
+pub mod Lemmas
+pub mod Tables
+pub mod Cycles
+pub mod Blocks

@@ -1,0 +1,23 @@
+use Rattle.std.proofs.Common.{refl}
+use Rattle.um_air.specs.lapdm_window.Calls.{endpoint_call_of}
+use Rattle.um_c.proofs.DataLinkCalls.{answers_err, answers_ok, answers_unsupported}
+use Rattle.um_c.proofs.datalinks.call_data_link.Goals as goal
+
+pub returns-then-not-link_supports_call : goal.returns-then-not-link_supports_call
+returns-then-not-link_supports_call c =
+    answers_unsupported c.args.sapi c.in-Some-sapi_of.sapi c.in-Some-sapi_of.ensures
+    (record { represents = c.in-Some.ensures.represents; some = c.in-Some.ensures.valid.0 refl }) (endpoint_call_of c.args.call.now)
+    (c.link_supports_call.ensures.never c.if-not-link_supports_call.true)
+
+pub returns-in-Err : goal.returns-in-Err
+returns-in-Err c =
+    rw c.call_refusal_number.ensures (answers_err c.args.sapi c.in-Some-sapi_of.sapi c.in-Some-sapi_of.ensures
+    (record { represents = c.in-Some.ensures.represents; some = c.in-Some.ensures.valid.0 refl }) (endpoint_call_of c.args.call.now)
+    c.in-Err.refusal c.in-Err.ensures.refusal (c.link_supports_call.ensures.allowed c.if-not-link_supports_call.false))
+
+pub returns-in-Ok : goal.returns-in-Ok
+returns-in-Ok c =
+    answers_ok c.args.sapi c.in-Some-sapi_of.sapi c.in-Some-sapi_of.ensures
+    (record { represents = c.in-Some.ensures.represents; some = c.in-Some.ensures.valid.0 refl }) (endpoint_call_of c.args.call.now)
+    c.call.new.self _ c.write_data_link.ensures c.in-Ok.ensures.refusal
+    (c.link_supports_call.ensures.allowed c.if-not-link_supports_call.false) c.in-Ok.ensures.done

@@ -1,0 +1,224 @@
+-- What the data link calls of the C library return and write.
+use Rattle.std.specs.Prelude.{ℕ, ◌≡◌, ◌≢◌, ◌-◌, Bool, true, false, if◌then◌else◌, List, [], ◌++◌, map, length}
+use Rattle.std.specs.Prelude.{drop}
+use Rattle.std.specs.Prelude.{replicate, Option, Some, None}
+use Rattle.lapdm_frame.specs.declared.Channel.{Channel}
+use Rattle.lapdm_frame.specs.declared.Channel.TheVariants.{Sdcch, Sacch}
+use Rattle.lapdm_frame.specs.declared.Refusal.{Refusal}
+use Rattle.lapdm_frame.specs.Content.{Frame, fill_frame}
+use Rattle.lapdm_frame.specs.Frames.{octets_of, bit_of_bool}
+use Rattle.lapdm_frame.specs.Readings.{IsOnlyEncodedFrame, IsOnlyRefusalReason}
+use Rattle.um_air.specs.segmenting.Segments.{Message}
+use Rattle.um_air.specs.lapdm_window.declared.Sapi.{Sapi}
+use Rattle.um_air.specs.lapdm_window.declared.Sapi.TheVariants.{Zero, Three}
+use Rattle.um_air.specs.lapdm_window.declared.Notice.{Notice}
+use Rattle.um_air.specs.lapdm_window.declared.Refused.{Refused}
+use Rattle.um_air.specs.lapdm_window.Ends.{Role, command_cr}
+use Rattle.um_air.specs.lapdm_window.Calls.{Call, SendsUi, IsCallAllowedForEndpoint, refusal_of}
+use Rattle.lapdm_end.specs.declared.Role.{Role as Side}
+use Rattle.lapdm_end.specs.Addresses as A
+use Rattle.lapdm_end.specs.Parts.{EndpointValues}
+use Rattle.lapdm_datalink.specs.Links.{LinkState, for_call, after_call, ui_frame}
+use Rattle.lapdm_datalink.specs.DataLinks.{DataLinkState, initial_data_link, link_with_sapi, with_link, sapi_for_frame, after_arrival}
+use Rattle.lapdm_datalink.specs.DataLinks.{arrival_notices, data_link_outcome}
+use Rattle.lapdm_datalink.specs.Parts.{LinkValues, DataLinkValues, RepresentDataLink}
+use Rattle.um_c.specs.declared.datalinks.CTimedEnd.{CTimedEnd}
+use Rattle.um_c.specs.declared.datalinks.CDataLink.{CDataLink}
+use Rattle.um_c.specs.declared.datalinks.CReport.{CReport}
+use Rattle.um_c.specs.Plain.{is_nonzero}
+use Rattle.um_c.specs.Effects.{c_notice, blank_notice}
+use Rattle.um_c.specs.States.{sapi_of, sapi_number, endpoint_values_from, c_endpoint}
+use Rattle.um_c.specs.EndCalls.{call_refusal_number}
+
+-- ---- the structs
+
+-- the answer in the struct, or `None` if none is owed
+abbrev pub answer_from : (owed : ℕ) (answer : List ℕ) → Option (List ℕ)
+answer_from owed answer = if is_nonzero owed then Some answer else None
+
+-- the values of the link in the struct, if those of its endpoint are in range; otherwise `None`
+abbrev pub link_values_if_valid : (c : CTimedEnd) (endpoint : Option EndpointValues) → Option LinkValues
+link_values_if_valid c None = None
+link_values_if_valid c (Some x) = Some (record {
+  endpoint = x;
+  t200 = c.t200;
+  answer = answer_from c.owed c.answer;
+  is_sent = is_nonzero c.sent;
+  clock = c.clock;
+})
+
+abbrev pub link_values_from : CTimedEnd → Option LinkValues
+link_values_from c = link_values_if_valid c (endpoint_values_from c.end)
+
+-- the values of the data link in the struct, if those of both links are valid; otherwise `None`
+abbrev pub data_link_values_if_valid : (c : CDataLink) (link0 link3 : Option LinkValues) → Option DataLinkValues
+data_link_values_if_valid c (Some x) (Some y) = Some (record {
+  link0 = x;
+  link3 = y;
+  heard_sapi0 = is_nonzero c.heard0;
+  is_main_established = is_nonzero c.main;
+})
+data_link_values_if_valid c x y = None
+
+abbrev pub data_link_values_from : CDataLink → Option DataLinkValues
+data_link_values_from c = data_link_values_if_valid c (link_values_from c.link0) (link_values_from c.link3)
+
+-- the struct represents the data link `s`
+pub record RepresentsDataLink (c : CDataLink) (s : DataLinkState) : Type 0 where
+  pub values : DataLinkValues
+  pub decoded : data_link_values_from c ≡ Some values
+  pub represents : RepresentDataLink values s
+
+-- the struct represents some data link
+abbrev pub RepresentsSomeDataLink : CDataLink → Type 0
+RepresentsSomeDataLink c = (s : DataLinkState) × RepresentsDataLink c s
+
+-- the octets of an answer as they are written
+abbrev pub owed_number : Option (List ℕ) → ℕ
+owed_number None = 0
+owed_number (Some block) = 1
+
+abbrev pub answer_octets : Option (List ℕ) → List ℕ
+answer_octets None = replicate 23 0
+answer_octets (Some block) = block
+
+-- the struct written for these values, with zeros in all unused octets
+abbrev pub c_timed_end : LinkValues → CTimedEnd
+c_timed_end x = record {
+  end = c_endpoint x.endpoint;
+  t200 = x.t200;
+  sent = bit_of_bool x.is_sent;
+  clock = x.clock;
+  owed = owed_number x.answer;
+  answer = answer_octets x.answer;
+}
+
+-- the struct written for these values
+abbrev pub c_data_link : DataLinkValues → CDataLink
+c_data_link x = record {
+  link0 = c_timed_end x.link0;
+  link3 = c_timed_end x.link3;
+  heard0 = bit_of_bool x.heard_sapi0;
+  main = bit_of_bool x.is_main_established;
+}
+
+-- ---- reports
+
+-- the struct of these notices, each with its SAPI, in order, with zeros in the unused array elements
+abbrev pub c_report : (reports : List (Sapi × Notice)) → CReport
+c_report rs = record {
+  notices = map (λ r. c_notice r.1) rs ++ replicate (3 - length rs) blank_notice;
+  sapis = map (λ r. sapi_number r.0) rs ++ replicate (3 - length rs) 0;
+  notice_count = length rs;
+}
+
+-- the notices of a link with this SAPI
+abbrev pub reports_of : Sapi → List Notice → List (Sapi × Notice)
+reports_of sapi ns = map (λ n. (sapi, n)) ns
+
+abbrev pub reports_if_taken : Option Sapi → List Notice → List (Sapi × Notice)
+reports_if_taken None ns = []
+reports_if_taken (Some sapi) ns = reports_of sapi ns
+
+-- ---- the calls
+
+-- the call succeeds, and `after` represents this data link
+pub record Succeeds (s : DataLinkState) (answer : ℕ) (after : CDataLink) : Type 0 where
+  pub answer_is_0 : answer ≡ 0
+  pub represents : RepresentsDataLink after s
+
+-- if role, channel and both T200 are valid, the call returns true, and `after` represents a new data link; otherwise it returns false and
+-- writes nothing
+abbrev pub WritesDataLinkIfValid : (role : Option Side) (channel : Option Channel) (t200 t200_sapi3 : ℕ) (are_set : Bool) (answer : Bool)
+    (before after : CDataLink) → Type 0
+WritesDataLinkIfValid (Some role) (Some channel) t t3 true answer before after =
+    (answer ≡ true) × RepresentsDataLink after (initial_data_link (A.spec_role_of role) channel t t3)
+WritesDataLinkIfValid role channel t t3 are_set answer before after = (answer ≡ false) × (after ≡ before)
+
+-- a call of layer 3 to the link of this SAPI is carried out or refused; the call returns 8 if no link has this SAPI or the link does not
+-- support it, and 7 if `before` represents no data link; unless it returns 0, it writes nothing
+pub record DataLinkAnswersCall (sapi : ℕ) (call : Call) (answer : ℕ) (before after : CDataLink) : Type 0 where
+  pub carried_out : (s : DataLinkState) → RepresentsDataLink before s → (p : Sapi) → Some p ≡ sapi_of sapi →
+      IsCallAllowedForEndpoint (link_with_sapi p s).endpoint call →
+      refusal_of call (for_call call (link_with_sapi p s)).endpoint ≡ None →
+      Succeeds (with_link p (after_call call (link_with_sapi p s)) s) answer after
+  pub refused : (s : DataLinkState) → RepresentsDataLink before s → (p : Sapi) → Some p ≡ sapi_of sapi →
+      IsCallAllowedForEndpoint (link_with_sapi p s).endpoint call → (reason : Refused) →
+      refusal_of call (for_call call (link_with_sapi p s)).endpoint ≡ Some reason → answer ≡ call_refusal_number reason
+  pub unsupported_call : (s : DataLinkState) → RepresentsDataLink before s → (p : Sapi) → Some p ≡ sapi_of sapi →
+      (IsCallAllowedForEndpoint (link_with_sapi p s).endpoint call → ⊥) → answer ≡ 8
+  pub no_such_sapi : RepresentsSomeDataLink before → None ≡ sapi_of sapi → answer ≡ 8
+  pub invalid_struct : (RepresentsSomeDataLink before → ⊥) → answer ≡ 7
+  pub unchanged : answer ≢ 0 → after ≡ before
+
+-- a change of the link of this SAPI that is never refused
+pub record DataLinkChangesLink (sapi : ℕ) (change : LinkState → LinkState) (answer : ℕ) (before after : CDataLink) : Type 0 where
+  pub carried_out : (s : DataLinkState) → RepresentsDataLink before s → (p : Sapi) → Some p ≡ sapi_of sapi →
+      Succeeds (with_link p (change (link_with_sapi p s)) s) answer after
+  pub no_such_sapi : RepresentsSomeDataLink before → None ≡ sapi_of sapi → answer ≡ 8
+  pub invalid_struct : (RepresentsSomeDataLink before → ⊥) → answer ≡ 7
+  pub unchanged : answer ≢ 0 → after ≡ before
+
+-- a change of the data link that is never refused
+pub record DataLinkChanges (change : DataLinkState → DataLinkState) (answer : ℕ) (before after : CDataLink) : Type 0 where
+  pub carried_out : (s : DataLinkState) → RepresentsDataLink before s → Succeeds (change s) answer after
+  pub invalid_struct : (RepresentsSomeDataLink before → ⊥) → answer ≡ 7
+  pub unchanged : answer ≢ 0 → after ≡ before
+
+-- the data link receives the frame that the block encodes; the call returns 9 if the block encodes no frame, and 7 if `before` represents
+-- no
+-- data link; unless it returns 0, it writes nothing
+pub record DataLinkReceivesBlock (octets : List ℕ) (answer : ℕ) (before after : CDataLink) (report_old report : CReport) : Type 0 where
+  pub carried_out : (s : DataLinkState) → RepresentsDataLink before s → (f : Frame) →
+      IsOnlyEncodedFrame s.link0.endpoint.channel f octets →
+      Succeeds (after_arrival f s) answer after
+  pub reported : (s : DataLinkState) → RepresentsDataLink before s → (f : Frame) →
+      IsOnlyEncodedFrame s.link0.endpoint.channel f octets →
+      report ≡ c_report (reports_if_taken (sapi_for_frame f s) (arrival_notices f s))
+  pub invalid_frame : (s : DataLinkState) → RepresentsDataLink before s → (reason : Refusal) →
+      IsOnlyRefusalReason s.link0.endpoint.channel octets reason → answer ≡ 9
+  pub invalid_struct : (RepresentsSomeDataLink before → ⊥) → answer ≡ 7
+  pub unchanged : answer ≢ 0 → (after ≡ before) × (report ≡ report_old)
+
+-- the block with these layer 1 octets, which a block of SACCH alone has
+abbrev pub with_layer1 : (channel : Channel) (layer1 block : List ℕ) → List ℕ
+with_layer1 Sdcch layer1 block = block
+with_layer1 Sacch layer1 block = layer1 ++ drop 2 block
+
+-- the call returns 0 for a frame, and 10 for the fill frame
+abbrev pub slot_answer : Option Frame → ℕ
+slot_answer None = 10
+slot_answer (Some f) = 0
+
+-- the frame of a slot in which the data link of this role sends `sent`
+abbrev pub slot_frame : (role : Role) (sent : Option Frame) → Frame
+slot_frame role None = fill_frame (command_cr role)
+slot_frame role (Some f) = f
+
+-- the data link fills its slot; the call returns 7 and writes nothing if `before` represents no data link
+pub record DataLinkFillsSlot (layer1 : List ℕ) (answer : ℕ) (before after : CDataLink) (block_old block : List ℕ)
+    (report_old report : CReport) : Type 0
+  where
+    pub represents : (s : DataLinkState) → RepresentsDataLink before s → RepresentsDataLink after (data_link_outcome s).new_state
+    pub answer_is : (s : DataLinkState) → RepresentsDataLink before s → answer ≡ slot_answer (data_link_outcome s).frame
+    pub block_is : (s : DataLinkState) → RepresentsDataLink before s → block ≡ with_layer1 s.link0.endpoint.channel layer1
+        (octets_of s.link0.endpoint.channel (slot_frame s.link0.endpoint.role (data_link_outcome s).frame))
+    pub reported : (s : DataLinkState) → RepresentsDataLink before s → let o = data_link_outcome s in
+        report ≡ c_report (reports_of Zero o.notices0 ++ reports_of Three o.notices3)
+    pub invalid_struct : (RepresentsSomeDataLink before → ⊥) → answer ≡ 7
+    pub unchanged : answer ≡ 7 → (after ≡ before) × (block ≡ block_old) × (report ≡ report_old)
+
+-- the UI frame with this message is written; the call returns the number of a refusal, 8 if no link has this SAPI, and 7 if the struct
+-- represents no data link; unless it returns 0, it writes nothing
+pub record DataLinkEncodesUnit (sapi : ℕ) (m : Message) (layer1 : List ℕ) (answer : ℕ) (c : CDataLink)
+    (block_old block : List ℕ) : Type 0
+  where
+    pub carried_out : (s : DataLinkState) → RepresentsDataLink c s → (p : Sapi) → Some p ≡ sapi_of sapi →
+        refusal_of (SendsUi m) (link_with_sapi p s).endpoint ≡ None →
+        (answer ≡ 0) × (block ≡ with_layer1 s.link0.endpoint.channel layer1
+        (octets_of s.link0.endpoint.channel (ui_frame m (link_with_sapi p s).endpoint)))
+    pub refused : (s : DataLinkState) → RepresentsDataLink c s → (p : Sapi) → Some p ≡ sapi_of sapi → (reason : Refused) →
+        refusal_of (SendsUi m) (link_with_sapi p s).endpoint ≡ Some reason → answer ≡ call_refusal_number reason
+    pub no_such_sapi : RepresentsSomeDataLink c → None ≡ sapi_of sapi → answer ≡ 8
+    pub invalid_struct : (RepresentsSomeDataLink c → ⊥) → answer ≡ 7
+    pub unchanged : answer ≢ 0 → block ≡ block_old

@@ -1,0 +1,179 @@
+//! C functions for a receiver of one time slot.
+ghost use Rattle.std.specs.Prelude.{◌≡◌, ◌≤◌, ◌↔◌, IsTrue, IsSome, false, map, pos, replicate};
+ghost use Rattle.um_block.specs.bit_blocks.SoftValues.{AllSoftBits};
+ghost use Rattle.um_slot.specs.Slots.{new_slot, settings_of, softened};
+ghost use Rattle.um_c.specs.SlotCalls.{IsErasingReport, IsSlotBlock, SlotTakes, slot_refusal_number};
+
+use crate::blocks::BlockReport;
+use crate::erasing::{ErasingReport, Erasure, erasing_report_of};
+use crate::soft::{are_soft_bits, are_soft_bursts};
+use um_block::BURST_BITS;
+use um_slot::{FinishedBlock, Refusal, Slot, channel_number, softened};
+
+/// The answer if a frame was taken and no block is complete.
+const TAKEN: u8 = 0;
+
+/// The answer if a frame was taken and a block is complete.
+const BLOCK: u8 = 1;
+
+/// The answer if a soft value is -128.
+const NO_SOFT: u8 = 2;
+
+/// The report on a block whose bursts a receiver has collected.
+#[repr(C)]
+#[derive(Drop)]
+pub struct SlotBlock {
+    pub report: BlockReport,
+    pub rank: u32,
+    /// The frame number of the first burst.
+    pub first: u32,
+    /// The channel: 0 SDCCH, 1 SACCH, 2 BCCH, 3 CCCH.
+    pub channel: u8,
+    /// The subchannel of SDCCH and SACCH; of CCCH the number of the block in the multiframe.
+    pub subchannel: u8,
+    /// How many of its bursts came.
+    pub heard: u8,
+    pub erasure: Erasure,
+}
+
+/// Initialises a receiver. Returns false, and writes nothing, if a number is out of range.
+#[unsafe(no_mangle)]
+pub extern "C" fn um_slot_new(
+    slot: &mut Slot,
+    combination: u8,
+    direction: u8,
+    timeslot: u8,
+    words: u8,
+    erasures: u8,
+) -> bool
+    ensures { let made = new_slot combination direction timeslot words erasures in
+        (IsTrue result ↔ IsSome (settings_of made)) × (IsTrue result → slot.new ≡ made) × (result ≡ false →
+        slot.new ≡ slot.old) }
+{
+    match Slot::new(combination, direction, timeslot, words, erasures) {
+        Some(made) => {
+            *slot = made;
+            true
+        }
+        None => false,
+    }
+}
+
+/// Takes the burst of a frame. Returns 0; or 1, and writes the block that is complete; or 2 if a soft value is -128, or the number of the
+/// reason why the frame is refused, and then writes nothing.
+#[unsafe(no_mangle)]
+pub extern "C" fn um_slot_take(
+    slot: &mut Slot,
+    frame: u32,
+    burst: &[i8; BURST_BITS],
+    block: &mut SlotBlock,
+) -> u8
+    ensures taken { AllSoftBits burst.now → SlotTakes slot.old frame 1 burst.now block.old result slot.new block.new }
+    ensures refused { ¬ AllSoftBits burst.now → (result ≡ 2) × (slot.new ≡ slot.old) × (block.new ≡ block.old) }
+{
+    if !are_soft_bits(burst) {
+        return NO_SOFT;
+    }
+    take_burst(slot, frame, burst, 1, block)
+}
+
+/// Takes a frame whose burst did not come, as `um_slot_take` does for a burst of zeros.
+#[unsafe(no_mangle)]
+pub extern "C" fn um_slot_miss(slot: &mut Slot, frame: u32, block: &mut SlotBlock) -> u8
+    ensures { SlotTakes slot.old frame 0 (replicate BURST_BITS (pos 0)) block.old result slot.new block.new }
+{
+    take_burst(slot, frame, &[0; BURST_BITS], 0, block)
+}
+
+/// Takes a frame, and decodes the block that it ends or completes.
+fn take_burst(
+    slot: &mut Slot,
+    frame: u32,
+    burst: &[i8; BURST_BITS],
+    came: u8,
+    block: &mut SlotBlock,
+) -> u8
+    requires { came ≤ 1 }
+    ensures { SlotTakes slot.old frame came burst.now block.old result slot.new block.new }
+{
+    let words = slot.words;
+    let erasures = slot.erasures;
+    let accepted = match slot.accept(frame) {
+        Ok(accepted) => accepted,
+        Err(refusal) => return slot_refusal_number(refusal),
+    };
+    match accepted.ended {
+        Some(finished) => {
+            write_block(words, erasures, &finished, &slot.bursts, block);
+            slot.put(&accepted, burst, came);
+            BLOCK
+        }
+        None => match slot.put(&accepted, burst, came) {
+            Some(finished) => {
+                write_block(words, erasures, &finished, &slot.bursts, block);
+                BLOCK
+            }
+            None => TAKEN,
+        },
+    }
+}
+
+/// Writes the report on a block whose bursts were collected.
+fn write_block(
+    words: u8,
+    erasures: u8,
+    finished: &FinishedBlock,
+    bursts: &[[i8; BURST_BITS]; 4],
+    block: &mut SlotBlock,
+)
+    requires at_least { 1 ≤ words }
+    requires at_most { words ≤ 64 }
+    requires erasures { erasures ≤ 4 }
+    ensures { IsSlotBlock words erasures finished.now bursts.now block.new }
+{
+    let decoded = slot_report_of(u32::from(words), erasures, bursts);
+    block.report = decoded.report;
+    block.rank = decoded.rank;
+    block.erasure = decoded.erasure;
+    block.first = finished.place.first;
+    block.channel = channel_number(finished.place.position.channel);
+    block.subchannel = finished.place.position.subchannel;
+    block.heard = finished.heard;
+}
+
+/// The report on the block that is decoded from the bursts of a receiver.
+#[tactic(auto, using(crate::proofs::ErasingReports::softened_bursts))]
+fn slot_report_of(words: u32, erasures: u8, bursts: &[[i8; BURST_BITS]; 4]) -> ErasingReport
+    requires at_least { 1 ≤ words }
+    requires at_most { words ≤ 64 }
+    requires erasures { erasures ≤ 4 }
+    ensures { IsErasingReport (map (map softened) bursts.now) words erasures result.rank result.report result.erasure }
+{
+    if are_soft_bursts(bursts) {
+        erasing_report_of(bursts, words, erasures)
+    } else {
+        softened_report_of(words, erasures, bursts)
+    }
+}
+
+/// The same of bursts with a value of -128, which only a caller can have put into a receiver.
+#[cold]
+fn softened_report_of(words: u32, erasures: u8, bursts: &[[i8; BURST_BITS]; 4]) -> ErasingReport
+    requires at_least { 1 ≤ words }
+    requires at_most { words ≤ 64 }
+    requires erasures { erasures ≤ 4 }
+    ensures { IsErasingReport (map (map softened) bursts.now) words erasures result.rank result.report result.erasure }
+{
+    erasing_report_of(&softened(bursts), words, erasures)
+}
+
+fn slot_refusal_number(refusal: Refusal) -> u8
+    ensures { result ≡ slot_refusal_number refusal }
+{
+    match refusal {
+        Refusal::Invalid => 3,
+        Refusal::NoFrame => 4,
+        Refusal::Doubled => 5,
+        Refusal::Late => 6,
+    }
+}

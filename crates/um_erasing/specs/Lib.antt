@@ -1,0 +1,3 @@
+pub use Rattle.um_among.specs as um_among
+-- The definitions that the contracts of this crate cite.
+pub mod Erasing

@@ -1,0 +1,100 @@
+//! The settings of a receiver, and the tests of its state and of a frame number.
+ghost use Rattle.std.specs.Prelude.{◌≡◌, ◌<◌, ◌≤◌, IfSome, IsSome};
+ghost use Rattle.tdma.specs.declared.TheConstants.{HYPERFRAME as FRAMES};
+ghost use Rattle.um_slot.specs.Slots.{block_of_frame, frame_refusal, has_valid_numbers, order_refusal, settings_of};
+
+use crate::numbers::{combination_of, direction_of, is_channel_of_blocks};
+use crate::slots::{Refusal, Slot};
+use tdma::{Combination, Direction, HYPERFRAME, Place, place_of_frame};
+
+/// What a receiver is set to, and the block that it is collecting.
+#[derive(Clone, Copy, PartialEq, Eq, Debug)]
+pub struct Settings {
+    pub combination: Combination,
+    pub direction: Direction,
+    /// The place of the first burst of the block.
+    pub collecting: Option<Place>,
+}
+
+/// Returns the place of a frame if it carries a burst of a block of four.
+pub(crate) fn block_of_frame(
+    combination: Combination,
+    direction: Direction,
+    timeslot: u8,
+    frame: u32,
+) -> Option<Place>
+    requires timeslot { timeslot < 8 }
+    requires within { frame < FRAMES }
+    ensures place { result ≡ block_of_frame combination direction timeslot frame }
+    ensures burst { IfSome result (λ place. place.position.burst < 4) }
+{
+    let place = place_of_frame(combination, direction, timeslot, frame)?;
+    if is_channel_of_blocks(place.position.channel) {
+        Some(place)
+    } else {
+        None
+    }
+}
+
+impl Slot {
+    /// Returns what the receiver is set to, or `None` if its state is not valid.
+    pub fn settings(&self) -> Option<Settings>
+        ensures value { result ≡ settings_of self.now }
+        ensures timeslot { IsSome result → self.now.timeslot < 8 }
+        ensures decoding { IsSome result → (1 ≤ self.now.words) × (self.now.words ≤ 64) × (self.now.erasures ≤ 4) }
+    {
+        let combination = combination_of(self.combination)?;
+        let direction = direction_of(self.direction)?;
+        if !self.has_valid_numbers() {
+            return None;
+        }
+        if self.first == HYPERFRAME {
+            return Some(Settings {
+                combination,
+                direction,
+                collecting: None,
+            });
+        }
+        let place = block_of_frame(combination, direction, self.timeslot, self.first)?;
+        if place.position.burst != 0 {
+            return None;
+        }
+        Some(Settings {
+            combination,
+            direction,
+            collecting: Some(place),
+        })
+    }
+
+    fn has_valid_numbers(&self) -> bool
+        ensures { result ≡ has_valid_numbers self.now }
+    {
+        self.last <= HYPERFRAME
+            && self.first <= HYPERFRAME
+            && self.timeslot < 8
+            && 1 <= self.words
+            && self.words <= 64
+            && self.erasures <= 4
+            && self.heard <= 4
+    }
+
+    /// Returns why a frame is refused, if the state is valid.
+    pub(crate) fn frame_refusal(&self, frame: u32) -> Option<Refusal>
+        requires { self.now.last ≤ FRAMES }
+        ensures { result ≡ frame_refusal self.now frame }
+    {
+        if frame >= HYPERFRAME {
+            return Some(Refusal::NoFrame);
+        }
+        if self.last == HYPERFRAME {
+            return None;
+        }
+        if self.last == frame {
+            return Some(Refusal::Doubled);
+        }
+        if (frame + HYPERFRAME - self.last) % HYPERFRAME > HYPERFRAME / 2 {
+            return Some(Refusal::Late);
+        }
+        None
+    }
+}
