@@ -3,6 +3,7 @@ pub use Rattle.um_lines.specs as um_lines
 pub mod Progress
 pub mod Divided
 pub mod Outputs
+pub mod Continued
 pub mod Rules
 pub mod Statuses
 pub mod Table

@@ -4,12 +4,14 @@
 mod command;
 mod driver;
 mod gathered;
+mod laws;
 mod stateless;
 mod status;
 mod writing;
 
 pub use command::Command;
 pub use driver::drive;
+pub use laws::law_more_octets_continue_response;
 pub use stateless::{Answer, StatelessCommand};
 pub use status::Status;
 pub use um_io::{MemorySink, MemorySource, PlainSource, ReadSource, Sink, Source, WriteSink};

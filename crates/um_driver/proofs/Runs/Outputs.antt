@@ -15,6 +15,7 @@ pub use Rattle.{
     specs.List.All,
   },
   um_driver.specs.{
+    Continued.Continues,
     Divided.BeginsWithLines,
     Outputs.{InputEnd, Ended, Exceeded, Open, divided, input_end, last_line, lines_to_process, push_octet, response, response_at_end},
     Outputs.{processed_lines, response_from_answer, response_to_lines},
@@ -58,11 +59,11 @@ divided-lines (line ∷ lines) rest plain =
       divided-lines lines rest (All-tail IsLine line lines plain),
     ) refl
 
-lines_to_process-after : (lines : List (List ℕ)) (rest : List ℕ) (end : InputEnd) → All IsLine lines →
+pub lines_to_process-after : (lines : List (List ℕ)) (rest : List ℕ) (end : InputEnd) → All IsLine lines →
     lines_to_process (text_of_lines lines ++ rest) end ≡ lines ++ lines_to_process rest end
 lines_to_process-after lines rest end plain = rw (divided-lines lines rest plain, append_assoc) refl
 
-lines_to_process-last : (last : List ℕ) (end : InputEnd) → IsLine last → lines_to_process last end ≡ last_line last end
+pub lines_to_process-last : (last : List ℕ) (end : InputEnd) → IsLine last → lines_to_process last end ≡ last_line last end
 lines_to_process-last last end plain = rw (divided-plain last plain) refl
 
 long_last : (last : List ℕ) (end : InputEnd) → line_limit < length last → last_line last end ≡ last ∷ []
@@ -112,11 +113,6 @@ long_first line more end plain long =
         )
 
 -- ---- a response that is only continued when more octets come
-
--- the response `later` continues the response `now`
-abbrev pub Continues : (now later : Option Status × List ℕ) → Type 0
-Continues (None, text) later = IsPrefixOf text later.1
-Continues (Some status, text) later = later ≡ (Some status, text)
 
 Continues-answer : (text : List ℕ) (now later : Option Status × List ℕ) → Continues now later →
     Continues (now.0, text ++ now.1) (later.0, text ++ later.1)
