@@ -31,7 +31,7 @@ use Rattle.{
   },
   um_formats.specs.{
     BurstLines.{BurstLineMeans, burst_line, burst_line_fault, burst_line_of_meaning, burst_parse_result},
-    CodeLines.{CodeLineMeans, code_line_fault, code_line_of_meaning},
+    CodeLines.{CodeLineMeans, code_line, code_line_fault, code_line_of_meaning},
     FrameTexts.{IsTextOfOctets, frame_text, frame_values, octets_text, line_values_of_fields, line_syntax_of_frame, text_of_octets},
     FrameTexts.unreadable_frame_text,
     Held.{IsHardNormalBurstLine, IsSoftNormalBurstLine},
@@ -50,7 +50,7 @@ use Rattle.{
   },
   um_lines.{
     proofs.FormLaws.{AreOctets, Each, Fitting, fixed_words_lack, length-encode_lower, line_by_forms, line_short, passing_lack},
-    proofs.{FormLaws.{parsed_meaning, read_of_words, spelled_means, spelled_uncut, one_made, one_meaning}, Texts.words-join},
+    proofs.{FormLaws.{parsed_meaning, parsed_means, read_of_words, spelled_means, spelled_uncut, one_made, one_meaning}, Texts.words-join},
     specs.{BurstForms.{burst_line_forms, is_burst_out_of_order}, CodeForms.code_line_forms, Fields.{BitDigits, LineField, FixedWord}},
     specs.Fields.{HexOctets, NumberList, Number, Value, bit_digits, fits_field, has_wrong_digits, has_wrong_length, is_bit_digit},
     specs.{Fields.octets_from_hex, Forms.{AreDistinct, Exactly, IsTableEntry, LineMeans, fault_or_value, has_faulty_word, line_meaning}},
@@ -327,6 +327,16 @@ unfolding burst_line
 burst_line_meaning held line meaning means =
     parsed_meaning burst_line_forms (is_burst_out_of_order held) burst_line_of_meaning line meaning refl means
 
+pub burst_line_means : (held : ℕ) (line : List ℕ) (meaning : BurstLine) → burst_line held line ≡ Ok meaning →
+    BurstLineMeans held line meaning
+unfolding burst_line
+burst_line_means held line meaning is =
+    parsed_means burst_line_forms (is_burst_out_of_order held) burst_line_of_meaning line meaning is
+
+pub code_line_means : (line : List ℕ) (meaning : CodeLine) → code_line line ≡ Ok meaning → CodeLineMeans line meaning
+unfolding code_line
+code_line_means line meaning is = parsed_means code_line_forms never_misplaced code_line_of_meaning line meaning is
+
 pub burst_line_refused : (held : ℕ) (line : List ℕ) (fault : LineFault) → burst_line_fault held line ≡ Some fault →
     burst_line held line ≡ Err fault
 unfolding burst_line
@@ -356,6 +366,7 @@ IsTextOfOctets-text_of_octets octets count = go (cases_eq (length octets) 23)
     ])
     read (inl (f, only)) = inl (f, only.frame, refl)
     read (inr (reason, only)) = inr (reason, only.refused, refl)
+
     go : (known : (length octets ≡ 23) ⊎ (length octets ≢ 23)) → IsTextOfOctets octets (elim known [
       | inl count ↦ elim (one_reading Sdcch octets count) [
         | inl reading ↦ frame_text reading.0
