@@ -290,9 +290,9 @@ module _ (s : EndCommandState) (k : Invariant s) where
       let each : All Whole bursts = All-push Whole _ soft k.each can.0 in
       elim (cases_lt (length bursts) 4) [
         | inl few ↦ rw (lt-ltb (length bursts) 4 few) (record {
-            keeps = record { tsc = k.tsc; links = k.links; at_most_3 = omega (arith, few); each = each };
-            by_step = inl (refl, refl);
-          })
+          keeps = record { tsc = k.tsc; links = k.links; at_most_3 = omega (arith, few); each = each };
+          by_step = inl (refl, refl);
+        })
         | inr many ↦ rw (le-ltb (length bursts) 4 many) (IsSound-block soft (omega (arith, more, many, k.at_most_3)) each)
       ]
   IsSound-answer (Calls event) can =
@@ -313,7 +313,7 @@ module _ (s : EndCommandState) (k : Invariant s) where
       AnswersLineByStep s line text after × Invariant after
   line_sound line text after step =
       let (meaning, parsed, is) = meaning_of_answer (answer_to_end_command_line s) (end_command_line s.role (length s.held_bursts) line)
-          (text, after) step in
+      (text, after) step in
       let means = end_command_line_means s.role (length s.held_bursts) line meaning parsed in
       let sound = subst (IsSound s meaning) (sym is) (IsSound-answer meaning (line-possible s.role _ line meaning means)) in
       ((meaning, means, sound.by_step), sound.keeps)

@@ -84,12 +84,14 @@ impl Command for EndCommand {
         ensures size { (s : EndCommandState) → CommandRepresents self.old s → length out.new < 2000 }
     {
         match parse_end(line, self.terminal.side, self.held.count(), &mut self.room) {
-            Ok(EndCommandLine::Skip) => {}
-            Ok(EndCommandLine::Burst(burst)) => self.add_burst_to_block(burst, out),
-            Ok(EndCommandLine::Ask(event)) => {
-                let done = self.terminal.ask_into(&event, &mut self.step);
-                write_answer(out, &self.terminal, &done, &self.step);
-            }
+            Ok(read) => match read {
+                EndCommandLine::Skip => {}
+                EndCommandLine::Burst(burst) => self.add_burst_to_block(burst, out),
+                EndCommandLine::Ask(event) => {
+                    let done = self.terminal.ask_into(&event, &mut self.step);
+                    write_answer(out, &self.terminal, &done, &self.step);
+                }
+            },
             Err(fault) => return Err(fault),
         }
         Ok(())

@@ -12,7 +12,7 @@ pub returns-in-Skip-clause-answered : goal.returns-in-Skip-clause-answered
 returns-in-Skip-clause-answered c s st = (
   s,
   line_answered c.args.self.now s c.count.result c.args.line.now _ Nothing s st c.count.ensures.count
-      (rw c.in-Skip.is at c.in_ok-parse_end.ensures.means) refl,
+      (rw c.in-Skip.is at c.in-Ok.ensures.means) refl,
   st,
 )
 
@@ -22,7 +22,7 @@ returns-in-Burst-clause-answered c s st =
     (record { role = st.role; tsc = st.tsc; links = st.links; held_bursts = st.held_bursts }) in (
       _,
       line_answered c.args.self.now s c.count.result c.args.line.now _ (TakesBurst c.in-Burst.burst) _ st c.count.ensures.count
-          (rw c.in-Burst.is at c.in_ok-parse_end.ensures.means) (rw f.0 refl),
+          (rw c.in-Burst.is at c.in-Ok.ensures.means) (rw f.0 refl),
       f.1,
     )
 
@@ -33,7 +33,7 @@ returns-in-Ask-clause-answered c s st =
     let tsc : c.ask_into-done.new.self.tsc ≡ s.tsc = c.ask_into-done.ensures.same.tsc ∙ sym st.tsc in (
       _,
       line_answered c.args.self.now s c.count.result c.args.line.now _ (Calls event) _ st c.count.ensures.count
-          (rw c.in-Ask.is at c.in_ok-parse_end.ensures.means)
+          (rw c.in-Ask.is at c.in-Ok.ensures.means)
           (rw (c.write_answer.ensures.text, tsc, f.1, ← st.role) refl),
       record {
         role = st.role ∙ ap spec_role_of (sym c.ask_into-done.ensures.same.side);
@@ -48,3 +48,10 @@ returns-in-Ask-clause-size c s st =
     let f = c.ask_into-done.ensures.refines s.links st.links in
     let short = call_short _ s.links _ _ _ (rw f.1 at c.write_answer.ensures.whole) (rw f.1 at c.write_answer.ensures.lines) in
     omega (arith, short, f.1, c.write_answer.ensures.length)
+
+pub returns-in-Err-clause-answered : goal.returns-in-Err-clause-answered
+returns-in-Err-clause-answered c s st = (
+  line_refused c.args.self.now s c.count.result c.args.line.now c.in-Err.fault st c.count.ensures.count (sym c.in-Err.ensures.refused),
+  c.requires.empty,
+  st,
+)
