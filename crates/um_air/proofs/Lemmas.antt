@@ -61,7 +61,7 @@ never_both channel octets f why h g = elim (one_reading channel octets h.count) 
   | inr w ↦ w.1.no_frame f h
 ]
 
-pub one_read : (channel : Channel) (o : Option Octets) (f g : Option Frame) → ReadsFrame channel o f → ReadsFrame channel o g →
+one_read : (channel : Channel) (o : Option Octets) (f g : Option Frame) → ReadsFrame channel o f → ReadsFrame channel o g →
     f ≡ g
 one_read channel o f g h k = grind (arith, same_frame, never_both)
 
@@ -83,10 +83,14 @@ ReadsFrame-frame_in channel octets count = go (cases_eq (length octets) 23)
     go (inl count) = read (one_reading channel octets count)
     go (inr other) = absurd (other count)
 
-frame_in-only : (channel : Channel) (o : Option Octets) (f : Option Frame) → IfSome o (λ octets. length octets ≡ 23) →
+pub ReadsFrame-frame_in_accepted : (channel : Channel) (o : Option Octets) → IfSome o (λ octets. length octets ≡ 23) →
+    ReadsFrame channel o (frame_in_accepted channel o)
+ReadsFrame-frame_in_accepted channel None count = tt
+ReadsFrame-frame_in_accepted channel (Some octets) count = ReadsFrame-frame_in channel octets count
+
+pub frame_in-only : (channel : Channel) (o : Option Octets) (f : Option Frame) → IfSome o (λ octets. length octets ≡ 23) →
     ReadsFrame channel o f → f ≡ frame_in_accepted channel o
-frame_in-only channel None f count h = one_read channel None f None h tt
-frame_in-only channel (Some octets) f count h = one_read channel (Some octets) f _ h (ReadsFrame-frame_in channel octets count)
+frame_in-only channel o f count h = one_read channel o f _ h (ReadsFrame-frame_in_accepted channel o count)
 
 arrival-only : (a : AirState) (event : Event) (o : Option Received) (f : Option Frame) → EventDelivers a event o f →
     (o ≡ report_of a event) × (event_with_frame f event ≡ event_with_frame (frame_in_report a.channel o) event)
@@ -465,14 +469,6 @@ pub octets_small : (channel : Channel) (f : Frame) → FrameFits channel f → A
 octets_small channel f h info =
     search (arith, All-append IsOctet, All-replicate IsOctet, All-cons IsOctet, All-nil IsOctet, information_bound, bit_bound) depth 9
 
-pub some_reading : (channel : Channel) (o : Option Octets) → IfSome o (λ octets. length octets ≡ 23) →
-    (f : Option Frame) × ReadsFrame channel o f
-some_reading channel None h = (None, tt)
-some_reading channel (Some octets) h = elim (one_reading channel octets h) [
-  | inl w ↦ (Some w.0, w.1.frame)
-  | inr w ↦ (None, (w.0, w.1.refused))
-]
-
 some_reception : (a : AirState) (sender : Role) (places : List ℕ) (fs : List Frame) (blocks : List Block) (more : Option EventRefusal) →
     AreBlocksOfFrames a.channel a.tsc fs blocks → queue_of sender a.queues ≡ blocks →
     refusal_if (nat_eq (length blocks) 0) Nothing more ≡ None →
@@ -481,8 +477,8 @@ some_reception a sender places fs [] more sent is none = absurd (cc none)
 some_reception a sender places (f ∷ fs) (block ∷ others) more sent is none =
     let shape = flipped_shape (octets_of a.channel f) a.tsc block sent.0 places in
     let (r, received) = some_received_block _ shape.0 shape.1 in
-    let read = some_reading a.channel r.accepted (accepted_count _ r received) in
-    (r, read.0, record { block = block; later_blocks = others; queue_front = is; received = received; reads_frame = read.1 })
+    let reads = ReadsFrame-frame_in_accepted a.channel r.accepted (accepted_count _ r received) in
+    (r, _, record { block = block; later_blocks = others; queue_front = is; received = received; reads_frame = reads })
 some_reception a sender places fs blocks more sent is none = absurd assumption
 
 some_arrival : (a : AirState) (fs : Queues Frame) (event : Event) → Coded a fs → refusal event a ≡ None →

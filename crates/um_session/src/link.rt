@@ -58,13 +58,15 @@ impl<'a, R: Radio> Command for LinkCommand<'a, R> {
 
     fn answer(&mut self, line: &[u8], out: &mut Text) -> Result<(), LineFault> {
         match parse_script(line, &mut self.room) {
-            Ok(ScriptLine::Skip) => {}
-            Ok(ScriptLine::Step(event)) => {
-                let done = self
-                    .world
-                    .step_into(&mut *self.radio, &event, &mut self.step);
-                write_step_lines(out, &done, &self.step);
-            }
+            Ok(read) => match read {
+                ScriptLine::Skip => {}
+                ScriptLine::Step(event) => {
+                    let done = self
+                        .world
+                        .step_into(&mut *self.radio, &event, &mut self.step);
+                    write_step_lines(out, &done, &self.step);
+                }
+            },
             Err(fault) => return Err(fault),
         }
         Ok(())
