@@ -1,8 +1,27 @@
 -- Runs of the `link` command and the sessions that they carry out.
-use Rattle.{std.proofs.{Common.{All, Err, List, None, Ok, Option, Result, Some, [], ap, arith, refl, suc, zero, ℕ, ◌++◌, ◌+◌, ◌∙◌, ◌∷◌, ◌≡◌, ◌≤◌}, lemmas.List.Elements.{All-append, All-cons, All-head, All-nil, All-tail}}, um_driver.{proofs.{Outputs.{IsProjectedBy, Runs-keep, meaning_of_answer, prescribed_by, run_by, step_of_answer}, Runs.without_memory}, specs.{Rules.{Runs, answer_to_line}, Table.{EndsAsPrescribed, IsRun}, declared.status.Status.{TheVariants.NoMemory, Status}}}, um_link.{proofs.um_air.Lemmas.{air_claims, air_order, air_step_only, few_inverted_is_benign, longer_run, some_answer}, specs.{Naming.spec_answer_of, declared.events.{No.No, Step.Step}, lapdm_frame.declared.Channel.Channel, um_air.{Air.{Answer, Event, IsAirRun, initial_session}, Sessions.{EventInvertsFewBits, EventMessageIsOctets, AllEventsInvertFewBits}}, um_block.{Tallies.{counter_plus_one, counter_plus}, declared.received.Received.Received}}}, um_script.{proofs.ScriptLines.{octet_event, script_line_means}, specs.ScriptLines.{ScriptLineMeans, script_line}}, um_session.specs.{Courses.{RadioCounters, SessionWithRadioCounters, blocks_received_in_step, received_block_count, link_rules_with_radio_counters}, Courses.{sent_frame_count, total_blocks_received, total_frames_sent}, Promises.{DeliveryLawsHold, EventsInvertFewBits, IsLinkCommandRun, RadioCountersRose}, Sessions.{LinkSession, answer_to_event, answer_to_script_line, link_command_rules, new_session}}}
-use Rattle.um_driver.proofs.Outputs.{projected}
-use Rattle.um_driver.specs.Rules.{answer_to_meaning}
-use Rattle.um_script.specs.um_lines.declared.fault.LineFault.{LineFault}
+use Rattle.{
+  std.proofs.Common.{All, Err, List, None, Ok, Option, Result, Some, [], ap, arith, refl, suc, zero, ℕ, ◌++◌, ◌+◌, ◌∙◌},
+  std.proofs.{Common.{◌∷◌, ◌≡◌, ◌≤◌}, lemmas.List.Elements.{All-append, All-cons, All-head, All-nil, All-tail}},
+  um_driver.proofs.Outputs.{IsProjectedBy, Runs-keep, meaning_of_answer, prescribed_by, run_by, step_of_answer, projected},
+  um_driver.{proofs.Runs.without_memory, specs.{Rules.{Runs, answer_to_line, answer_to_meaning}, Table.{EndsAsPrescribed, IsRun}}},
+  um_driver.specs.declared.status.Status.{TheVariants.NoMemory, Status},
+  um_link.{
+    proofs.um_air.Lemmas.{air_claims, air_order, air_step_only, few_inverted_is_benign, longer_run, some_answer},
+    specs.{Naming.spec_answer_of, declared.events.{No.No, Step.Step}, lapdm_frame.declared.Channel.Channel, um_air.Air.{Answer, Event}},
+    specs.um_air.{Air.{IsAirRun, initial_session, IsAirStep}, Sessions.{EventInvertsFewBits, EventMessageIsOctets, AllEventsInvertFewBits}},
+    specs.{um_air.Computed.air_step, um_block.{Tallies.{counter_plus_one, counter_plus}, declared.received.Received.Received}},
+  },
+  um_script.{
+    proofs.ScriptLines.{octet_event, script_line_means},
+    specs.{ScriptLines.{ScriptLineMeans, script_line}, um_lines.declared.fault.LineFault.LineFault},
+  },
+  um_session.specs.{
+    Courses.{RadioCounters, SessionWithRadioCounters, blocks_received_in_step, received_block_count, link_rules_with_radio_counters},
+    Courses.{sent_frame_count, total_blocks_received, total_frames_sent},
+    Promises.{DeliveryLawsHold, EventsInvertFewBits, IsLinkCommandRun, RadioCountersRose},
+    Sessions.{LinkSession, answer_to_event, answer_to_script_line, link_command_rules, new_session},
+  },
+}
 use Rattle.um_link.specs.Abstraction as L
 
 -- ## Octets: The messages in a session consist of octets (numbers from 0 to 255). `AllEventsInvertFewBits` requires this, besides few
@@ -112,6 +131,16 @@ module _ (tsc : ℕ) (channel : Channel) (within : tsc ≤ 7) where
         benign = λ few. few_inverted_is_benign tsc channel s.events s.answers s.air run (events_invert_few s.events few octets);
       }
 
+  -- after any lines, the answer to the event of the next line is the one that the event may have
+  pub answer_is_air_step : (lines answers : List (List ℕ)) (s : LinkSession) (line : List ℕ) (event : Event) →
+      Runs link_command_rules (new_session tsc channel) lines answers s → script_line line ≡ Ok (Some event) →
+      IsAirStep s.air event (air_step s.air event).0 (air_step s.air event).1
+  answer_is_air_step lines answers s line event runs parses =
+      let (octets, run) = session_of_run lines answers s runs in
+      let said = octet_event line event (script_line_means line (Some event) parses) in
+      let next = some_answer tsc channel s.events s.answers s.air within octets run event said in
+      rw (air_step_only s.air event next.0 next.1 next.2) next.2
+
 -- ## Running: A run by the rules that include the radio is also a run by the rules of `link`.
 
 abbrev session_in : SessionWithRadioCounters → LinkSession
@@ -142,14 +171,13 @@ module _ (tsc : ℕ) (channel : Channel) (before after : RadioCounters) where
   abbrev start : SessionWithRadioCounters
   start = record { session = new_session tsc channel; initial_counters = before }
 
-  pub IsLinkCommandRun-run : (Represents : SessionWithRadioCounters → Type 0) → tsc ≤ 7 →
+  pub IsLinkCommandRun-run : (Represents : SessionWithRadioCounters → Type 0) →
       ((c : SessionWithRadioCounters) → Represents c → Reports after c) → (status : Status) (left left' taken taken' : Option (List ℕ)) →
       IsRun link_rules_with_radio_counters start Represents status left left' taken taken' →
       IsLinkCommandRun tsc channel status left left' taken taken' before after
-  IsLinkCommandRun-run Represents within tells status left left' taken taken' h =
-      let run = run_by session_in link_rules_with_radio_counters link_command_rules without_radio start Represents
-      (λ last. RadioCountersRose last.answers before after) counted status left left' taken taken' h in
-      record { run = run; delivery_laws_hold = delivery_laws_hold tsc channel within run.lines run.answers run.state run.runs }
+  IsLinkCommandRun-run Represents tells =
+      run_by session_in link_rules_with_radio_counters link_command_rules without_radio start Represents
+      (λ last. RadioCountersRose last.answers before after) counted
     where
       counted : (b : SessionWithRadioCounters) (lines answers : List (List ℕ)) → Runs link_rules_with_radio_counters start lines answers b →
           Represents b → RadioCountersRose b.session.answers before after
@@ -166,11 +194,11 @@ link-prescribed s before =
     (record { session = s; initial_counters = before })
 
 -- a run of `link` can end with `NoMemory` at the start, with nothing read or written and the counters unchanged
-pub IsLinkCommandRun-no_memory : (tsc : ℕ) (channel : Channel) (before : RadioCounters) (left taken : Option (List ℕ)) → tsc ≤ 7 →
+pub IsLinkCommandRun-no_memory : (tsc : ℕ) (channel : Channel) (before : RadioCounters) (left taken : Option (List ℕ)) →
     IsLinkCommandRun tsc channel NoMemory left left taken taken before before
-IsLinkCommandRun-no_memory tsc channel before left taken within =
+IsLinkCommandRun-no_memory tsc channel before left taken =
     let start : SessionWithRadioCounters = record { session = new_session tsc channel; initial_counters = before } in
-    IsLinkCommandRun-run tsc channel before before (Reports before) within (λ c represents. represents) NoMemory left left taken taken
+    IsLinkCommandRun-run tsc channel before before (Reports before) (λ c represents. represents) NoMemory left left taken taken
     (without_memory link_rules_with_radio_counters start (Reports before) left taken (refl, refl))
 
 -- `IsLinkCommandRun` still holds if its parameters are replaced by equal ones
