@@ -1,5 +1,38 @@
 -- Runs of the `link` command and the sessions that they carry out.
-use Rattle.{std.proofs.{Common.{All, Err, List, None, Ok, Option, Result, Some, [], ap, arith, refl, suc, zero, ℕ, ◌++◌, ◌+◌, ◌∙◌, ◌∷◌, ◌≡◌, ◌≤◌}, lemmas.List.Elements.{All-append, All-cons, All-head, All-nil, All-tail}}, um_driver.{proofs.{Outputs.{IsProjectedBy, Runs-keep, meaning_of_answer, prescribed_by, run_by, step_of_answer}, Runs.without_memory}, specs.{Rules.{Runs, answer_to_line}, Table.{EndsAsPrescribed, IsRun}, declared.status.Status.{TheVariants.NoMemory, Status}}}, um_link.{proofs.um_air.Lemmas.{air_claims, air_order, air_step_only, few_inverted_is_benign, longer_run, some_answer}, specs.{Naming.spec_answer_of, declared.events.{No.No, Step.Step}, lapdm_frame.declared.Channel.Channel, um_air.{Air.{Answer, Event, IsAirRun, initial_session}, Sessions.{EventInvertsFewBits, EventMessageIsOctets, AllEventsInvertFewBits}}, um_block.{Tallies.{counter_plus_one, counter_plus}, declared.received.Received.Received}}}, um_script.{proofs.ScriptLines.{octet_event, script_line_means}, specs.ScriptLines.{ScriptLineMeans, script_line}}, um_session.specs.{Courses.{RadioCounters, SessionWithRadioCounters, blocks_received_in_step, received_block_count, link_rules_with_radio_counters}, Courses.{sent_frame_count, total_blocks_received, total_frames_sent}, Promises.{DeliveryLawsHold, EventsInvertFewBits, IsLinkCommandRun, RadioCountersRose}, Sessions.{LinkSession, answer_to_event, answer_to_script_line, link_command_rules, new_session}}}
+use Rattle.{
+  std.proofs.{
+    Common.{All, Err, List, None, Ok, Option, Result, Some, [], ap, arith, refl, suc, zero, ℕ, ◌++◌, ◌+◌, ◌∙◌, ◌∷◌, ◌≡◌, ◌≤◌},
+    lemmas.List.Elements.{All-append, All-cons, All-head, All-nil, All-tail},
+  },
+  um_driver.{
+    proofs.{Outputs.{IsProjectedBy, Runs-keep, meaning_of_answer, prescribed_by, run_by, step_of_answer}, Runs.without_memory},
+    specs.{
+      Rules.{Runs, answer_to_line},
+      Table.{EndsAsPrescribed, IsRun},
+      declared.status.Status.{TheVariants.NoMemory, Status},
+    },
+  },
+  um_link.{
+    proofs.um_air.Lemmas.{air_claims, air_order, air_step_only, few_inverted_is_benign, longer_run, some_answer},
+    specs.{
+      Naming.spec_answer_of,
+      declared.events.{No.No, Step.Step},
+      lapdm_frame.declared.Channel.Channel,
+      um_air.{
+        Air.{Answer, Event, IsAirRun, initial_session},
+        Sessions.{EventInvertsFewBits, EventMessageIsOctets, AllEventsInvertFewBits},
+      },
+      um_block.{Tallies.{counter_plus_one, counter_plus}, declared.received.Received.Received},
+    },
+  },
+  um_script.{proofs.ScriptLines.{octet_event, script_line_means}, specs.ScriptLines.{ScriptLineMeans, script_line}},
+  um_session.specs.{
+    Courses.{RadioCounters, SessionWithRadioCounters, blocks_received_in_step, received_block_count, link_rules_with_radio_counters},
+    Courses.{sent_frame_count, total_blocks_received, total_frames_sent},
+    Promises.{DeliveryLawsHold, EventsInvertFewBits, IsLinkCommandRun, RadioCountersRose},
+    Sessions.{LinkSession, answer_to_event, answer_to_script_line, link_command_rules, new_session},
+  },
+}
 use Rattle.um_driver.proofs.Outputs.{projected}
 use Rattle.um_driver.specs.Rules.{answer_to_meaning}
 use Rattle.um_script.specs.um_lines.declared.fault.LineFault.{LineFault}
@@ -154,8 +187,8 @@ module _ (tsc : ℕ) (channel : Channel) (before after : RadioCounters) where
       counted : (b : SessionWithRadioCounters) (lines answers : List (List ℕ)) → Runs link_rules_with_radio_counters start lines answers b →
           Represents b → RadioCountersRose b.session.answers before after
       counted b lines answers runs represents =
-          let kept = Runs-keep link_rules_with_radio_counters (λ c. c.initial_counters ≡ before) (counters_kept before) start b lines answers
-          refl runs in
+          let kept = Runs-keep link_rules_with_radio_counters (λ c. c.initial_counters ≡ before) (counters_kept before) start b lines
+          answers refl runs in
           rw (← kept) (record { sent_rose = (tells b represents).0; received_rose = (tells b represents).1 })
 
 pub link-prescribed : (s : LinkSession) (before : RadioCounters) (status : Status) (left taken taken' : Option (List ℕ)) →
