@@ -3,13 +3,14 @@ use Rattle.{
   lapdm_end.specs.{Sides.CarriesOutStep, declared.sides.Side.Side},
   std.{
     proofs.{
-      Common.{Err, Ok, append-nil, get_or, take},
+      Common.{Err, Ok, Result, append-nil, append_assoc, get_or, take, ◌⊎◌},
       lemmas.{Bool.{cases_lt, le-ltb, lt-ltb}, List.{Elements.{All-head, All-nil, All-push, All-tail}, take_more}, Grind.flat_map-append},
     },
-    specs.List.All,
+    specs.{List.All, Result.IfErr},
   },
   um_driver.{proofs.Outputs.{meaning_of_answer, step_of_answer}, specs.Rules.Runs},
   um_end.specs.{
+    Abstraction.role_of_terminal,
     Commands.CommandRepresents,
     EndLines.{Calls, Nothing as NoLine, TakesBurst, end_command_line, end_command_line_fault},
     EndRuns.{EndCommandState, answer_to_end_command_line, burst_lines_of_frames, end_answer_text, end_command_rules},
@@ -26,13 +27,13 @@ use Rattle.{
       lapdm_frame.Lemmas.octets_canonical,
       lapdm_link.Lemmas.{AllSay, CallOctets, EndOctets, OutcomeOctets, SaysOctets, call-octets, frame-octets},
       lapdm_window.Lemmas.{IsValidEndpoint-initial, Keeps, keeps-call, keeps-frame},
-      um_air.Lemmas.{ReadsFrame-frame_in_accepted, frame_in-only, octets_small, same_step},
+      um_air.Lemmas.{ReadsFrame-frame_in_accepted, frame_in-only, frame_in-refused, octets_small, same_step},
       um_block.Lemmas.{IsSentBlock-sent_block, accepted_count, received_block-only, some_received_block},
     },
     specs.{lapdm_window.{Calls.IsCallAllowedForEndpoint, Ends.{IsValidEndpoint, initial_endpoint}}, um_air.Computed.frame_in_accepted},
     specs.lapdm_link.{Events.{BothSides, other, side_with_role, with_side_replaced}, Queues.without_oldest_item},
     specs.{lapdm_window.declared.{Refused.Refused, effects.Effects.Effects}, um_block.{Computed.{received_block, sent_block}}},
-    specs.um_block.Received.IsReceivedBlock,
+    specs.{lapdm_frame.{Readings.IsOnlyRefusalReason, declared.Refusal.Refusal}, um_block.Received.IsReceivedBlock},
   },
 }
 use Rattle.um_end.specs.TwoTerminals as T
@@ -49,6 +50,11 @@ pub terminal_step-is : (role role' : Role) (received : Option Received) (d : Sid
 terminal_step-is role role' received d sapi effects new step is same h =
     is ∙ same_step _ (terminal_step_of role received d) (ap BySide same) h.sapi_matches refl h.frames h.notices
 
+pub unread : {View : Type 0} (octets : Octets) (result : Result View Refusal) → ((f : View) → result ≡ Ok f → ⊥) →
+    IfErr result (λ reason. IsOnlyRefusalReason Sdcch octets reason) → frame_in_accepted Sdcch (Some octets) ≡ None
+unread octets (Ok f) never refused = absurd (never f refl)
+unread octets (Err reason) never refused = frame_in-refused Sdcch octets reason refused.refused
+
 -- ---- four bursts of 148 soft values
 
 abbrev pub Whole : List ℤ → Type 0
@@ -61,10 +67,9 @@ ReceivesBursts-only role a bursts b step h =
     let frame = frame_in-only Sdcch h.report.accepted h.frame (accepted_count bursts h.report h.received) h.reads in
     rw (h.new_state_is, h.step_is_terminal_step, frame, report) refl
 
-pub ReceivesBursts-answer_to_block : (role : Role) (a : SideState) (bursts : List (List ℤ)) → length bursts ≡ 4 → All Whole bursts →
+pub ReceivesBursts-received : (role : Role) (a : SideState) (bursts : List (List ℤ)) (r : Received) → IsReceivedBlock bursts r →
     ReceivesBursts role a bursts (answer_to_block role a bursts).0 (answer_to_block role a bursts).1
-ReceivesBursts-answer_to_block role a bursts four each =
-    let (r, is) = some_received_block bursts four each in
+ReceivesBursts-received role a bursts r is =
     let received : IsReceivedBlock bursts (received_block bursts) = subst (IsReceivedBlock bursts) (received_block-only bursts r is) is in
     record {
       report = received_block bursts;
@@ -75,16 +80,30 @@ ReceivesBursts-answer_to_block role a bursts four each =
       step_is_terminal_step = refl;
     }
 
+pub ReceivesBursts-answer_to_block : (role : Role) (a : SideState) (bursts : List (List ℤ)) → length bursts ≡ 4 → All Whole bursts →
+    ReceivesBursts role a bursts (answer_to_block role a bursts).0 (answer_to_block role a bursts).1
+ReceivesBursts-answer_to_block role a bursts four each =
+    let (r, is) = some_received_block bursts four each in ReceivesBursts-received role a bursts r is
+
 -- ## Answering: The command answers a line as its rules compute.
 
-pub burst_lines-next : (tsc : ℕ) (os : List Octets) (i : ℕ) → i < length os →
-    burst_lines_of_frames tsc (take i os) ++ bursts_text (sent_block (get_or os i []) tsc) ≡ burst_lines_of_frames tsc (take (i + 1) os)
-burst_lines-next tsc os i within = rw (take_more os i [] within) (go (take i os) (get_or os i []))
+-- the text with the burst lines of one more frame
+pub burst_lines-next : (tsc : ℕ) (os : List Octets) (i : ℕ) (old mid new : List ℕ) (block : Block) → i < length os →
+    mid ≡ old ++ burst_lines_of_frames tsc (take i os) → block ≡ sent_block (get_or os i []) tsc → new ≡ mid ++ bursts_text block →
+    new ≡ old ++ burst_lines_of_frames tsc (take (i + 1) os)
+burst_lines-next tsc os i old mid new block within before coded is =
+    rw (is, before, coded, take_more os i [] within)
+    (append_assoc old _ _ ∙ ap (λ t. old ++ t) (go (take i os) (get_or os i [])))
   where
     go : (front : List Octets) (o : Octets) → burst_lines_of_frames tsc front ++ bursts_text (sent_block o tsc)
         ≡ burst_lines_of_frames tsc (front ++ o ∷ [])
-    go [] o = append-nil _
-    go (first ∷ front) o = append_assoc _ _ _ ∙ ap (λ t. bursts_text (sent_block first tsc) ++ t) (go front o)
+    go [] o = sym (append-nil (bursts_text (sent_block o tsc)))
+    go (first ∷ front) o = append_assoc (bursts_text (sent_block first tsc)) (burst_lines_of_frames tsc front) _
+        ∙ ap (λ t. bursts_text (sent_block first tsc) ++ t) (go front o)
+
+pub blocks-next : (os : List Octets) (i : ℕ) → i < length os → All IsBlock (take i os) → IsBlock (get_or os i []) →
+    All IsBlock (take (i + 1) os)
+blocks-next os i within before count = rw (take_more os i [] within) (All-push IsBlock (take i os) (get_or os i []) before count)
 
 -- what the parser says of a line with the command's side and number of held bursts holds for the state that the command represents
 pub line_answered : (c : EndCommand) (s : EndCommandState) (count : ℕ) (line text : List ℕ) (meaning : EndCommandLineMeaning)
@@ -303,7 +322,7 @@ module _ (s : EndCommandState) (k : Invariant s) where
           turn = T.Calls s.role event (answer_to_call s.role s.links event).1;
           next = state_after_step s.role (answer_to_call s.role s.links event).0
               (frames_in_answer (answer_to_call s.role s.links event).1) a.queues a;
-          is_step = (can.0, rw same (refl, refl));
+          is_step = (can.0, rw same refl, rw same refl);
           of_line = (refl, refl, fit.text);
           new_links = links_after s.role _ a.sides;
         });

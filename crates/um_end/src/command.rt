@@ -128,6 +128,7 @@ fn push_block_lines(out: &mut Text, terminal: &Terminal, frames: &[[u8; BLOCK_OC
     requires space { length out.old < 2000 }
     requires size { length frames.now ≤ 2 }
     ensures text { out.new ≡ out.old ++ burst_lines_of_frames terminal.now.tsc frames.now }
+    ensures whole { All (λ octets. length octets ≡ 23) frames.now }
     ensures length { length out.new ≡ length out.old + 604 * length frames.now }
 {
     for octets in frames {

@@ -30,7 +30,7 @@ pub struct Terminal {
 }
 
 impl Terminal {
-    ghost use Rattle.um_end.specs.Terminals.{idle_side, IsCallOfRole};
+    ghost use Rattle.um_end.specs.Terminals.{SideState, idle_side, IsCallOfRole, ReceivesBursts, answer_to_block};
     ghost use Rattle.um_end.specs.Abstraction.{Represents, CallRefinesSideStep, BurstsRefineSideStep, KeepsSideAndTsc, role_of_terminal};
     ghost use Rattle.um_end.specs.BlockSteps.{BlockRefinesSideStep};
 
@@ -95,6 +95,8 @@ impl Terminal {
     pub fn receive(&mut self, bursts: &[[i8; BURST_BITS]; 4]) -> Step
         requires soft { All AllSoftBits bursts.now }
         ensures refines { BurstsRefineSideStep bursts.now self.old result self.new }
+        ensures lawful { (a : SideState) → let next = answer_to_block (role_of_terminal self.old) a bursts.now in
+            ReceivesBursts (role_of_terminal self.old) a bursts.now next.0 next.1 }
         ensures who { spec_who_of result.who ≡ E.BySide (role_of_terminal self.old) }
         ensures received { IsSome result.received }
         ensures numbers { (r : Received) → result.received ≡ Some r → ReceptionIsInRange (reception_quality r) }
@@ -110,6 +112,8 @@ impl Terminal {
     pub fn receive_into(&mut self, bursts: &[[i8; BURST_BITS]; 4], step: &mut Step)
         requires soft { All AllSoftBits bursts.now }
         ensures refines { BurstsRefineSideStep bursts.now self.old step.new self.new }
+        ensures lawful { (a : SideState) → let next = answer_to_block (role_of_terminal self.old) a bursts.now in
+            ReceivesBursts (role_of_terminal self.old) a bursts.now next.0 next.1 }
         ensures who { spec_who_of step.new.who ≡ E.BySide (role_of_terminal self.old) }
         ensures received { IsSome step.new.received }
         ensures numbers { (r : Received) → step.new.received ≡ Some r → ReceptionIsInRange (reception_quality r) }

@@ -182,8 +182,8 @@ module _ (tsc : ℕ) (channel : Channel) (before after : RadioCounters) where
       counted : (b : SessionWithRadioCounters) (lines answers : List (List ℕ)) → Runs link_rules_with_radio_counters start lines answers b →
           Represents b → RadioCountersRose b.session.answers before after
       counted b lines answers runs represents =
-          let kept = Runs-keep link_rules_with_radio_counters (λ c. c.initial_counters ≡ before) (counters_kept before) start b lines answers
-          refl runs in
+          let kept = Runs-keep link_rules_with_radio_counters (λ c. c.initial_counters ≡ before) (counters_kept before) start b lines
+          answers refl runs in
           rw (← kept) (record { sent_rose = (tells b represents).0; received_rose = (tells b represents).1 })
 
 pub link-prescribed : (s : LinkSession) (before : RadioCounters) (status : Status) (left taken taken' : Option (List ℕ)) →

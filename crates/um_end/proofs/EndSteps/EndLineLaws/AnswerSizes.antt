@@ -25,7 +25,7 @@ use Rattle.{
     specs.AnswerLines.{received_block_line, received_block_lines, spaced_words, answer_lines_text, ReceptionIsInRange},
     proofs.AnswerLaws.{lines_text_append, join-spaced, report_line},
   },
-  um_end.specs.Terminals.{call_answer_unless, layer3_call_step, step_for_frame},
+  um_end.specs.{CallEvents.{endpoint_call_in_event, sapi_of_call_event}, Terminals.{call_answer_unless, layer3_call_step, step_for_frame}},
 }
 use Rattle.um_link.specs.lapdm_window.declared.Notice.TheVariants as N
 use Rattle.um_link.specs.lapdm_window.declared.Reason.TheVariants as R
@@ -282,14 +282,18 @@ outcome_short role received sapi o a few brief arrived whole =
       length-map o.frames (octets_of Sdcch),
     )
 
--- the answer to a call has fewer than 2000 octets with its burst lines (`IsShort`), if it has fewer without them
-pub call_short : (role : Role) (a : SideState) (sapi : Sapi) (call : Call) (refused : Option EventRefusal) →
+short_unless : (role : Role) (a : SideState) (sapi : Sapi) (call : Call) (refused : Option EventRefusal) →
     (let answer = (call_answer_unless refused role a (layer3_call_step sapi call a)).1 in
     All IsBlock (frames_in_answer answer) → length (answer_text answer) < 2000 → IsShort answer)
-call_short role a sapi call (Some why) whole lines = omega (arith, lines)
-call_short role a sapi call None whole lines =
+short_unless role a sapi call (Some why) whole lines = omega (arith, lines)
+short_unless role a sapi call None whole lines =
     outcome_short role None sapi (call_outcome call (endpoint_with_sapi sapi a)) a (bound-call call _).frames (notices-call call _)
     (omega arith) whole
+
+-- the answer to a call has fewer than 2000 octets with its burst lines (`IsShort`), if it has fewer without them
+pub call_short : (role : Role) (a : SideState) (event : Event) → (let answer = (answer_to_call role a event).1 in
+    All IsBlock (frames_in_answer answer) → length (answer_text answer) < 2000 → IsShort answer)
+call_short role a event = short_unless role a (sapi_of_call_event event) (endpoint_call_in_event event) _
 
 -- an answer that sends nothing satisfies `IsShort` if its own lines have fewer than 2000 octets
 IsShort-unsent : (step : Step) → step.frames ≡ [] → length (answer_text (Accepts step)) < 2000 → IsShort (Accepts step)

@@ -1,37 +1,49 @@
 use Rattle.{
   std.proofs.{
-    Common.{◌≡◌, ℤ, List, [], ◌∷◌, ◌++◌, length, refl, sym, ap, ◌∙◌, rules, arith},
+    Common.{All, ◌≡◌, ◌<◌, ℤ, List, [], ◌∷◌, ◌++◌, length, refl, sym, ap, subst, ◌∙◌, rules, arith},
     lemmas.Bool.{le-ltb, lt-ltb},
   },
-  um_link.specs.Naming.{spec_role_of, spec_step_of},
-  um_end.{specs.Terminals.answer_to_block, proofs.EndSteps.{ReceivesBursts-answer_to_block, block_short}},
+  um_link.specs.{Naming.{spec_role_of, spec_step_of}, um_air.Air.{Accepts, Step}},
+  um_end.{
+    specs.{Abstraction.{Represents, role_of_terminal}, EndRuns.end_answer_text, Terminals.{SideState, answer_to_block}},
+    proofs.EndSteps.{IsBlock, IsShort, answer_text, block_short},
+  },
 }
 use Rattle.um_end.proofs.command.EndCommand.add_burst_to_block.Goals as goal
 
 pub returns-then-add : goal.returns-then-add
 returns-then-add c = record {
   answers = λ s st.
-      let f = c.receive_into.ensures.refines s.links st.links in
       let bursts : List (List ℤ) = s.held_bursts ++ c.args.burst ∷ [] in
       let holds = rw c.if-add.true at c.add.ensures in
       let whole : c.block.result.now ≡ bursts = c.block.ensures.bursts ∙ holds.0
       ∙ ap (λ held. held ++ c.args.burst ∷ []) (sym st.held_bursts) in
       let four : length bursts ≡ 4 = ap length (sym whole) ∙ search rules in
+      let next = answer_to_block s.role s.links bursts in
+      let same : answer_to_block (role_of_terminal c.args.self.now.terminal) s.links c.block.result.now ≡ next =
+      ap (λ held. answer_to_block (role_of_terminal c.args.self.now.terminal) s.links held) whole
+      ∙ ap (λ role. answer_to_block role s.links bursts) (sym st.role) in
+      let f : Represents c.receive_into.new.self next.0 × (spec_step_of c.receive_into.new.step ≡ next.1) =
+      subst (λ (next : SideState × Step). Represents c.receive_into.new.self next.0
+      × (spec_step_of c.receive_into.new.step ≡ next.1)) same (c.receive_into.ensures.refines s.links st.links) in
       let tsc : c.receive_into.new.self.tsc ≡ s.tsc = c.receive_into.ensures.same.tsc ∙ sym st.tsc in
       rw (le-ltb (length bursts) 4 (omega (arith, four))) (
-        c.write_answer.ensures.text ∙ rw (tsc, f.1, whole, ← st.role) refl,
+        c.write_answer.ensures.text ∙ ap (λ t. end_answer_text t (Accepts (spec_step_of c.receive_into.new.step))) tsc
+            ∙ ap (λ (step : Step). end_answer_text s.tsc (Accepts step)) f.1,
         record {
           role = st.role ∙ ap spec_role_of (sym c.receive_into.ensures.same.side);
           tsc = sym tsc;
-          links = rw (st.role, ← whole) f.0;
+          links = f.0;
           held_bursts = sym holds.2;
         },
       );
   size = λ s st.
       let f = c.receive_into.ensures.refines s.links st.links in
-      let heard = ReceivesBursts-answer_to_block _ s.links c.block.result.now (search rules) (search rules) in
-      let short = block_short _ s.links _ _ (spec_step_of c.receive_into.new.step) (rw (← f.1) at heard) c.receive_into.ensures.numbers
-      c.write_answer.ensures.whole c.write_answer.ensures.lines in
+      let short = subst (λ (step : Step). IsShort (Accepts step)) (sym f.1)
+      (block_short _ s.links c.block.result.now _ _ (c.receive_into.ensures.lawful s.links)
+      (λ r is. c.receive_into.ensures.numbers r (ap (λ (step : Step). step.received) f.1 ∙ is))
+      (subst (λ (step : Step). All IsBlock step.frames) f.1 c.write_answer.ensures.whole)
+      (subst (λ (step : Step). length (answer_text (Accepts step)) < 2000) f.1 c.write_answer.ensures.lines)) in
       omega (arith, short, c.write_answer.ensures.length);
 }
 
