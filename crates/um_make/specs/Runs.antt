@@ -23,8 +23,8 @@ generated_summary tsc n = session_summary (generated_events n) (generated_answer
 pub record IsGeneratedSession (tsc message_count : ℕ) : Type 0 where
   pub last_state : AirState
   pub run : IsAirRun (initial_session tsc Sdcch) (generated_events message_count) (generated_answers tsc message_count) last_state
-  pub only : (answers : List Answer) (last : AirState) → IsAirRun (initial_session tsc Sdcch) (generated_events message_count) answers last →
-      answers ≡ generated_answers tsc message_count
+  pub only : (answers : List Answer) (last : AirState) →
+      IsAirRun (initial_session tsc Sdcch) (generated_events message_count) answers last → answers ≡ generated_answers tsc message_count
 
 -- neither side has more messages acknowledged than the other side has delivered
 pub record AckedAtMostReceived (summary : Summary) : Type 0 where

@@ -1,24 +1,19 @@
 -- Lemmas about the comparison of the two most likely words.
 use Rattle.{
   list_decode.{
-    proofs.{
-      Lemmas.{IsLikelihoodMargin-second, both_unique, one_margin},
-      SecondWord.IsSecondMostLikely-second_most_likely,
-      weight_bound.Lemmas.{Between, all_places, at_least_seven},
-    },
+    proofs.{Lemmas.{IsLikelihoodMargin-second, both_unique, one_margin}, SecondWord.IsSecondMostLikely-second_most_likely},
+    proofs.weight_bound.Lemmas.{Between, all_places, at_least_seven},
     specs.{Ranking.{HasTiedWord, IsCandidate}, SecondWord.second_most_likely, weight_bound.Distance.distance},
   },
   std.proofs.Common.{List, [], ap, ap₂, arith, inl, inr, length, pos, refl, sym, ℕ, ℤ, ◌*◌, ◌+ℤ◌, ◌-ℤ◌, ◌-◌},
   std.proofs.{Common.{◌∙◌, ◌≡◌, ◌≢◌, ◌≤◌}, Math.Logic.◌↔◌, lemmas.{Int.ints, List.Elements.All-weaker}},
   std.specs.{List.All, Prelude.{unsigned_abs, ◌≤ℤ◌}},
   um_block.{
-    proofs.{
-      conv_code.Lemmas.{AllBits-coded, IsMostLikely-only, length-coded},
-      interleave.Lemmas.{IsInterleaved-deinterleaved, same_coded},
-      trellis_decode.Lemmas.IsMostLikely-most_likely,
-    },
-    specs.{Received.IsReceivedBlock, bit_blocks.SoftValues.{count_wrong_bits, likelihood}, interleave.Bursts.{IsInterleaved, deinterleaved}},
-    specs.{conv_code.{Code.encoding, Likelihood.IsMostLikely}, declared.received.Received.Received, trellis_decode.MostLikely.most_likely},
+    proofs.{conv_code.Lemmas.{AllBits-coded, IsMostLikely-only, length-coded}, interleave.Lemmas.{IsInterleaved-deinterleaved, same_coded}},
+    proofs.trellis_decode.Lemmas.IsMostLikely-most_likely,
+    specs.{Received.IsReceivedBlock, bit_blocks.SoftValues.{count_wrong_bits, likelihood}, interleave.Bursts.IsInterleaved},
+    specs.{interleave.Bursts.deinterleaved, conv_code.{Code.encoding, Likelihood.IsMostLikely}, declared.received.Received.Received},
+    specs.trellis_decode.MostLikely.most_likely,
   },
   um_margin.specs.Compared.{AreTwoMostLikelyBlockWords, AreTwoMostLikelyWords, TwoMostLikelyWords, compared_block_words, compared_words},
 }

@@ -1,5 +1,5 @@
 -- Worked inputs of `link`: the prescribed response, computed.
-use Rattle.std.specs.Prelude.{◌≡◌, List, [], Option, Some, true, codes}
+use Rattle.std.specs.Prelude.{◌≡◌, ◌++◌, List, [], Option, Some, true, codes}
 use Rattle.std.proofs.Common.{refl}
 use Rattle.std.specs.Fmt.{digits}
 use Rattle.um_driver.specs.um_lines.Hex.{encode_with}
@@ -11,9 +11,11 @@ use Rattle.um_session.specs.Sessions.{link_command_rules, new_session}
 
 -- a mobile asks to open the link, its SABM is lost, and T200 repeats it
 opening : response link_command_rules (new_session 0 Sdcch)
-    (codes "mob open -\nmob send aa\nmob tick\nmob open 0102030405060708090a0b0c0d0e0f1011121314\nmob open 01\nup lose\nmob tick\n") true ≡ (
+    (codes "mob open -\nmob send aa\nmob tick\nmob open 0102030405060708090a0b0c0d0e0f1011121314\n"
+    ++ codes "mob open 01\nup lose\nmob tick\n") true ≡ (
       Some Done,
-      codes "no empty\nno notopen\nno notrunning\nmob sends 013f510102030405060708090a0b0c0d0e0f1011121314\nok\nno notidle\nok\nmob sends 013f510102030405060708090a0b0c0d0e0f1011121314\nok\n",
+      codes "no empty\nno notopen\nno notrunning\nmob sends 013f510102030405060708090a0b0c0d0e0f1011121314\nok\n"
+          ++ codes "no notidle\nok\nmob sends 013f510102030405060708090a0b0c0d0e0f1011121314\nok\n",
     )
 unfolding response script_line encode_with digits
 opening = refl

@@ -8,11 +8,12 @@ use Rattle.um_bursts.proofs.command.BurstCommand.answer_other_than_normal_burst.
 pub returns-clause-answered : goal.returns-clause-answered
 returns-clause-answered g c =
     let (meaning, means, gives) = c.in-Ok.ensures.means in
-    let new = c.parse_and_hold_burst.new.held in (
+    let new = c.parse_and_hold_burst.new.held in
+    let wrote = c.write_answer.ensures.answer in (
       new.held,
       subst (λ (hs : List (List ℤ)). (burst_rules g.R.Reports.answers).step hs c.args.line.now ≡ Ok (c.write_answer.new.out, new.held))
           c.self.view_is
-          (line_answered g.R.Reports.answers c.self.inside.held new c.args.line.now _ meaning c.in-Ok.next means gives c.write_answer.ensures.answer),
+          (line_answered g.R.Reports.answers c.self.inside.held new c.args.line.now _ meaning c.in-Ok.next means gives wrote),
       refl,
     )
 
