@@ -1,4 +1,5 @@
 pub mod Bits
+pub mod Greatest
 pub mod Octets
 pub mod Packed
 pub mod Polynomials

@@ -7,6 +7,7 @@ use Rattle.{
     specs.{Bits.{AllBits, IsBit, xor_bits}, Octets.octet_bits, Polynomials.{IsDivisibleBy, IsMultiple, product_coefficient}},
   },
   fire_code.specs.{
+    Crcs.{check_bits, rach_crc as crc_of_rach, sch_crc, shifted, xcch_crc},
     Registers.low_bits,
     Words.{IsRachCodeword, IsSchCodeword, IsXcchCodeword, fire_generator},
     declared.octets.TheConstants.OCTET_REMAINDERS,
@@ -180,10 +181,6 @@ remainder_more (suc n) front register bit taps positive bits within is_bit befor
     (omega (arith, length-low_bits)) (cc) (rw low_bits-suc at before)
     (carry_multiple (suc n) carry taps (and_le_r (bit_xor register bit) 1)))
 
--- the contents of the shift register after `bit` is shifted in
-abbrev pub shifted : (taps register bit : ℕ) → ℕ
-shifted taps register bit = bit_xor (register / 2) (bit_and (bit_xor register bit) 1 * taps)
-
 module _ (n taps : ℕ) (positive : 0 < n) (small : taps < 2 ^ n) where
   -- if the register is the remainder of `front`, shifting in `bits` makes it the remainder of `front ++ bits`
   divided : (front bits : List ℕ) (register : ℕ) → AllBits front → AllBits bits → register < 2 ^ n →
@@ -270,19 +267,16 @@ module _ (n taps : ℕ) (d : List ℕ) where
   as_ones : (p : List ℕ) → length p ≡ n → length p ≡ length {A = ℕ} (replicate n 1)
   as_ones p count = count ∙ sym (length-replicate n 1)
 
-  some_crc : 0 < n → taps < 2 ^ n → AllBits d → (p : List ℕ) × IsCrc n taps d p
-  some_crc positive small all =
+  IsCrc-check_bits : 0 < n → taps < 2 ^ n → AllBits d → IsCrc n taps d (check_bits n taps d)
+  IsCrc-check_bits positive small all =
       let register = fold (shifted taps) 0 d in
       let r = low_bits n register in
       let ones : List ℕ = replicate n 1 in
-      let e = as_ones r (length-low_bits n register) in (
-        xor_bits r ones,
-        record {
-          count = length-xor_bits r ones e ∙ length-low_bits n register;
-          bits = AllBits-xor_bits r ones;
-          quotient = rw (add_bits_twice r ones (AllBits-low_bits n register) e) (remainder_of n taps positive small d all).0;
-        },
-      )
+      let e = as_ones r (length-low_bits n register) in record {
+        count = length-xor_bits r ones e ∙ length-low_bits n register;
+        bits = AllBits-xor_bits r ones;
+        quotient = rw (add_bits_twice r ones (AllBits-low_bits n register) e) (remainder_of n taps positive small d all).0;
+      }
 
   inverted_long : (p : List ℕ) → IsCrc n taps d p → length (xor_bits p (replicate n 1)) ≡ length (low_bits n taps)
   inverted_long p is = length-xor_bits p _ (as_ones p is.count) ∙ is.count ∙ sym (length-low_bits n taps)
@@ -348,9 +342,13 @@ xcch_word : (d p : List ℕ) → length d ≡ 184 → AllBits d → IsCrc 40 618
 unfolding low_bits
 xcch_word d p ed bits is = assumption (word_of_crc 184 40 618479558656 d ed p (lit< tt) bits is)
 
+pub xcch_crc_word : (d : List ℕ) → length d ≡ 184 → AllBits d → IsXcchCodeword (d ++ xcch_crc d)
+unfolding xcch_crc
+xcch_crc_word d ed bits =
+    xcch_word d (check_bits 40 618479558656 d) ed bits (IsCrc-check_bits 40 618479558656 d (lit< tt) (lit< tt) bits)
+
 pub some_xcch_crc : (d : List ℕ) → length d ≡ 184 → AllBits d → (p : List ℕ) × IsXcchCodeword (d ++ p)
-some_xcch_crc d ed bits =
-    let p = some_crc 40 618479558656 d (lit< tt) (lit< tt) bits in (p.0, xcch_word d p.0 ed bits p.1)
+some_xcch_crc d ed bits = (xcch_crc d, xcch_crc_word d ed bits)
 
 pub one_xcch_crc : (d p p' : List ℕ) → length d ≡ 184 → IsXcchCodeword (d ++ p) → IsXcchCodeword (d ++ p') → p ≡ p'
 unfolding low_bits
@@ -447,10 +445,14 @@ rach_crc d p b ed word =
       add_bits_twice p b (AllBits-back d p word.bits) e,
     )
 
+pub rach_crc_word : (d b : List ℕ) → length d ≡ 8 → AllBits d → length b ≡ 6 → AllBits b → IsRachCodeword (d ++ crc_of_rach d b) b
+unfolding crc_of_rach
+rach_crc_word d b ed bd eb bb =
+    rach_word d (check_bits 6 61 d) b ed bd (IsCrc-check_bits 6 61 d (lit< tt) (lit< tt) bd) eb bb
+
 pub some_rach_crc : (d b : List ℕ) → length d ≡ 8 → AllBits d → length b ≡ 6 → AllBits b →
     (p : List ℕ) × IsRachCodeword (d ++ p) b
-some_rach_crc d b ed bd eb bb =
-    let p = some_crc 6 61 d (lit< tt) (lit< tt) bd in (xor_bits p.0 b, rach_word d p.0 b ed bd p.1 eb bb)
+some_rach_crc d b ed bd eb bb = (crc_of_rach d b, rach_crc_word d b ed bd eb bb)
 
 pub one_rach_crc : (d p p' b : List ℕ) → length d ≡ 8 → IsRachCodeword (d ++ p) b → IsRachCodeword (d ++ p') b → p ≡ p'
 one_rach_crc d p p' b ed word word' =
@@ -473,8 +475,12 @@ pub sch_word : (d p : List ℕ) → length d ≡ 25 → AllBits d → IsCrc 10 6
 unfolding low_bits
 sch_word d p ed bits is = assumption (word_of_crc 25 10 698 d ed p (lit< tt) bits is)
 
+pub sch_crc_word : (d : List ℕ) → length d ≡ 25 → AllBits d → IsSchCodeword (d ++ sch_crc d)
+unfolding sch_crc
+sch_crc_word d ed bits = sch_word d (check_bits 10 698 d) ed bits (IsCrc-check_bits 10 698 d (lit< tt) (lit< tt) bits)
+
 pub some_sch_crc : (d : List ℕ) → length d ≡ 25 → AllBits d → (p : List ℕ) × IsSchCodeword (d ++ p)
-some_sch_crc d ed bits = let p = some_crc 10 698 d (lit< tt) (lit< tt) bits in (p.0, sch_word d p.0 ed bits p.1)
+some_sch_crc d ed bits = (sch_crc d, sch_crc_word d ed bits)
 
 pub one_sch_crc : (d p p' : List ℕ) → length d ≡ 25 → IsSchCodeword (d ++ p) → IsSchCodeword (d ++ p') → p ≡ p'
 unfolding low_bits

@@ -1,12 +1,14 @@
 -- Error bursts: different bursts have different syndromes, and the search finds the burst with a given syndrome.
 use Rattle.{
+  bit_blocks.proofs.{
+    Lemmas.{AllBits-back, AllBits-table, AllBits-xor_bits, HasQuotient_self, IsDivisibleBy-zeros, IsDivisibleBy-zeros_append},
+    Lemmas.{add_bits_again, add_bits_more, divided_more, get_or-xor_bits, length-xor_bits, xor_bits-zeros},
+  },
   fire_code.{
     proofs.{
       Lemmas.{AllBits-low_bits, add_after, get_or-low_bits, length-low_bits, low_bits-mod, low_bits-number_of, low_bits-suc, low_bits-xor},
       Lemmas.{low_bits-zero, lowest_of_xor, number_of_within, number_of, one_xcch_crc, passed, register_bits_split, same_register},
       Lemmas.{some_xcch_crc, tested},
-      bit_blocks.Lemmas.{AllBits-back, AllBits-table, AllBits-xor_bits, HasQuotient_self, IsDivisibleBy-zeros, IsDivisibleBy-zeros_append},
-      bit_blocks.Lemmas.{add_bits_again, add_bits_more, divided_more, get_or-xor_bits, length-xor_bits, xor_bits-zeros},
     },
     specs.{Registers.low_bits, Words.{IsXcchCodeword, fire_generator}, bit_blocks.Bits.{AllBits, IsBit, xor_bits}},
     specs.bit_blocks.Polynomials.IsDivisibleBy,

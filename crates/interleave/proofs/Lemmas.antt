@@ -5,7 +5,7 @@ use Rattle.{
     specs.{Bits.AllBits, Packed.{AreCodedBitsPacked, bit_of, packed_bit_index}},
   },
   interleave.specs.{
-    Bursts.{AreDeinterleaved, IsBurstDeinterleaved, IsInterleaved},
+    Bursts.{deinterleaved, interleaved, interleaved_burst, AreDeinterleaved, IsBurstDeinterleaved, IsInterleaved},
     ColumnPositions.{coded_bit_number_in_column, coded_bit_number_in_burst, burst_position_of_column_bit},
     Columns.AreColumnsOfCodedBits,
     Positions.{burst_of_bit, position_in_burst, position_in_four_bursts},
@@ -309,45 +309,39 @@ IsInterleaved-any_order bursts order old new long four each every steps = record
 
 -- ---- lemmas about interleaving
 
-burst_bits : List ℕ → ℕ → List ℕ
-burst_bits c b = map (λ j. get_or c (coded_bit_number_in_burst b j) 0) (range_with_len 0 114)
-
-all_burst_bits : List ℕ → List (List ℕ)
-all_burst_bits c = map (burst_bits c) (range_with_len 0 4)
-
-pub some_spread : (c : List ℕ) → length c ≡ 456 → (parts : List (List ℕ)) × IsInterleaved c parts
-unfolding all_burst_bits burst_bits
-some_spread c count = (
-  all_burst_bits c,
+pub IsInterleaved-interleaved : (c : List ℕ) → length c ≡ 456 → IsInterleaved c (interleaved c)
+unfolding interleaved
+IsInterleaved-interleaved c count =
   record {
     coded_count = count;
-    burst_count = length-map-range_with_len (burst_bits c) 0 4;
+    burst_count = length-map-range_with_len (interleaved_burst c) 0 4;
     burst_lengths = λ b d h.
-        let within : b < 4 = rw (length-map-range_with_len (burst_bits c) 0 4) at h in
-        ap length (get_or-map-range_with_len (burst_bits c) 0 4 b b d within (omega arith))
+        let within : b < 4 = rw (length-map-range_with_len (interleaved_burst c) 0 4) at h in
+        ap length (get_or-map-range_with_len (interleaved_burst c) 0 4 b b d within (omega arith))
         ∙ length-map-range_with_len (λ j. get_or c (coded_bit_number_in_burst b j) 0) 0 114;
     positions = λ k d within.
         let b = burst_of_bit k in
         let j = position_in_burst k in
-        ap (λ bits. get_or bits j d) (get_or-map-range_with_len (burst_bits c) 0 4 b b [] (burst_of_bit-below k) (omega arith))
+        ap (λ bits. get_or bits j d) (get_or-map-range_with_len (interleaved_burst c) 0 4 b b [] (burst_of_bit-below k) (omega arith))
         ∙ get_or-map-range_with_len (λ i. get_or c (coded_bit_number_in_burst b i) 0) 0 114 j j d (position_in_burst-below k)
         (omega arith)
         ∙ ap (λ i. get_or c i 0) (coded_bit_number_in_burst-inverse k within)
         ∙ get_or_default c k 0 d (omega arith);
-  },
-)
+  }
+
+pub some_spread : (c : List ℕ) → length c ≡ 456 → (parts : List (List ℕ)) × IsInterleaved c parts
+some_spread c count = (interleaved c, IsInterleaved-interleaved c count)
 
 -- ---- lemmas about deinterleaving
 
 module _ {X : Type 0} (none : X) (parts : List (List X)) (four : length parts ≡ 4) (each : All (λ part. length part ≡ 114) parts) where
   -- the value of coded bit k in the bursts
-  held_at : ℕ → X
+  abbrev held_at : ℕ → X
   held_at k = get_or (get_or parts (burst_of_bit k) []) (position_in_burst k) none
 
-  pub some_gathered : (c : List X) × IsInterleaved c parts
-  unfolding held_at
-  some_gathered = (
-    map held_at (range_with_len 0 456),
+  pub IsInterleaved-deinterleaved : IsInterleaved (deinterleaved none parts) parts
+  unfolding deinterleaved
+  IsInterleaved-deinterleaved =
     record {
       coded_count = length-map-range_with_len held_at 0 456;
       burst_count = four;
@@ -358,8 +352,10 @@ module _ {X : Type 0} (none : X) (parts : List (List X)) (four : length parts �
           let inside : position_in_burst k < length (get_or parts (burst_of_bit k) []) = omega (arith, position_in_burst-below k) in
           get_or_default (get_or parts (burst_of_bit k) []) (position_in_burst k) d none inside
           ∙ sym (get_or-map-range_with_len held_at 0 456 k k d h (omega arith));
-    },
-  )
+    }
+
+  pub some_gathered : (c : List X) × IsInterleaved c parts
+  some_gathered = (deinterleaved none parts, IsInterleaved-deinterleaved)
 
 -- ---- lemmas about properties that values keep when they are interleaved or deinterleaved
 

@@ -1,11 +1,11 @@
 -- Correlations with the training sequences, and the greatest of them.
 use Rattle.{
-  bit_blocks.specs.{Bits.{AllBits, IsBit}, SoftValues.{bit_metric, count_wrong_bits, likelihood}},
+  bit_blocks.specs.{Bits.{AllBits, IsBit}, Greatest.first_greatest, SoftValues.{bit_metric, count_wrong_bits, likelihood}},
   std.{
-    proofs.Common.{Bool, List, [], ap, ap₂, arith, drop, eqb, get_or, inl, inr, leb, length, map, negsuc, of_z, pos, refl, replicate},
-    proofs.Common.{rules, suc, sym, tests, to_z, w16, zero, ℕ, ℤ, ◌%◌, ◌*ℤ◌, ◌*◌, ◌+ℤ◌, ◌+◌, ◌<ℤ◌},
+    proofs.Common.{Bool, List, [], ap, ap₂, arith, drop, eqb, false, get_or, inl, inr, int_lt, leb, length, map, negsuc, of_z, pos, refl, replicate},
+    proofs.Common.{rules, suc, sym, tests, to_z, true, w16, zero, ℕ, ℤ, ◌%◌, ◌*ℤ◌, ◌*◌, ◌+ℤ◌, ◌+◌, ◌<ℤ◌},
     proofs.Common.{◌<◌, ◌^◌, ◌∙◌, ◌∷◌, ◌≡◌, ◌≢◌, ◌≤ℤ◌, ◌≤◌, ◌⊎◌},
-    proofs.lemmas.{Bool.cases_eq, Int.{by_lt_z, int_wrap_fits, ints, to_z-of_z, wrapping_add-bits, wrapping_mul_is}},
+    proofs.lemmas.{Bool.{cases_Bool, cases_eq}, Int.{by_lt_z, int_wrap_fits, ints, to_z-of_z, wrapping_add-bits, wrapping_mul_is}},
     proofs.lemmas.List.{Elements.{All-head, All-tail}, Sums.AllPass-from_list_all, drop_more, get_or-map},
     specs.{Int.int_wrap, List.list_all},
   },
@@ -17,6 +17,7 @@ use Rattle.{
   },
 }
 use lib.Lanes.{zip2}
+pub use Rattle.bit_blocks.proofs.Greatest.{LeadsBelow, LeadsBelow-kept, LeadsBelow-overtaken, leads}
 
 -- ## SequenceTable: Properties of the eight training sequences, checked by computation.
 
@@ -167,44 +168,7 @@ correlation-vector_sum (x ∷ xs) (y ∷ ys) (bit ∷ bits) e b =
     )
 correlation-vector_sum xs ys bits e b = absurd (omega arith)
 
--- ## Greatest: A loop finds the greatest of several scores, and the first if several are equal.
-
--- `best` is below `end`, and every other index below `end` has a smaller score, or an equal score and comes later
-pub record LeadsBelow (score : ℕ → ℤ) (end best : ℕ) : Type 0 where
-  pub in_range : best < end
-  pub others : (n : ℕ) → n < end → n ≢ best → (score n <ℤ score best) ⊎ ((score n ≡ score best) × (best < n))
-
-LeadsBelow-one : (score : ℕ → ℤ) → LeadsBelow score 1 0
-LeadsBelow-one score = record {
-  in_range = omega arith;
-  others = λ n h ne. absurd (omega arith);
-}
-
--- if the next index has a greater score, it becomes the best
-pub LeadsBelow-overtaken : (score : ℕ → ℤ) (end best : ℕ) → LeadsBelow score end best → score best <ℤ score end →
-    LeadsBelow score (end + 1) end
-LeadsBelow-overtaken score end best leads more = record {
-  in_range = omega arith;
-  others = λ n h ne. inl (behind n (omega arith) (cases_eq n best));
-} where
-  behind : (n : ℕ) → n < end → (n ≡ best) ⊎ (n ≢ best) → score n <ℤ score end
-  behind n h (inl same) = rw same more
-  behind n h (inr other) = omega (arith, ints, leads.others n h other)
-
--- if the next index has no greater score, the best index remains the best
-pub LeadsBelow-kept : (score : ℕ → ℤ) (end best : ℕ) → LeadsBelow score end best → score end ≤ℤ score best →
-    LeadsBelow score (end + 1) best
-LeadsBelow-kept score end best leads less = record {
-  in_range = omega (arith, leads.in_range);
-  others = λ n h ne. behind n h ne (cases_eq n end);
-} where
-  behind : (n : ℕ) → n < end + 1 → n ≢ best → (n ≡ end) ⊎ (n ≢ end) →
-      (score n <ℤ score best) ⊎ ((score n ≡ score best) × (best < n))
-  behind n h ne (inl same) =
-      rw same
-      (by_lt_z (score end) (score best)
-      inl (λ over. inr (omega (arith, ints), omega (arith, leads.in_range))))
-  behind n h ne (inr other) = leads.others n (omega arith) ne
+-- ## Greatest: The training sequence with the greatest correlation.
 
 pub IsFirstMaximum-from_LeadsBelow : (score : ℕ → ℤ) (best : ℕ) → LeadsBelow score 8 best → IsFirstMaximum score 7 best
 IsFirstMaximum-from_LeadsBelow score best leads = record {
@@ -226,17 +190,11 @@ IsFirstMaximum-same score total last best same first = record {
       ];
 }
 
-leads : (score : ℕ → ℤ) (n : ℕ) → (best : ℕ) × LeadsBelow score (n + 1) best
-leads score zero = (0, LeadsBelow-one score)
-leads score (suc n) =
-    let before = leads score n in
-    let longer : n + 1 + 1 ≡ suc n + 1 = omega arith in
-    rw (← longer) (by_lt_z (score before.0) (score (n + 1)) (λ more. (n + 1, LeadsBelow-overtaken score (n + 1) before.0 before.1 more))
-    (λ less. (before.0, LeadsBelow-kept score (n + 1) before.0 before.1 less)))
+pub IsFirstMaximum-first_greatest : (score : ℕ → ℤ) → IsFirstMaximum score 7 (first_greatest score 7)
+IsFirstMaximum-first_greatest score = IsFirstMaximum-from_LeadsBelow score (first_greatest score 7) (leads score 7)
 
 pub some_first_greatest : (score : ℕ → ℤ) → (best : ℕ) × IsFirstMaximum score 7 best
-some_first_greatest score =
-    let found = leads score 7 in (found.0, IsFirstMaximum-from_LeadsBelow score found.0 found.1)
+some_first_greatest score = (first_greatest score 7, IsFirstMaximum-first_greatest score)
 
 -- the first index with the greatest score is unique
 pub one_first_greatest : (score : ℕ → ℤ) (last m n : ℕ) → IsFirstMaximum score last m → IsFirstMaximum score last n → m ≡ n

@@ -1,25 +1,28 @@
 -- The Viterbi argument and the exhaustive search.
 use Rattle.{
+  bit_blocks.proofs.Greatest.{LeadsBelow, leads},
   conv_code.{
     proofs.Lemmas.coded_from_start,
+    specs.bit_blocks.Greatest.first_greatest,
     specs.{Code.{IsEncoderInput, encoding}, Likelihood.{IsLexicographicallyBefore, IsMostLikely, RanksAfter, bit_metric, likelihood}},
     specs.bit_blocks.Bits.{AllBits, IsBit},
   },
   std.{
     proofs.{
-      Common.{List, [], ap, ap₂, arith, drop, false, get_or, inl, inr, int_lt, length, pos, refl, replicate, subst, suc, sym, take, true},
+      Common.{Bool, List, [], ap, ap₂, arith, drop, false, get_or, inl, inr, int_lt, length, pos, refl, replicate, subst, suc, sym, take, true},
       Common.{zero, ℕ, ℤ, ◌%◌, ◌*◌, ◌++◌, ◌+ℤ◌, ◌+◌, ◌-ℤ◌, ◌-◌, ◌/◌, ◌<ℤ◌, ◌<◌, ◌^◌},
       Common.{◌∙◌, ◌∷◌, ◌≡◌, ◌≢◌, ◌≤ℤ◌, ◌≤◌},
       Math.Nat.{add-mul-div_left, div-div-eq-div-mul, div-eq_of_lt, div-lt_iff_lt-mul, eq-or-lt_of_le, pow-succ', pow-suc, zero-div},
       lemmas.{Bool.{cases_eq, cases_lt}, Int.{by_lt_z, ints}, List.{Elements.{All-cons, All-head, All-nil, All-tail}, length-drop}},
       lemmas.{List.take_all, Nat.{pow-add, pow_pos}},
     },
-    specs.List.All,
+    specs.{List.All, Prelude.{if◌then◌else◌}},
   },
   trellis_decode.{
     specs.{Lanes.{AreSignedOctets, IsSignedOctet}, Trellis.{EqualMetricButLater, HasTailBits, IsDecision, IsNoBetterPath}},
     specs.Trellis.{IsNotLexicographicallyAfter, IsSurvivor, LessMetric, branch_metric, candidate_metric, encoding_from_state},
-    specs.{Trellis.{first_coded_bit, metric_from_state, next_trellis_state, second_coded_bit, traceback}, Words.to_binary},
+    specs.{MostLikely.{most_likely, nth_input}, Trellis.{first_coded_bit, metric_from_state, next_trellis_state, second_coded_bit, traceback}},
+    specs.Words.to_binary,
     proofs.AcsSteps.each,
   },
 }
@@ -400,10 +403,6 @@ less_by_test a b x y ex ey test = grind arith
 pub most_by_test : (a b x y : ℤ) → a ≡ x → b ≡ y → int_lt a b ≡ false → y ≤ℤ x
 most_by_test a b x y ex ey test = grind arith
 
--- the encoder input with number m in the search
-abbrev pub nth_input : ℕ → ℕ → List ℕ
-nth_input n m = to_binary n (16 * m)
-
 abbrev pub nth_likelihood : List ℤ → ℕ → ℕ → ℤ
 nth_likelihood soft n m = likelihood soft (encoding (nth_input n m))
 
@@ -453,48 +452,33 @@ IsMostLikely-chosen soft n chosen lists long pairs all others = record {
       let below : 16 * m < 2 ^ n = rw (← long) spelt.1 in
       rw (← is) (others m (omega arith) (λ same. ne (sym is ∙ ap (λ m. nth_input n m) same)))
 
--- ## Existence: For any soft bits, a most likely encoder input exists: by induction over all encoder inputs in lexicographic order.
+-- ## Existence: For any soft bits, a most likely encoder input exists: the first with the greatest path metric.
 
--- the best of the first `number` encoder inputs in lexicographic order, and the first of them if several are equally likely
-record IsBestOfFirst (soft : List ℤ) (n number : ℕ) : Type 0 where
-  chosen : ℕ
-  in_range : chosen < number
-  others : (m : ℕ) → m < number → m ≢ chosen → RanksBehind soft n m chosen
+pub RanksBehind-leads : (soft : List ℤ) (n number chosen : ℕ) → 16 * number ≤ 2 ^ n → LeadsBelow (nth_likelihood soft n) number chosen →
+    (m : ℕ) → m < number → m ≢ chosen → RanksBehind soft n m chosen
+RanksBehind-leads soft n number chosen headroom leads m lt ne = elim (leads.others m lt ne) [
+  | inl less ↦ inl less
+  | inr tie ↦
+      let chosen_within : 16 * chosen < 2 ^ n = omega (arith, leads.in_range) in
+      let within : 16 * m < 2 ^ n = omega arith in
+      inr (tie.0, lex_before-to_binary n _ _ (omega (arith, tie.1)) (div-eq_of_lt chosen_within ∙ sym (div-eq_of_lt within)))
+]
 
-IsBestOfFirst-more : (soft : List ℤ) (n number : ℕ) → 16 * (number + 1) ≤ 2 ^ n → IsBestOfFirst soft n (number + 1)
-IsBestOfFirst-more soft n zero headroom = record {
-  chosen = 0;
-  in_range = omega arith;
-  others = λ m h ne. absurd (omega arith);
-}
-IsBestOfFirst-more soft n (suc number) headroom =
-    let before = IsBestOfFirst-more soft n number (omega arith) in
-    let chosen = before.chosen in
-    let within = before.in_range in
-    let last : ℕ = number + 1 in
-    let inside : 16 * last < 2 ^ n = omega arith in
-    let value : ℕ → ℤ = λ m. nth_likelihood soft n m in
-    by_lt_z (value chosen) (value last)
-    (λ more. record {
-      chosen = last;
-      in_range = omega arith;
-      others = λ m h ne. RanksBehind-new soft n chosen last within inside before.others more m (omega arith) ne;
-    })
-    (λ most. record {
-      chosen = chosen;
-      in_range = omega arith;
-      others = λ m h ne. RanksBehind-old soft n chosen last within inside before.others most m (omega arith) ne;
-    })
-
-pub some_most_likely : (soft : List ℤ) (n : ℕ) → length soft ≡ 2 * n → 5 ≤ n →
-    (u : List ℕ) × IsMostLikely soft u × (length u ≡ n)
-some_most_likely soft n pairs long =
+pub IsMostLikely-most_likely : (soft : List ℤ) (n : ℕ) → length soft ≡ 2 * n → 5 ≤ n → IsMostLikely soft (most_likely soft)
+unfolding most_likely
+IsMostLikely-most_likely soft n pairs long =
+    let half : length soft / 2 ≡ n = omega arith in
     let parted : 2 ^ n ≡ 16 * 2 ^ (n - 4) =
     ap (λ k. 2 ^ k) ((omega arith)) ∙ pow-add 2 4 (n - 4) in
     let some : 0 < 2 ^ (n - 4) = pow_pos (n - 4) in
     let lists : ℕ = 2 ^ (n - 4) in
-    let found = IsBestOfFirst-more soft n (lists - 1) (omega arith) in (
-      nth_input n found.chosen,
-      IsMostLikely-chosen soft n found.chosen lists long pairs (sym parted) (λ m h ne. found.others m (omega arith) ne),
-      length-to_binary n (16 * found.chosen),
-    )
+    let chosen = first_greatest (nth_likelihood soft n) (lists - 1) in
+    let found = RanksBehind-leads soft n (lists - 1 + 1) chosen (omega arith) (leads (nth_likelihood soft n) (lists - 1)) in
+    subst (λ k. IsMostLikely soft (nth_input k (first_greatest (nth_likelihood soft k) (2 ^ (k - 4) - 1)))) (sym half)
+    (IsMostLikely-chosen soft n chosen lists long pairs (sym parted) (λ m h ne. found m (omega arith) ne))
+
+pub some_most_likely : (soft : List ℤ) (n : ℕ) → length soft ≡ 2 * n → 5 ≤ n →
+    (u : List ℕ) × IsMostLikely soft u × (length u ≡ n)
+some_most_likely soft n pairs long =
+    let is = IsMostLikely-most_likely soft n pairs long in
+    (most_likely soft, is, omega (arith, is.count))

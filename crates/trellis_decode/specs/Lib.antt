@@ -2,6 +2,7 @@ pub use Rattle.conv_code.specs as conv_code
 pub mod Hard
 pub mod Decisions
 pub mod Lanes
+pub mod MostLikely
 pub mod Trellis
 pub mod AcsLanes
 pub mod SurvivorPaths

@@ -21,10 +21,10 @@ use Rattle.{
     specs.{List.AllZip, Prelude.{IfSome, unsigned_abs}},
     proofs.{
       Common.{All, List, None, Option, Some, [], ap, arith, drop, false, get_or, get_or-set_same, inl, inr, length, map, nat_eq, pos, refl},
-      Common.{sym, ℕ, ℤ, ◌%◌, ◌++◌, ◌-◌, ◌/◌, ◌<◌, ◌∙◌, ◌∷◌, ◌≡◌, ◌≢◌, ◌≤◌},
+      Common.{sym, ℕ, ℤ, ◌%◌, ◌++◌, ◌-◌, ◌/◌, ◌<◌, ◌∙◌, ◌∷◌, ◌≡◌, ◌≢◌, ◌≤◌, ◌⊎◌},
       Math.ListN.get_or-map,
       lemmas.{
-        Bool.Decides.nat_tests,
+        Bool.{Decides.nat_tests, cases_eq},
         Slice.Zip.AllZip-long,
         List.{get_or-append_right, get_or-set_other, get_or_append_left, get_or_default, length-map, length-set, set_past},
         List.Elements.{All-append, All-cons, All-drop, All-head, All-map, All-nil, All-replicate, All-set, All-tail, All-take},
@@ -39,18 +39,20 @@ use Rattle.{
     Sessions.{answer_without_blocks, queues_after_event, session_log},
   },
   um_block.{
-    proofs.Lemmas.{accepted_count, accepted_octets, clean_gathered, coded_block_bits, few_listed_positions, listed, one_received_block},
-    proofs.Lemmas.{one_sent_block, received_place, restored_block, sent_block_bits, some_received_block, some_sent_block},
+    proofs.Lemmas.{accepted_count, accepted_octets, clean_gathered, coded_block_bits, few_listed_positions, listed, received_block-only},
+    proofs.Lemmas.{one_sent_block, received_place, sent_block-only, restored_block, sent_block_bits, some_received_block, some_sent_block},
     proofs.{interleave.Lemmas.position_in_four_bursts-below, weight_bound.Lemmas.IsCorrectable-equal},
     specs.{Received.{IsReceivedBlock, coded_soft_bits, joined_bursts, soft_bit_of, soft_bits}, Sent.IsSentBlock, bit_blocks.Octets.IsOctet},
     specs.{declared.received.Received.Received, interleave.{Bursts.IsInterleaved, Positions.position_in_four_bursts}},
   },
 }
+use Rattle.um_air.specs.Computed.{air_step, frame_in, frame_in_accepted, frame_in_report, report_of, report_on_oldest}
+use Rattle.um_block.specs.Computed.{received_block, sent_block}
+use Rattle.lapdm_link.specs.lapdm_frame.Readings.{HasUniqueReading}
 use Rattle.lapdm_link.specs.Events as E
 use Rattle.lapdm_link.specs.Worlds as W
 
--- ## AnswerUnique: The events of a session determine its answers and states, because coding, reception and reading each have exactly one
--- result.
+-- ## AnswerUnique: What an event may lead to is what `air_step` computes, because coding, reception and reading each have exactly one result.
 
 never_both : (channel : Channel) (octets : Octets) (f : Frame) (why : Refusal) → IsFrameCoding channel f octets →
     IsRefused channel octets why → ⊥
@@ -59,27 +61,83 @@ never_both channel octets f why h g = elim (one_reading channel octets h.count) 
   | inr w ↦ w.1.no_frame f h
 ]
 
-pub one_read : (channel : Channel) (o : Option Octets) (f g : Option Frame) → ReadsFrame channel o f → ReadsFrame channel o g →
+one_read : (channel : Channel) (o : Option Octets) (f g : Option Frame) → ReadsFrame channel o f → ReadsFrame channel o g →
     f ≡ g
 one_read channel o f g h k = grind (arith, same_frame, never_both)
 
-one_reception : (a : AirState) (sender : Role) (places : List ℕ) (r s : Received) (f g : Option Frame) →
-    ReceivesBlock a sender places r f → ReceivesBlock a sender places s g → (r ≡ s) × (f ≡ g)
-one_reception a sender places r s f g h k =
-    let block : h.block ≡ k.block = cc (h.queue_front, k.queue_front) in
-    let same = one_received_block _ r s (rw block at h.received) k.received in
-    (same, one_read a.channel s.accepted f g (rw same at h.reads_frame) k.reads_frame)
+ReadsFrame-frame_in : (channel : Channel) (octets : Octets) → length octets ≡ 23 →
+    ReadsFrame channel (Some octets) (frame_in channel octets)
+unfolding frame_in
+ReadsFrame-frame_in channel octets count = go (cases_eq (length octets) 23)
+  where
+    read : (reading : HasUniqueReading channel octets) → ReadsFrame channel (Some octets) (elim reading [
+      | inl reading ↦ Some reading.0
+      | inr reading ↦ None
+    ])
+    read (inl (f, only)) = only.frame
+    read (inr (reason, only)) = (reason, only.refused)
+    go : (known : (length octets ≡ 23) ⊎ (length octets ≢ 23)) → ReadsFrame channel (Some octets) (elim known [
+      | inl count ↦ elim (one_reading channel octets count) [ inl reading ↦ Some reading.0 | inr reading ↦ None ]
+      | inr other ↦ None
+    ])
+    go (inl count) = read (one_reading channel octets count)
+    go (inr other) = absurd (other count)
 
-one_arrival : (a : AirState) (event : Event) (o p : Option Received) (f g : Option Frame) → EventDelivers a event o f →
-    EventDelivers a event p g → (o ≡ p) × (event_with_frame f event ≡ event_with_frame g event)
-one_arrival a event o p f g h k = grind (arith, one_reception)
+pub ReadsFrame-frame_in_accepted : (channel : Channel) (o : Option Octets) → IfSome o (λ octets. length octets ≡ 23) →
+    ReadsFrame channel o (frame_in_accepted channel o)
+ReadsFrame-frame_in_accepted channel None count = tt
+ReadsFrame-frame_in_accepted channel (Some octets) count = ReadsFrame-frame_in channel octets count
 
-same_blocks : (channel : Channel) (tsc : ℕ) (fs : List Frame) (bs cs : List Block) → AreBlocksOfFrames channel tsc fs bs →
-    AreBlocksOfFrames channel tsc fs cs → bs ≡ cs
-same_blocks channel tsc [] [] [] h k = refl
-same_blocks channel tsc (f ∷ fs) (b ∷ bs) (c ∷ cs) h k =
-    cc (one_sent_block _ _ b c h.0 k.0, same_blocks channel tsc fs bs cs h.1 k.1)
-same_blocks channel tsc fs bs cs h k = absurd assumption
+pub frame_in-only : (channel : Channel) (o : Option Octets) (f : Option Frame) → IfSome o (λ octets. length octets ≡ 23) →
+    ReadsFrame channel o f → f ≡ frame_in_accepted channel o
+frame_in-only channel o f count h = one_read channel o f _ h (ReadsFrame-frame_in_accepted channel o count)
+
+-- octets that are refused encode no frame
+pub frame_in-refused : (channel : Channel) (octets : Octets) (why : Refusal) → IsRefused channel octets why →
+    frame_in channel octets ≡ None
+unfolding frame_in
+frame_in-refused channel octets why h = go (cases_eq (length octets) 23)
+  where
+    read : (reading : HasUniqueReading channel octets) →
+        ◌≡◌ {A = Option Frame} (elim reading [ inl reading ↦ Some reading.0 | inr reading ↦ None ]) None
+    read (inl (f, only)) = absurd (only.not_refused why h)
+    read (inr refused) = refl
+    go : (known : (length octets ≡ 23) ⊎ (length octets ≢ 23)) → ◌≡◌ {A = Option Frame} (elim known [
+      | inl count ↦ elim (one_reading channel octets count) [ inl reading ↦ Some reading.0 | inr reading ↦ None ]
+      | inr other ↦ None
+    ]) None
+    go (inl count) = read (one_reading channel octets count)
+    go (inr other) = refl
+
+arrival-only : (a : AirState) (event : Event) (o : Option Received) (f : Option Frame) → EventDelivers a event o f →
+    (o ≡ report_of a event) × (event_with_frame f event ≡ event_with_frame (frame_in_report a.channel o) event)
+arrival-only a (Deliver sender places) (Some r) f h = (
+  ap Some (received_block-only _ r h.received) ∙ sym (ap (report_on_oldest places) h.queue_front),
+  ap (Deliver sender) (frame_in-only a.channel r.accepted f (accepted_count _ r h.received) h.reads_frame),
+)
+arrival-only a (Deliver sender places) None f h = absurd h
+arrival-only a event None f h = (grind arith, grind arith)
+arrival-only a event o f h = absurd (grind arith)
+
+blocks-only : (channel : Channel) (tsc : ℕ) (fs : List Frame) (bs : List Block) → AreBlocksOfFrames channel tsc fs bs →
+    bs ≡ map (λ f. sent_block (octets_of channel f) tsc) fs
+blocks-only channel tsc [] [] h = refl
+blocks-only channel tsc (f ∷ fs) (b ∷ bs) h = cc (sent_block-only _ _ b h.0, blocks-only channel tsc fs bs h.1)
+blocks-only channel tsc fs bs h = absurd assumption
+
+pub air_step_only : (a : AirState) (event : Event) (b : AirState) (answer : Answer) → IsAirStep a event b answer →
+    air_step a event ≡ (b, answer)
+air_step_only a event b (Refuses why) h = rw (h.0, h.1) refl
+air_step_only a event b (Accepts s) (accepted, h) =
+    let arrival = arrival-only a event s.received h.read h.delivery in
+    let blocks = blocks-only a.channel a.tsc _ h.blocks h.sent in
+    rw (accepted, ← arrival.0, ← arrival.1, ← blocks, h.new_state_is, h.step_matches) refl
+
+pub one_answer : (a : AirState) (event : Event) (b c : AirState) (x y : Answer) → IsAirStep a event b x → IsAirStep a event c y →
+    (b ≡ c) × (x ≡ y)
+one_answer a event b c x y h k =
+    let same : (b, x) ≡ (c, y) = sym (air_step_only a event b x h) ∙ air_step_only a event c y k in
+    (ap (λ s. s.0) same, ap (λ s. s.1) same)
 
 pub same_step : (s t : Step) → s.who ≡ t.who → s.sapi ≡ t.sapi → s.received ≡ t.received → s.frames ≡ t.frames →
     s.notices ≡ t.notices → s ≡ t
@@ -91,16 +149,6 @@ abbrev done : AirState → E.Event → Option Received → Step
 done a e report =
     let d = event_step e a.ends in
     record { who = d.who; sapi = d.sapi; received = report; frames = map (octets_of a.channel) d.frames; notices = d.notices }
-
-pub one_answer : (a : AirState) (event : Event) (b c : AirState) (x y : Answer) → IsAirStep a event b x → IsAirStep a event c y →
-    (b ≡ c) × (x ≡ y)
-one_answer a event b c (Refuses v) (Refuses w) h k = (h.1 ∙ sym k.1, cc (h.0, k.0))
-one_answer a event b c (Accepts s) (Accepts t) (_, h) (_, k) =
-    let same = one_arrival a event s.received t.received h.read k.read h.delivery k.delivery in
-    let blocks = same_blocks a.channel a.tsc (event_step (event_with_frame k.read event) a.ends).frames h.blocks k.blocks
-    (rw same.1 at h.sent) k.sent in
-    (cc (h.new_state_is, k.new_state_is, same.1, blocks), cc (h.step_matches, k.step_matches, same.0, same.1))
-one_answer a event b c x y h k = absurd (cc (h.0, k.0))
 
 pub one_run : (a : AirState) (events : List Event) (b c : AirState) (xs ys : List Answer) → IsAirRun a events xs b →
     IsAirRun a events ys c → (b ≡ c) × (xs ≡ ys)
@@ -438,14 +486,6 @@ pub octets_small : (channel : Channel) (f : Frame) → FrameFits channel f → A
 octets_small channel f h info =
     search (arith, All-append IsOctet, All-replicate IsOctet, All-cons IsOctet, All-nil IsOctet, information_bound, bit_bound) depth 9
 
-pub some_reading : (channel : Channel) (o : Option Octets) → IfSome o (λ octets. length octets ≡ 23) →
-    (f : Option Frame) × ReadsFrame channel o f
-some_reading channel None h = (None, tt)
-some_reading channel (Some octets) h = elim (one_reading channel octets h) [
-  | inl w ↦ (Some w.0, w.1.frame)
-  | inr w ↦ (None, (w.0, w.1.refused))
-]
-
 some_reception : (a : AirState) (sender : Role) (places : List ℕ) (fs : List Frame) (blocks : List Block) (more : Option EventRefusal) →
     AreBlocksOfFrames a.channel a.tsc fs blocks → queue_of sender a.queues ≡ blocks →
     refusal_if (nat_eq (length blocks) 0) Nothing more ≡ None →
@@ -454,8 +494,8 @@ some_reception a sender places fs [] more sent is none = absurd (cc none)
 some_reception a sender places (f ∷ fs) (block ∷ others) more sent is none =
     let shape = flipped_shape (octets_of a.channel f) a.tsc block sent.0 places in
     let (r, received) = some_received_block _ shape.0 shape.1 in
-    let read = some_reading a.channel r.accepted (accepted_count _ r received) in
-    (r, read.0, record { block = block; later_blocks = others; queue_front = is; received = received; reads_frame = read.1 })
+    let reads = ReadsFrame-frame_in_accepted a.channel r.accepted (accepted_count _ r received) in
+    (r, _, record { block = block; later_blocks = others; queue_front = is; received = received; reads_frame = reads })
 some_reception a sender places fs blocks more sent is none = absurd assumption
 
 some_arrival : (a : AirState) (fs : Queues Frame) (event : Event) → Coded a fs → refusal event a ≡ None →

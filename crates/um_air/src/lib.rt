@@ -9,8 +9,16 @@ ghost use Rattle.um_block.specs.Received.{soft_bits, IsReceivedBlock};
 ghost use Rattle.um_block.specs.declared.received.Received.{Received};
 ghost use Rattle.lapdm_link.specs.Claims.{Claims, HasNoticesInOrder, AckedAtMostDelivered};
 ghost use Rattle.um_air.specs.Air.{Event, Answer, AirState, initial_session, IsAirStep, IsAirRun, Block, with_bits_inverted};
+ghost use Rattle.um_air.specs.Computed.{air_step};
 ghost use Rattle.um_air.specs.Damage.{AreCorrectableBursts};
 ghost use Rattle.um_air.specs.Sessions.{session_log, IsBenign, EventMessageIsOctets, AllEventsInvertFewBits};
+
+/// Law: an event leads to no state and has no answer but those that `air_step` computes.
+#[tactic(auto, using(crate::proofs::Lemmas::air_step_only))]
+pub fn law_event_answer_is_air_step()
+    ensures { (a : AirState) (event : Event) (b : AirState) (answer : Answer) → IsAirStep a event b answer →
+        air_step a event ≡ (b, answer) }
+{}
 
 /// Law: in a given state, an event has at most one answer and leads to at most one state.
 #[tactic(auto, using(crate::proofs::Lemmas::one_answer))]

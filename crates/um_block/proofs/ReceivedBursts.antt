@@ -8,23 +8,25 @@ use Rattle.{
   },
   interleave.{
     proofs.Lemmas.{All-interleaved, IsInterleaved-map, burst_of_bit-below, position_in_four_bursts-below, position_in_four_bursts-differs},
-    proofs.Lemmas.{position_in_four_bursts-lower, position_in_four_bursts-upper, halves-at, same_coded, some_gathered},
-    specs.{Bursts.IsInterleaved, Positions.{burst_of_bit, position_in_burst, position_in_four_bursts}},
+    proofs.Lemmas.{position_in_four_bursts-lower, position_in_four_bursts-upper, halves-at, same_coded},
+    proofs.Lemmas.IsInterleaved-deinterleaved,
+    specs.{Bursts.{IsInterleaved, deinterleaved}, Positions.{burst_of_bit, position_in_burst, position_in_four_bursts}},
   },
   std.{
     proofs.Common.{Bool, Contains, None, Option, Some, ap₂, eqb, false, if◌then◌else◌, inl, inr, int_lt, lit≤, map, nat_eq},
     proofs.Common.{negsuc, pos, suc, true, zero, ℤ, ◌%◌, ◌-◌, ◌/◌, ◌<ℤ◌, ◌||◌, ◌≢◌, ◌⊎◌},
-    proofs.{Math.Seq.take-add, lemmas.{Bool.{eqb-true, Decides.nat_tests, or_cases, or_parts, ne_eqb}, Int.ints, List.append-nil}},
+    proofs.{Math.Seq.take-add, lemmas.{Slice.Eq.bytes_eq-Decides, Bool.{cases_Bool, eqb-true, false≢true, Decides.nat_tests, or_cases, or_parts, ne_eqb}, Int.ints, List.append-nil}},
     proofs.lemmas.List.{drop-map, drop_all, get_or-append_right, get_or-drop, get_or-map, get_or-take, get_or_append_left, length-take},
     proofs.lemmas.List.{map-append, take-append-drop, take-map, take-take, Elements.{All-head, All-tail}},
-    specs.Prelude.{IfSome, MatchOption, slice_range},
+    specs.{Prelude.{IfSome, MatchOption, slice_range}, Str.bytes_eq},
   },
   training_seq.{
-    proofs.Lemmas.{one_first_greatest, some_first_greatest},
+    proofs.Lemmas.{IsFirstMaximum-first_greatest, one_first_greatest},
     specs.{Choice.{IsFirstMaximum, total_correlation}, Sequences.midamble},
   },
-  trellis_decode.proofs.Lemmas.{less_by_test, some_most_likely},
+  trellis_decode.{proofs.Lemmas.{IsMostLikely-most_likely, less_by_test}, specs.MostLikely.most_likely},
   um_block.specs.{
+    Computed.{if_same, received_access, received_block, received_sync},
     Received.{IsReceivedAccess, IsReceivedBlock, IsReceivedSync, access_soft_bits, coded_soft_bits, joined_bursts, midamble_of_burst},
     Received.{soft_bit_of, soft_bits, sync_soft_bits, wrong_training_bits},
     Restored.{IsErrorFreeAccess, IsErrorFreeBlock, IsErrorFreeSync},
@@ -109,19 +111,18 @@ accepted_octets bursts r h =
 
 -- ---- a CRC either holds or does not
 
--- either the first n bits of a list are a codeword and x is accepted, or they are not and nothing is accepted
-answered : {X : Type 0} (P : List ℕ → Type 0) (k n : ℕ) (u : List ℕ) (x : X) → k ≤ n → n ≤ length u → AllBits u
-    → ((d : List ℕ) → length d ≡ k → AllBits d → (p : List ℕ) × P (d ++ p))
-    → ((d p q : List ℕ) → length d ≡ k → P (d ++ p) → P (d ++ q) → p ≡ q)
-    → (a : Option X) × MatchOption a (¬ P (take n u)) (λ v. P (take n u) × (v ≡ x))
-answered P k n u x less within bits some only =
-    let d = take k (take n u) in
-    let whole = take-append-drop k (take n u) in
-    let long : length d ≡ k = length-take-le k (take n u) (omega (arith, length-take n u)) in
-    let (p, holds) = some d long (AllBits-front k _ (AllBits-front n u bits)) in
-    elim (same_list p (drop k (take n u))) [
-      | inl same ↦ (Some x, (subst P (ap (λ q. d ++ q) same ∙ whole) holds, refl))
-      | inr other ↦ (None, λ h. other (only d p _ long holds (subst P (sym whole) h)))
+-- a value is accepted exactly if the first n bits of a list are a codeword
+if_same-accepts : {X : Type 0} (P : List ℕ → Type 0) (k n : ℕ) (u crc : List ℕ) (x : X) → k ≤ n → P (take k u ++ crc)
+    → ((p q : List ℕ) → P (take k u ++ p) → P (take k u ++ q) → p ≡ q)
+    → MatchOption (if_same crc (drop k (take n u)) x) (¬ P (take n u)) (λ v. P (take n u) × (v ≡ x))
+if_same-accepts P k n u crc x less holds only =
+    let check = drop k (take n u) in
+    let whole : take k u ++ check ≡ take n u = ap (λ d. d ++ check) (sym (take-take k n u less)) ∙ take-append-drop k (take n u) in
+    elim (cases_Bool (bytes_eq check crc)) [
+      | inl same ↦ rw same (subst P (ap (λ q. take k u ++ q) (sym ((bytes_eq-Decides check crc).0 same)) ∙ whole) holds, refl)
+      | inr other ↦ rw other (λ h.
+          let same : bytes_eq check crc ≡ true = (bytes_eq-Decides check crc).1 (only check crc (subst P (sym whole) h) holds) in
+          false≢true (sym other ∙ same))
     ]
 
 -- ---- lemmas about the report of a block
@@ -129,64 +130,66 @@ answered P k n u x less within bits some only =
 length-coded_soft_bits : (burst : List ℤ) → length burst ≡ 148 → length (coded_soft_bits burst) ≡ 114
 length-coded_soft_bits burst long = simp (length-append, length-take, length-drop) (omega arith)
 
+pub IsReceivedBlock-received_block : (bursts : List (List ℤ)) → length (map coded_soft_bits bursts) ≡ 4 →
+    All (λ part. length part ≡ 114) (map coded_soft_bits bursts) → IsReceivedBlock bursts (received_block bursts)
+unfolding received_block
+IsReceivedBlock-received_block bursts four each =
+    let soft = deinterleaved (pos 0) (map coded_soft_bits bursts) in
+    let is = IsInterleaved-deinterleaved (pos 0) (map coded_soft_bits bursts) four each in
+    let u = most_likely soft in
+    let best = IsMostLikely-most_likely soft 228 is.coded_count (lit≤ tt) in
+    let long : length (take 184 u) ≡ 184 = length-take-le 184 u (omega (arith, best.count, is.coded_count)) in
+    let bits = AllBits-front 184 u best.information.bits in record {
+      soft = soft;
+      deinterleaved = is;
+      best = best;
+      metric = refl;
+      tsc = IsFirstMaximum-first_greatest (total_correlation (midamble_of_burst bursts 0) (midamble_of_burst bursts 1)
+          (midamble_of_burst bursts 2) (midamble_of_burst bursts 3));
+      wrong_training = refl;
+      accepted = if_same-accepts IsXcchCodeword 184 224 u (xcch_crc (take 184 u)) (octets_of (take 184 u)) (lit≤ tt)
+          (xcch_crc_word (take 184 u) long bits) (λ p q. one_xcch_crc (take 184 u) p q long);
+    }
+
 pub some_received_block : (bursts : List (List ℤ)) → length bursts ≡ 4 → All IsBurst bursts → (r : Received)
     × IsReceivedBlock bursts r
 some_received_block bursts four each =
-    let (soft, deinterleaved) = some_gathered (pos 0) (map coded_soft_bits bursts) (length-map bursts coded_soft_bits ∙ four)
-    (All-map (λ part. length part ≡ 114) coded_soft_bits bursts (λ i d h. length-coded_soft_bits (get_or bursts i d) (each i d h))) in
-    let (u, best, _) = some_most_likely soft 228 deinterleaved.coded_count (lit≤ tt) in
-    let (tsc, first) = some_first_greatest
-    (total_correlation (midamble_of_burst bursts 0) (midamble_of_burst bursts 1) (midamble_of_burst bursts 2)
-    (midamble_of_burst bursts 3)) in
-    let (accepted, is) = answered IsXcchCodeword 184 224 u (octets_of (take 184 u)) (lit≤ tt) (omega (arith, best.count))
-    best.information.bits some_xcch_crc one_xcch_crc in (
-      record {
-        u = u;
-        metric = likelihood soft (encoding u);
-        tsc = tsc;
-        wrong_training = wrong_training_bits bursts tsc;
-        accepted = accepted;
-      },
-      record { soft = soft; deinterleaved = deinterleaved; best = best; metric = refl; tsc = first; wrong_training = refl; accepted = is },
-    )
+    (received_block bursts, IsReceivedBlock-received_block bursts (length-map bursts coded_soft_bits ∙ four)
+    (All-map (λ part. length part ≡ 114) coded_soft_bits bursts (λ i d h. length-coded_soft_bits (get_or bursts i d) (each i d h))))
 
 -- ---- lemmas about the reports of an access burst and of a synchronisation burst
 
-pub some_received_access : (burst : List ℤ) (bsic : List ℕ) → length burst ≡ 88 → length bsic ≡ 6 → AllBits bsic →
-    (r : ReceivedAccess) × IsReceivedAccess burst bsic r
-some_received_access burst bsic count code code_bits =
+pub IsReceivedAccess-received_access : (burst : List ℤ) (bsic : List ℕ) → length burst ≡ 88 → length bsic ≡ 6 → AllBits bsic →
+    IsReceivedAccess burst bsic (received_access burst bsic)
+unfolding received_access
+IsReceivedAccess-received_access burst bsic count code code_bits =
     let soft = access_soft_bits burst in
     let long : length soft ≡ 36 = simp (length-take, length-drop) (omega arith) in
-    let (u, best, _) = some_most_likely soft 18 long (lit≤ tt) in
-    let (accepted, is) = answered (λ w. IsRachCodeword w bsic) 8 14 u (take 8 u) (lit≤ tt) (omega (
-      arith,
-      best.count,
-    )) best.information.bits
-    (λ d e bits. some_rach_crc d bsic e bits code code_bits) (λ d p q. one_rach_crc d p q bsic) in (
-      record {
-        u = u;
-        metric = likelihood soft (encoding u);
-        wrong_training = count_wrong_bits (A.training burst) A.access_sequence;
-        accepted = accepted;
-      },
-      record { best = best; metric = refl; wrong_training = refl; accepted = is },
-    )
+    let u = most_likely soft in
+    let best = IsMostLikely-most_likely soft 18 long (lit≤ tt) in
+    let front : length (take 8 u) ≡ 8 = length-take-le 8 u (omega (arith, best.count)) in record {
+      best = best;
+      metric = refl;
+      wrong_training = refl;
+      accepted = if_same-accepts (λ w. IsRachCodeword w bsic) 8 14 u (crc_of_rach (take 8 u) bsic) (take 8 u) (lit≤ tt)
+          (rach_crc_word (take 8 u) bsic front (AllBits-front 8 u best.information.bits) code code_bits)
+          (λ p q. one_rach_crc (take 8 u) p q bsic front);
+    }
 
-pub some_received_sync : (burst : List ℤ) → length burst ≡ 148 → (r : ReceivedSync) × IsReceivedSync burst r
-some_received_sync burst count =
+pub IsReceivedSync-received_sync : (burst : List ℤ) → length burst ≡ 148 → IsReceivedSync burst (received_sync burst)
+unfolding received_sync
+IsReceivedSync-received_sync burst count =
     let soft = sync_soft_bits burst in
     let long : length soft ≡ 78 = simp (length-append, length-take, length-drop) (omega arith) in
-    let (u, best, _) = some_most_likely soft 39 long (lit≤ tt) in
-    let (accepted, is) = answered IsSchCodeword 25 35 u (take 25 u) (lit≤ tt) (omega (arith, best.count)) best.information.bits
-    some_sch_crc one_sch_crc in (
-      record {
-        u = u;
-        metric = likelihood soft (encoding u);
-        wrong_training = count_wrong_bits (S.training burst) S.sync_sequence;
-        accepted = accepted;
-      },
-      record { best = best; metric = refl; wrong_training = refl; accepted = is },
-    )
+    let u = most_likely soft in
+    let best = IsMostLikely-most_likely soft 39 long (lit≤ tt) in
+    let front : length (take 25 u) ≡ 25 = length-take-le 25 u (omega (arith, best.count)) in record {
+      best = best;
+      metric = refl;
+      wrong_training = refl;
+      accepted = if_same-accepts IsSchCodeword 25 35 u (sch_crc (take 25 u)) (take 25 u) (lit≤ tt)
+          (sch_crc_word (take 25 u) front (AllBits-front 25 u best.information.bits)) (λ p q. one_sch_crc (take 25 u) p q front);
+    }
 
 -- ## ReceivedOnce: The report of a burst or block is unique.
 
@@ -216,6 +219,18 @@ one_received_sync burst r r' h g =
     let u = IsMostLikely-only _ _ r.u g.best h.best in
     let accepted = one_accepted _ _ r.accepted r'.accepted (rw u at h.accepted) g.accepted in
     grind (arith, u, accepted)
+
+pub received_block-only : (bursts : List (List ℤ)) (r : Received) → IsReceivedBlock bursts r → r ≡ received_block bursts
+received_block-only bursts r h =
+    one_received_block bursts r _ h (IsReceivedBlock-received_block bursts h.deinterleaved.burst_count h.deinterleaved.burst_lengths)
+
+pub received_access-only : (burst : List ℤ) (bsic : List ℕ) (r : ReceivedAccess) → length burst ≡ 88 → length bsic ≡ 6 → AllBits bsic →
+    IsReceivedAccess burst bsic r → r ≡ received_access burst bsic
+received_access-only burst bsic r count code bits h =
+    one_received_access burst bsic r _ h (IsReceivedAccess-received_access burst bsic count code bits)
+
+pub received_sync-only : (burst : List ℤ) (r : ReceivedSync) → length burst ≡ 148 → IsReceivedSync burst r → r ≡ received_sync burst
+received_sync-only burst r count h = one_received_sync burst r _ h (IsReceivedSync-received_sync burst count)
 
 -- ## CleanBursts: If a burst is received as it was sent, each part of its soft bits consists of the soft bits of the same part of the
 -- burst.

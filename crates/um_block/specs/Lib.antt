@@ -6,6 +6,7 @@ pub use Rattle.interleave.specs as interleave
 pub use Rattle.burst_map.specs as burst_map
 pub use Rattle.trellis_decode.specs as trellis_decode
 -- Definitions that the contracts of this crate cite.
+pub mod Computed
 pub mod Received
 pub mod Restored
 pub mod Sent

@@ -7,6 +7,7 @@ ghost use Rattle.burst_map.specs.NormalBurst.{normal_burst};
 ghost use Rattle.fire_code.specs.Words.{IsXcchCodeword};
 ghost use Rattle.interleave.specs.Bursts.{IsInterleaved};
 ghost use Rattle.interleave.specs.Columns.{AreColumnsOfCodedBits};
+ghost use Rattle.um_block.specs.Computed.{sent_block, sent_access, sent_sync};
 ghost use Rattle.um_block.specs.Sent.{with_tail, IsCodedBlock, IsSentBlock, IsSentAccess, IsSentSync};
 
 use bit_blocks::{BLOCK_OCTETS, Bits};
@@ -19,6 +20,7 @@ use interleave::Columns;
 pub fn send_block(octets: &[u8; BLOCK_OCTETS], tsc: u8) -> [[u8; BURST_BITS]; 4]
     requires { tsc ≤ 7 }
     ensures sent { IsSentBlock octets.now tsc result }
+    ensures value { result ≡ sent_block octets.now tsc }
     ensures only { (other : List (List ℕ)) → IsSentBlock octets.now tsc other → other ≡ result }
     ensures bits { All AllBits result }
 {
@@ -67,6 +69,7 @@ fn build_normal_burst(columns: &Columns, b: usize, tsc: u8) -> [u8; BURST_BITS]
 /// code, most significant bit first.
 pub fn send_access(info: &Bits<8>, bsic: &Bits<6>) -> [u8; 88]
     ensures sent { IsSentAccess info.now bsic.now result }
+    ensures value { result ≡ sent_access info.now bsic.now }
     ensures only { (other : List ℕ) → IsSentAccess info.now bsic.now other → other ≡ result }
     ensures bits { AllBits result }
 {
@@ -81,6 +84,7 @@ pub fn send_access(info: &Bits<8>, bsic: &Bits<6>) -> [u8; 88]
 /// Encodes 25 information bits into a synchronisation burst.
 pub fn send_sync(info: &Bits<25>) -> [u8; BURST_BITS]
     ensures sent { IsSentSync info.now result }
+    ensures value { result ≡ sent_sync info.now }
     ensures only { (other : List ℕ) → IsSentSync info.now other → other ≡ result }
     ensures bits { AllBits result }
 {

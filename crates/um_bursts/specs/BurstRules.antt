@@ -1,47 +1,38 @@
 -- How a command that reads bursts answers a line (this project's own rule).
-use Rattle.std.specs.Prelude.{ℕ, ℤ, ◌≡◌, ◌<◌, ◌⊎◌, List, [], ◌∷◌, ◌++◌, length}
+use Rattle.std.specs.Prelude.{ℕ, ℤ, List, [], ◌∷◌, ◌++◌, length, nat_lt, if◌then◌else◌}
 use Rattle.um_formats.specs.declared.burst_lines.BurstLine.{BurstLine}
 use Rattle.um_formats.specs.declared.burst_lines.BurstLine.TheVariants.{Skip, Normal, Access, Sync}
-use Rattle.um_formats.specs.BurstLines.{burst_line_fault, BurstLineMeans, unfinished_block_fault}
+use Rattle.um_formats.specs.BurstLines.{burst_line, unfinished_block_fault}
 use Rattle.um_formats.specs.declared.held.BurstsToDecode.{BurstsToDecode}
 use Rattle.um_formats.specs.declared.held.BurstsToDecode.TheVariants as N
-use Rattle.um_formats.specs.Held.{BurstBuffer}
-use Rattle.um_driver.specs.Rules.{Rules}
+use Rattle.um_driver.specs.Rules.{Rules, answer_to_meaning}
 
--- the answers that a command may give to the four bursts of a block, to an access burst with its BSIC, and to a synchronisation burst
-pub record BurstAnswers : Type 1 where
-  pub block : (bursts : List (List ℤ)) (answer : List ℕ) → Type 0
-  pub access : (bsic : List ℕ) (burst : List ℤ) (answer : List ℕ) → Type 0
-  pub sync : (burst : List ℤ) (answer : List ℕ) → Type 0
+-- the answers of a command to the four bursts of a block, to an access burst with its BSIC, and to a synchronisation burst
+pub record BurstAnswers : Type 0 where
+  pub block : (bursts : List (List ℤ)) → List ℕ
+  pub access : (bsic : List ℕ) (burst : List ℤ) → List ℕ
+  pub sync : (burst : List ℤ) → List ℕ
 
--- how a command answers the last of these normal bursts: the fourth burst of a block gets the answer to the block, an earlier burst gets
--- none; `after` are the bursts held afterwards
-abbrev pub AnswersNormalBurst : (answers : BurstAnswers) (bursts : List (List ℤ)) (answer : List ℕ) (after : List (List ℤ)) → Type 0
-AnswersNormalBurst a bursts answer after =
-    ((length bursts < 4) × (answer ≡ []) × (after ≡ bursts)) ⊎ ((length bursts ≡ 4) × (after ≡ []) × a.block bursts answer)
-
--- how a command answers a line with this meaning: `held` and `after` are the bursts held before and after the line
-abbrev pub AnswersBurstLine : (answers : BurstAnswers) (held : List (List ℤ)) (line : BurstLine) (answer : List ℕ)
-    (after : List (List ℤ)) → Type 0
-AnswersBurstLine a held Skip answer after = (answer ≡ []) × (after ≡ held)
-AnswersBurstLine a held (Normal soft) answer after = AnswersNormalBurst a (held ++ soft ∷ []) answer after
-AnswersBurstLine a held (Access bsic soft) answer after = (after ≡ held) × a.access bsic soft answer
-AnswersBurstLine a held (Sync soft) answer after = (after ≡ held) × a.sync soft answer
-
--- how a command answers a line, given what the line makes ready to decode and the burst buffer after the line
-abbrev pub IsAnswerToBurstsToDecode : (answers : BurstAnswers) (result : BurstsToDecode) (buffer : BurstBuffer) (answer : List ℕ) →
-    Type 0
-IsAnswerToBurstsToDecode a N.Skip buffer answer = answer ≡ []
-IsAnswerToBurstsToDecode a N.Held buffer answer = answer ≡ []
-IsAnswerToBurstsToDecode a N.Block buffer answer = a.block buffer.slots answer
-IsAnswerToBurstsToDecode a (N.Access bsic soft) buffer answer = a.access bsic soft answer
-IsAnswerToBurstsToDecode a (N.Sync soft) buffer answer = a.sync soft answer
+-- the answer to a line with this meaning, and the bursts held afterwards: the fourth burst of a block gets the answer to the block, an
+-- earlier burst gets none
+abbrev pub answer_to_burst : (answers : BurstAnswers) (held : List (List ℤ)) (line : BurstLine) → List ℕ × List (List ℤ)
+answer_to_burst a held Skip = ([], held)
+answer_to_burst a held (Normal soft) =
+    if nat_lt (length (held ++ soft ∷ [])) 4 then ([], held ++ soft ∷ []) else (a.block (held ++ soft ∷ []), [])
+answer_to_burst a held (Access bsic soft) = (a.access bsic soft, held)
+answer_to_burst a held (Sync soft) = (a.sync soft, held)
 
 -- the rules of a command that reads bursts; its state is the list of the bursts of an incomplete block, in order
 abbrev pub burst_rules : BurstAnswers → Rules (List (List ℤ))
 burst_rules a = record {
-  fault = λ held line. burst_line_fault (length held) line;
+  step = λ held line. answer_to_meaning (answer_to_burst a held) (burst_line (length held) line);
   end_fault = unfinished_block_fault;
-  Step = λ held line answer after. (meaning : BurstLine) × BurstLineMeans (length held) line meaning
-      × AnswersBurstLine a held meaning answer after;
 }
+
+-- the answer to what a line makes ready to decode, given the block in the burst buffer (used inside this crate)
+abbrev pub answer_to_bursts : (answers : BurstAnswers) (next : BurstsToDecode) (block : List (List ℤ)) → List ℕ
+answer_to_bursts a N.Skip block = []
+answer_to_bursts a N.Held block = []
+answer_to_bursts a N.Block block = a.block block
+answer_to_bursts a (N.Access bsic soft) block = a.access bsic soft
+answer_to_bursts a (N.Sync soft) block = a.sync soft

@@ -1,7 +1,7 @@
 //! A command that reads bursts as text lines.
 ghost use Rattle.std.specs.Prelude.{◌≡◌, ◌<◌, ℤ, List, [], ◌∷◌, ◌++◌, length};
 ghost use Rattle.um_formats.specs.Held.{HasValidSoftValues};
-ghost use Rattle.um_bursts.specs.BurstRules.{burst_rules, IsAnswerToBurstsToDecode};
+ghost use Rattle.um_bursts.specs.BurstRules.{burst_rules, answer_to_bursts};
 ghost use Rattle.um_driver.specs.Rules.{IsLineAnswerOrFault};
 
 use crate::reports::Reports;
@@ -51,8 +51,10 @@ impl<R: Reports> BurstCommand<R> {
         ensures answered { IsLineAnswerOrFault (burst_rules R.answers) self.old line.now result out.new (λ after. self.new ≡ after) }
         ensures size { length out.new < 2000 }
     {
-        let next = parse_and_hold_burst(line, &mut self.held)?;
-        write_answer(out, &self.reports, &next, &self.held);
+        match parse_and_hold_burst(line, &mut self.held) {
+            Ok(next) => write_answer(out, &self.reports, &next, &self.held),
+            Err(fault) => return Err(fault),
+        }
         Ok(())
     }
 }
@@ -101,7 +103,7 @@ impl<R: Reports> Command for BurstCommand<R> {
 fn write_answer<R: Reports>(out: &mut Text, reports: &R, next: &BurstsToDecode, held: &HeldBursts)
     requires empty { out.old ≡ [] }
     requires soft { HasValidSoftValues next.now }
-    ensures answer { IsAnswerToBurstsToDecode R.answers next.now held.now out.new }
+    ensures answer { out.new ≡ answer_to_bursts R.answers next.now held.now.slots }
     ensures size { length out.new < 2000 }
 {
     match next {

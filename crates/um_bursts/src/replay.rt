@@ -17,6 +17,7 @@ impl Reports for Replay {
     }
 
     fn access(&self, out: &mut Text, bsic: &Bits<6>, burst: &[i8; 88]) {
+        let _ = bsic.as_slice();
         access_report(out, bsic, &receive_access(burst, bsic));
     }
 

@@ -9,27 +9,27 @@ use um_formats::Text;
 
 /// Writes a command's answers to the four bursts of a block, to an access burst and to a synchronisation burst.
 pub trait Reports {
-    /// The answers that the command may give to a block and to each kind of single burst.
+    /// The answers of the command to a block and to each kind of single burst.
     ghost answers: { BurstAnswers };
 
     /// Writes the answer to the four bursts of a block.
     fn block(&self, out: &mut Text, bursts: &[[i8; BURST_BITS]; 4])
         requires empty { out.old ≡ [] }
         requires soft { All AllSoftBits bursts.now }
-        ensures answer { answers.block bursts.now out.new }
+        ensures answer { out.new ≡ answers.block bursts.now }
         ensures size { length out.new < 2000 };
 
     /// Writes the answer to an access burst of the cell with this BSIC.
     fn access(&self, out: &mut Text, bsic: &Bits<6>, burst: &[i8; 88])
         requires empty { out.old ≡ [] }
         requires soft { AllSoftBits burst.now }
-        ensures answer { answers.access bsic.now burst.now out.new }
+        ensures answer { out.new ≡ answers.access bsic.now burst.now }
         ensures size { length out.new < 2000 };
 
     /// Writes the answer to a synchronisation burst.
     fn sync(&self, out: &mut Text, burst: &[i8; BURST_BITS])
         requires empty { out.old ≡ [] }
         requires soft { AllSoftBits burst.now }
-        ensures answer { answers.sync burst.now out.new }
+        ensures answer { out.new ≡ answers.sync burst.now }
         ensures size { length out.new < 2000 };
 }

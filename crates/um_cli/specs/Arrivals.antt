@@ -1,15 +1,17 @@
 -- Each block received in a session of `link` is decoded to a codeword that is at least as likely as any other, given the soft values
 -- received, and is accepted if and only if its CRC holds (this project's own rule).
-use Rattle.std.specs.Prelude.{ℕ, ◌≡◌, List, ◌∷◌, map, Option, Some, None}
+use Rattle.std.specs.Prelude.{ℕ, ◌≡◌, List, ◌∷◌, map, Option, Some, None, Ok}
+use Rattle.um_end.specs.lapdm_frame.declared.Channel.{Channel}
 use Rattle.um_end.specs.um_link.lapdm_window.Ends.{Role}
 use Rattle.um_end.specs.um_link.lapdm_link.Queues.{queue_of}
 use Rattle.um_end.specs.um_link.lapdm_link.Events.{Deliver}
 use Rattle.um_end.specs.um_block.Received.{soft_bits}
 use Rattle.um_end.specs.um_block.declared.received.Received.{Received}
 use Rattle.um_end.specs.um_link.um_air.Air.{Block, AirState, Event, Answer, Refuses, Accepts, with_bits_inverted}
-use Rattle.um_make.specs.um_script.ScriptLines.{ScriptLineMeans}
-use Rattle.um_driver.specs.Rules.{Rules}
-use Rattle.um_session.specs.Sessions.{LinkSession, IsEventStep, IsParsedLineStep, link_command_rules}
+use Rattle.um_end.specs.um_link.um_air.Computed.{air_step}
+use Rattle.um_make.specs.um_script.ScriptLines.{script_line}
+use Rattle.um_driver.specs.Rules.{Runs}
+use Rattle.um_session.specs.Sessions.{LinkSession, new_session, link_command_rules}
 use Rattle.um_cli.specs.Headline.{IsMostLikelyWord}
 
 -- `report` is the report on the oldest block of `sender`, received with the bits at `places` inverted and decoded to a most likely word
@@ -28,20 +30,8 @@ abbrev pub ReportsMostLikelyWord : (state : AirState) (event : Event) (answer : 
 ReportsMostLikelyWord a event (Refuses why) = Unit {0}
 ReportsMostLikelyWord a event (Accepts step) = ReceivesMostLikelyWord a event step.received
 
--- the event is carried out as the rules of `link` prescribe, and a block that it delivers is decoded to a most likely word
-pub record IsStepWithMostLikelyWord (session : LinkSession) (event : Event) (output : List ℕ) (after : LinkSession) : Type 0 where
-  pub event_step : IsEventStep session event output after
-  pub most_likely : ReportsMostLikelyWord session.air event event_step.answer
-
-abbrev pub IsMaxLikelihoodAnswerToLine : (session : LinkSession) (meaning : Option Event) (output : List ℕ) (after : LinkSession) →
-    Type 0
-IsMaxLikelihoodAnswerToLine s None text after = IsParsedLineStep s None text after
-IsMaxLikelihoodAnswerToLine s (Some event) text after = IsStepWithMostLikelyWord s event text after
-
--- the rules of `link`, with the further claim that each received block is decoded to a most likely word
-abbrev pub link_rules_with_ml_decoding : Rules LinkSession
-link_rules_with_ml_decoding = record {
-  fault = link_command_rules.fault;
-  end_fault = link_command_rules.end_fault;
-  Step = λ s line text after. (meaning : Option Event) × ScriptLineMeans line meaning × IsMaxLikelihoodAnswerToLine s meaning text after;
-}
+-- whatever lines `link` has answered, a block that the event of the next line delivers is decoded to a most likely word
+abbrev pub LinkDecodesToMostLikelyWords : (tsc : ℕ) (channel : Channel) → Type 0
+LinkDecodesToMostLikelyWords tsc channel = (lines answers : List (List ℕ)) (s : LinkSession) (line : List ℕ) (event : Event) →
+    Runs link_command_rules (new_session tsc channel) lines answers s → script_line line ≡ Ok (Some event) →
+    ReportsMostLikelyWord s.air event (air_step s.air event).1

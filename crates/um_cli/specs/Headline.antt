@@ -1,20 +1,21 @@
--- For each block, `replay` reports a codeword that is at least as likely as any other, given the soft values read, and accepts its data if
--- and only if its CRC holds (this project's own rule).
-use Rattle.std.specs.Prelude.{ℕ, ℤ, ◌≡◌, ◌≤ℤ◌, List, ◌++◌, length, map, take, MatchOption}
+-- Each decoded word is a codeword that is at least as likely as any other, given the soft values received, and its data is accepted if and
+-- only if its CRC holds (this project's own rule).
+use Rattle.std.specs.Prelude.{ℕ, ℤ, ◌≡◌, ◌≤◌, ◌≤ℤ◌, List, [], ◌∷◌, ◌++◌, length, map, take, MatchOption, Ok}
 use Rattle.um_end.specs.um_block.fire_code.Words.{IsXcchCodeword, IsRachCodeword, IsSchCodeword}
 use Rattle.um_end.specs.um_block.conv_code.Code.{encoding, IsCodeword}
 use Rattle.um_end.specs.um_block.conv_code.Likelihood.{likelihood}
 use Rattle.um_end.specs.um_block.interleave.Bursts.{IsInterleaved}
-use Rattle.um_end.specs.um_block.burst_map.AccessBurst as A
-use Rattle.um_end.specs.um_block.burst_map.SyncBurst as S
 use Rattle.um_end.specs.um_block.bit_blocks.Octets.{octets_of}
-use Rattle.um_end.specs.um_block.Received.{coded_soft_bits}
+use Rattle.um_end.specs.um_block.Received.{coded_soft_bits, access_soft_bits, sync_soft_bits}
+use Rattle.um_end.specs.um_block.Computed.{received_block, received_access, received_sync}
 use Rattle.um_end.specs.um_block.declared.received.Received.{Received}
 use Rattle.um_end.specs.um_block.declared.received.ReceivedAccess.{ReceivedAccess}
 use Rattle.um_end.specs.um_block.declared.received.ReceivedSync.{ReceivedSync}
-use Rattle.um_code.specs.um_formats.Reports.{IsBlockReportText, access_report_text, sync_report_text}
-use Rattle.um_driver.specs.Rules.{Rules}
-use Rattle.um_bursts.specs.BurstRules.{BurstAnswers, burst_rules}
+use Rattle.um_code.specs.um_formats.declared.burst_lines.BurstLine.{BurstLine}
+use Rattle.um_code.specs.um_formats.declared.burst_lines.BurstLine.TheVariants.{Skip, Normal, Access, Sync}
+use Rattle.um_code.specs.um_formats.BurstLines.{burst_line}
+use Rattle.um_driver.specs.Rules.{Runs}
+use Rattle.um_bursts.specs.Replay.{replay_rules}
 
 -- the encoding of the encoder input `word` is a codeword, and no codeword of the same length is more likely for the soft values `soft`
 pub record IsMaximumLikelihood (soft : List ℤ) (word : List ℕ) : Type 0 where
@@ -32,38 +33,29 @@ pub record IsMostLikelyWord (bursts : List (List ℤ)) (report : Received) : Typ
       (¬ IsXcchCodeword (take 224 report.u))
       (λ octets. IsXcchCodeword (take 224 report.u) × (octets ≡ octets_of (take 184 report.u)))
 
--- `report` describes a block that was received from `bursts` and decoded to a most likely word
-pub record IsBlockReportWithMostLikelyWord (bursts : List (List ℤ)) (report : List ℕ) : Type 0 where
-  pub received : Received
-  pub most_likely : IsMostLikelyWord bursts received
-  pub text : IsBlockReportText received report
+-- an access burst is decoded to a most likely word, and accepted if and only if its CRC holds for `bsic`
+pub record IsMostLikelyAccessWord (burst : List ℤ) (bsic : List ℕ) (report : ReceivedAccess) : Type 0 where
+  pub max_likelihood : IsMaximumLikelihood (access_soft_bits burst) report.u
+  pub accepted : MatchOption report.accepted
+      (¬ IsRachCodeword (take 14 report.u) bsic)
+      (λ info. IsRachCodeword (take 14 report.u) bsic × (info ≡ take 8 report.u))
 
--- `report` describes an access burst that was decoded to a most likely word, and was accepted if and only if its CRC holds for `bsic`
-pub record IsAccessReportWithMostLikelyWord (burst : List ℤ) (bsic report : List ℕ) : Type 0 where
-  pub received : ReceivedAccess
-  pub max_likelihood : IsMaximumLikelihood (A.body burst) received.u
-  pub accepted : MatchOption received.accepted
-      (¬ IsRachCodeword (take 14 received.u) bsic)
-      (λ info. IsRachCodeword (take 14 received.u) bsic × (info ≡ take 8 received.u))
-  pub text : report ≡ access_report_text bsic received
+-- a synchronisation burst is decoded to a most likely word, and accepted if and only if its CRC holds
+pub record IsMostLikelySyncWord (burst : List ℤ) (report : ReceivedSync) : Type 0 where
+  pub max_likelihood : IsMaximumLikelihood (sync_soft_bits burst) report.u
+  pub accepted : MatchOption report.accepted
+      (¬ IsSchCodeword (take 35 report.u))
+      (λ info. IsSchCodeword (take 35 report.u) × (info ≡ take 25 report.u))
 
--- `report` describes a synchronisation burst that was decoded to a most likely word, and was accepted if and only if its CRC holds
-pub record IsSyncReportWithMostLikelyWord (burst : List ℤ) (report : List ℕ) : Type 0 where
-  pub received : ReceivedSync
-  pub max_likelihood : IsMaximumLikelihood (S.first_coded_half burst ++ S.second_coded_half burst) received.u
-  pub accepted : MatchOption received.accepted
-      (¬ IsSchCodeword (take 35 received.u))
-      (λ info. IsSchCodeword (take 35 received.u) × (info ≡ take 25 received.u))
-  pub text : report ≡ sync_report_text received
+-- the bursts that a line of `replay` completes are decoded to a most likely word
+abbrev pub DecodesBurstsToMostLikelyWord : (held : List (List ℤ)) (line : BurstLine) → Type 0
+DecodesBurstsToMostLikelyWord held Skip = Unit {0}
+DecodesBurstsToMostLikelyWord held (Normal soft) = 4 ≤ length (held ++ soft ∷ []) →
+    IsMostLikelyWord (held ++ soft ∷ []) (received_block (held ++ soft ∷ []))
+DecodesBurstsToMostLikelyWord held (Access bsic soft) = IsMostLikelyAccessWord soft bsic (received_access soft bsic)
+DecodesBurstsToMostLikelyWord held (Sync soft) = IsMostLikelySyncWord soft (received_sync soft)
 
--- the answers of `replay`, with the further claim that the bursts are decoded to a most likely word
-abbrev pub replay_answers_with_ml_decoding : BurstAnswers
-replay_answers_with_ml_decoding = record {
-  block = IsBlockReportWithMostLikelyWord;
-  access = λ bsic burst. IsAccessReportWithMostLikelyWord burst bsic;
-  sync =
-      IsSyncReportWithMostLikelyWord;
-}
-
-abbrev pub replay_rules_with_ml_decoding : Rules (List (List ℤ))
-replay_rules_with_ml_decoding = burst_rules replay_answers_with_ml_decoding
+-- whatever lines `replay` has answered, it decodes the bursts that the next line completes to a most likely word
+abbrev pub ReplayDecodesToMostLikelyWords : Type 0
+ReplayDecodesToMostLikelyWords = (lines answers : List (List ℕ)) (held : List (List ℤ)) (line : List ℕ) (meaning : BurstLine) →
+    Runs replay_rules [] lines answers held → burst_line (length held) line ≡ Ok meaning → DecodesBurstsToMostLikelyWord held meaning

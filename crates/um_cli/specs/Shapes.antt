@@ -78,6 +78,12 @@ HasValidOperands (Make n tsc) = (1 ≤ n) × (n ≤ 1000) × (tsc ≤ 7)
 HasValidOperands (End side tsc) = tsc ≤ 7
 HasValidOperands command = Unit {0}
 
+-- there is no command, or it is `make`
+abbrev pub ReadsNothing : Option Invocation → Type 0
+ReadsNothing None = Unit {0}
+ReadsNothing (Some (Make n tsc)) = Unit {0}
+ReadsNothing (Some command) = ⊥
+
 -- the command, if there is one, does not use the radio
 abbrev pub UsesNoRadio : Option Invocation → Type 0
 UsesNoRadio (Some (Link tsc channel)) = ⊥

@@ -1,7 +1,6 @@
 //! Runs the `link` command in a new session.
 ghost use Rattle.std.specs.Prelude.{◌≡◌, ◌≢◌, ◌≤◌};
-ghost use Rattle.um_cli.specs.Arrivals.{link_rules_with_ml_decoding};
-ghost use Rattle.um_driver.specs.Table.{IsRun, FailureCountsMatch, EndsAsPrescribed};
+ghost use Rattle.um_driver.specs.Table.{FailureCountsMatch, EndsAsPrescribed};
 ghost use Rattle.um_end.specs.um_link.um_air.Air.{initial_session};
 ghost use Rattle.um_end.specs.um_link.Abstraction.{Represents};
 ghost use Rattle.um_session.specs.Sessions.{new_session, link_command_rules};
@@ -23,13 +22,10 @@ pub(crate) fn run_link<S: Source, K: Sink, R: Radio>(
 ) -> Status
     requires { tsc ≤ 7 }
 
-    ensures session { IsLinkCommandRun tsc channel result
+    ensures run { IsLinkCommandRun tsc channel result
         (S.left input.old) (S.left input.new) (K.taken output.old) (K.taken output.new)
         (record { sent_blocks = R.sent radio.old; received_blocks = R.heard radio.old })
         (record { sent_blocks = R.sent radio.new; received_blocks = R.heard radio.new }) }
-
-    ensures link_most_likely { IsRun link_rules_with_ml_decoding (new_session tsc channel) (λ _. Unit {0}) result
-        (S.left input.old) (S.left input.new) (K.taken output.old) (K.taken output.new) }
 
     ensures due { EndsAsPrescribed link_command_rules (new_session tsc channel) result
         (S.left input.old) (K.taken output.old) (K.taken output.new) }
@@ -61,7 +57,7 @@ fn run_link_session<S: Source, K: Sink, R: Radio>(
     requires { Represents link.old.world.now (initial_session link.old.world.now.tsc link.old.world.now.channel) }
     ensures same_radio { link.new.radio.ghost_name ≡ link.old.radio.ghost_name }
 
-    ensures session { IsLinkCommandRun link.old.world.now.tsc link.old.world.now.channel result
+    ensures run { IsLinkCommandRun link.old.world.now.tsc link.old.world.now.channel result
         (S.left input.old) (S.left input.new) (K.taken output.old) (K.taken output.new)
         (record { sent_blocks = R.sent link.old.radio.now; received_blocks = R.heard link.old.radio.now })
         (record { sent_blocks = R.sent link.new.radio.now; received_blocks = R.heard link.new.radio.now }) }

@@ -1,2 +1,2 @@
 pub use Rattle.um_formats.proofs as um_formats
-pub mod CodeRules
+mod Worked

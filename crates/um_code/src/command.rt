@@ -1,7 +1,8 @@
 //! The `code` command: encodes the information of blocks, access bursts and synchronisation bursts, and writes the bursts.
-ghost use Rattle.std.specs.Prelude.{◌≡◌, Some, None, [], MatchResult};
-ghost use Rattle.um_formats.specs.CodeLines.{code_line_fault};
-ghost use Rattle.um_code.specs.Code.{IsAnswerToCodeLine, IsCodeCommandAnswer};
+ghost use Rattle.std.specs.Prelude.{◌≡◌, [], Ok, Err, MatchResult};
+ghost use Rattle.um_driver.specs.Rules.{answer_to_meaning};
+ghost use Rattle.um_formats.specs.CodeLines.{code_line};
+ghost use Rattle.um_code.specs.Code.{code_answer};
 
 use um_block::{Bits, send_access, send_block, send_sync};
 use um_driver::Answer;
@@ -14,9 +15,7 @@ use um_formats::{
 pub struct Code;
 
 impl Answer for Code {
-    ghost fault = { code_line_fault };
-
-    ghost answers = { IsAnswerToCodeLine };
+    ghost answers = { λ line. answer_to_meaning code_answer (code_line line) };
 
     fn answer(&self, line: &[u8], out: &mut Text) -> Result<(), LineFault> {
         match parse_code(line)? {
@@ -36,7 +35,7 @@ impl Answer for Code {
 #[inline(never)]
 fn write_coded_access_burst(out: &mut Text, info: &Bits<8>, bsic: &Bits<6>)
     requires { out.old ≡ [] }
-    ensures { IsCodeCommandAnswer (CodeLine.Rach info.now bsic.now) out.new }
+    ensures { out.new ≡ code_answer (CodeLine.Rach info.now bsic.now) }
 {
     access_line(out, bsic, &send_access(info, bsic));
 }
@@ -45,7 +44,7 @@ fn write_coded_access_burst(out: &mut Text, info: &Bits<8>, bsic: &Bits<6>)
 #[inline(never)]
 fn write_coded_sync_burst(out: &mut Text, info: &Bits<25>)
     requires { out.old ≡ [] }
-    ensures { IsCodeCommandAnswer (CodeLine.Sch info.now) out.new }
+    ensures { out.new ≡ code_answer (CodeLine.Sch info.now) }
 {
     sync_line(out, &send_sync(info));
 }

@@ -5,8 +5,8 @@ use Rattle.{
   std.proofs.{KnownBytes.{Appends-nil, Appends-trans, Consumes-nil, Consumes-trans}, lemmas.{Bool.cases_Bool, List.nil_from_length}},
   std.specs.{Borrow.Bor, Io.KnownBytes.{Appends, Consumes, IsAtEnd, Keeps}},
   um_driver.specs.{
-    Progress.{AreLinesRead, IsLastWriteResult, IsLineOutcome, IsPointOfRun, IsRunEnding, IsRunUnderway, SourceHasEnded},
-    Table.{EndsAsPrescribed, EndsInUnfinishedLine, IsReadFromSource, ReadsAtMostOneBufferAhead, SinkTakesPrefix, WritesAsPrescribed},
+    Progress.{AreLinesRead, IsLastWriteResult, IsLineOutcome, IsPointOfRun, IsResponse, IsRunEnding, IsRunUnderway, SourceHasEnded},
+    Table.{EndsAsPrescribed, IsReadFromSource, IsRefusalOrNone, ReadsAtMostOneBufferAhead, SinkTakesPrefix, WritesAsPrescribed},
     Writing.BuffersUnwrittenText,
   },
   um_io.specs.{
@@ -74,30 +74,50 @@ module _ {q : List ℕ} {lines : List (List ℕ)} {held : List ℕ} {answered : 
   bound_of : length q ≤ input_limit + buffer_limit
   bound_of = omega (arith, size_of)
 
-  module _ (rest : List ℕ) (at_end : SourceHasEnded left left' → rest ≡ []) where
-    -- if the source has ended and the buffer is empty, the lines answered so far are all lines of the input
-    whole_of : held ≡ [] → ended ≡ true → IsWholeInputRead q rest lines
-    whole_of none e = record {
-      nothing_left = at_end (u.at_end e);
-      divided = record {
-        no_line_feed = u.no_line_feed;
-        octets_split = elim u.lines_account_for_octets [
-          | inl (q_is, _) ↦ inl (q_is ∙ rw (none, append-nil))
-          | inr (
-            cut,
-            _,
-            _,
-            _,
-          ) ↦ inr cut
-        ];
-      };
-      limit = omega (arith, size_of, ap length none, u.in_range);
-    }
+  -- if the source has ended and the buffer is empty, the lines answered so far are all lines of the input
+  whole_of : held ≡ [] → IsDividedIntoLines q lines
+  whole_of none = record {
+    no_line_feed = u.no_line_feed;
+    octets_split = elim u.lines_account_for_octets [
+      | inl (q_is, _) ↦ inl (q_is ∙ rw (none, append-nil) refl)
+      | inr (cut, _, _, _) ↦ inr cut
+    ];
+  }
 
-    first_of : AreFirstLines q rest lines
-    first_of = elim u.lines_account_for_octets [
-      | inl (q_is, here) ↦ inl (held, begins_with u.no_line_feed q_is, omega arith)
-      | inr (_, none, e, _) ↦ inr (whole_of none e)
+  module _ {State : Type 0} (r : Rules State) (a b : State) (answers : List (List ℕ)) (runs : Runs r a lines answers b) where
+    -- the lines that the response answers begin with these, if it counts a last line without a line feed only where these do
+    lines_processed : (seen_end : Bool) → (ended ≡ true → held ≡ [] → seen_end ≡ true) →
+        (later : List (List ℕ)) × (processed_lines q seen_end ≡ lines ++ later)
+    lines_processed seen_end last = elim u.lines_account_for_octets [
+      | inl (q_is, here) ↦ first_processed r a b lines answers runs u.no_line_feed q held seen_end q_is (omega arith)
+      | inr (cut, none, e, here) ↦
+          rw (last e none) (all_processed r a b lines answers runs u.no_line_feed q (whole_of none) (omega arith))
+    ]
+
+    -- the response to what was read begins with the answers to these lines
+    starts_with_answers : (seen_end : Bool) × (seen_end ≡ true → SourceHasEnded left left')
+        × (ended ≡ true → held ≡ [] → seen_end ≡ true) × IsPrefixOf (concatenated_text answers) (response r a q seen_end).1
+    starts_with_answers = elim u.lines_account_for_octets [
+      | inl (q_is, here) ↦ elim (cases_Bool ended) [
+        | inl e ↦ (
+          true,
+          λ _. u.at_end e,
+          λ _ _. refl,
+          begins_with_answers r a b lines answers runs u.no_line_feed q held true q_is (omega arith),
+        )
+        | inr open_ ↦ (
+          false,
+          λ e. cc e,
+          λ e _. let no : ⊥ = cc (e, open_) in absurd no,
+          begins_with_answers r a b lines answers runs u.no_line_feed q held false q_is (omega arith),
+        )
+      ]
+      | inr (cut, none, e, here) ↦ (
+        true,
+        λ _. u.at_end e,
+        λ _ _. refl,
+        begins_with_all_answers r a b lines answers runs u.no_line_feed q (whole_of none) (omega arith),
+      )
     ]
 
 -- the reader returned a line, which ended with a line feed or with the end of the source
@@ -154,22 +174,24 @@ module _ {q : List ℕ} {lines : List (List ℕ)} {r r' : ReaderState} {all : Li
       at_end = u.at_end;
     }
 
-    line_judged : (rest : List ℕ) → (SourceHasEnded left left' → rest ≡ []) → IsNextLineProcessed q rest lines line
-    line_judged rest at_end = elim (stands_next line h) [
-      | inl (q_is, answered) ↦ record {
-        octets_after_line = 10 ∷ (r'.held ++ r'.excess);
-        begins = begins_with u.no_line_feed q_is;
-        no_line_feed = (answered_of h).1.no_line_feed;
-        limit = omega arith;
-        is_complete = inl (r'.held ++ r'.excess, refl, omega arith);
-      }
-      | inr (q_is, some, none, e, answered) ↦ record {
-        octets_after_line = [];
-        begins = begins_with u.no_line_feed (rw append-nil q_is);
-        no_line_feed = (answered_of h).1.no_line_feed;
-        limit = omega (arith, ap length q_is);
-        is_complete = inr (inr (some, refl, at_end (u.at_end e)));
-      }
+    -- if the rules refuse the line, the response to what was read ends with the reason
+    line_judged : {State : Type 0} (rules : Rules State) (a b : State) (answers : List (List ℕ)) (fault : LineFault) →
+        Runs rules a lines answers b → answer_to_line rules b line ≡ Err fault →
+        (seen_end : Bool) × (seen_end ≡ true → SourceHasEnded left left') × (response rules a q seen_end
+        ≡ (Some BadInput, concatenated_text answers ++ refused_text (length lines + 1) fault))
+    line_judged rules a b answers fault runs bad = elim (stands_next line h) [
+      | inl (q_is, answered) ↦ (
+        false,
+        λ e. cc e,
+        respond_line rules a b lines answers runs u.no_line_feed q line (r'.held ++ r'.excess) false fault q_is
+            (answered_of h).1.no_line_feed (omega arith) bad,
+      )
+      | inr (q_is, some, none, e, answered) ↦ (
+        true,
+        λ _. u.at_end e,
+        respond_last rules a b lines answers runs u.no_line_feed q line fault q_is (answered_of h).1.no_line_feed some
+            (omega arith) bad,
+      )
     ]
 
   module _ {stops : Bool} (h : ReturnsNoLine r r' all stops) where
@@ -181,50 +203,27 @@ module _ {q : List ℕ} {lines : List (List ℕ)} {r r' : ReaderState} {all : Li
         let w = read_is_lines_and_held u (λ none. some (sym h.octets ∙ none)) in
         (w.0 ∙ ap (λ o. text_of_lines lines ++ o) h.octets, h.octet_count ∙ w.1)
 
-    long_judged : (rest : List ℕ) → line_limit < length r'.held → IsNextLineProcessed q rest lines r'.held
-    long_judged rest long =
-        let w = held_next (λ none _. omega (arith, long, ap length none, length-append {A = ℕ})) in
-        record {
-          octets_after_line = r'.excess;
-          begins = begins_with u.no_line_feed w.0;
-          no_line_feed = h.no_line_feed;
-          limit = omega (arith, w.1, valid.limit, length-append {A = ℕ});
-          is_complete = inr (inl long);
-        }
+    module _ {State : Type 0} (rules : Rules State) (a b : State) (answers : List (List ℕ)) (runs : Runs rules a lines answers b) where
+      long_judged : line_limit < length r'.held →
+          response rules a q false ≡ (Some BadInput, concatenated_text answers ++ refused_text (length lines + 1) Long)
+      long_judged long =
+          let w = held_next (λ none _. omega (arith, long, ap length none, length-append {A = ℕ})) in
+          respond_long rules a b lines answers runs u.no_line_feed q r'.held r'.excess false w.0 h.no_line_feed
+          (omega (arith, w.1, valid.limit, length-append {A = ℕ})) long
 
-    goes_past : length r'.held ≤ line_limit → 0 < length r'.excess →
-        (counted past line : List ℕ) × ExceedsInputLimit q counted past × EndsInUnfinishedLine counted lines line
-    goes_past short some =
-        let w = held_next (λ none _. omega (arith, some, ap length none, length-append {A = ℕ})) in (
-          text_of_lines lines ++ r'.held,
-          r'.excess,
-          r'.held,
-          record {
-            octets_split = rw append_assoc w.0;
-            count = omega (arith, w.1, valid.excess some, length-append {A = ℕ});
-            nonempty = some;
-          },
-          record {
-            begins = begins_with u.no_line_feed refl;
-            no_line_feed = h.no_line_feed;
-            in_limit = short;
-          },
-        )
+      goes_past : length r'.held ≤ line_limit → 0 < length r'.excess →
+          response rules a q false ≡ (Some TooLong, concatenated_text answers)
+      goes_past short some =
+          let w = held_next (λ none _. omega (arith, some, ap length none, length-append {A = ℕ})) in
+          respond_over rules a b lines answers runs u.no_line_feed q r'.held r'.excess false w.0 h.no_line_feed short
+          (omega (arith, w.1, valid.excess some, length-append {A = ℕ})) some
 
-    unfinished : NeedsMoreOctets r' → (length q ≤ input_limit) × ((line : List ℕ) × EndsInUnfinishedLine q lines line)
-    unfinished needs =
-        let w = held_next (λ _ e. cc (e, needs.ended)) in
-        let q_is = rw (needs.excess, append-nil) at w.0 in (
-          omega (arith, ap length q_is, w.1, valid.limit, length-append {A = ℕ}),
-          (
-            r'.held,
-            record {
-              begins = begins_with u.no_line_feed q_is;
-              no_line_feed = h.no_line_feed;
-              in_limit = needs.in_limit;
-            },
-          ),
-        )
+      unfinished : NeedsMoreOctets r' → response rules a q false ≡ (None, concatenated_text answers)
+      unfinished needs =
+          let w = held_next (λ _ e. cc (e, needs.ended)) in
+          let q_is = rw (needs.excess, append-nil) at w.0 in
+          respond_open rules a b lines answers runs u.no_line_feed q r'.held q_is h.no_line_feed needs.in_limit
+          (omega (arith, ap length q_is, w.1, valid.limit, length-append {A = ℕ}))
 
 -- if the reader can return its next result without a read from the source, it reads nothing
 nothing_read_if_ready : {r r' : ReaderState} {left left' : Option (List ℕ)} {next : Next} {came : List ℕ} →
@@ -252,42 +251,23 @@ failed_unready {r} {r'} valid valid' step open_ ready =
           (record { no_line_feed = rw held needs.no_line_feed; in_limit = rw held needs.in_limit; excess = past; ended = ended })
     ]
 
+IsPrefixOf-append : (x y z : List ℕ) → IsPrefixOf x y → IsPrefixOf y z → IsPrefixOf x z
+IsPrefixOf-append x y z (u, e) (v, f) = (u ++ v, rw (f, e, append_assoc) refl)
+
 -- ## Turns: How a run processes one line, before it writes the answer. The proof considers each result that the line reader can return.
 
--- `ReadsAtMostOneBufferAhead` remains true when more octets are written and more lines are answered
-ReadsAtMostOneBufferAhead-more : {q y : List ℕ} {lines answers : List (List ℕ)} → ReadsAtMostOneBufferAhead q y lines answers →
-    (w : List ℕ)
-    (lines' answers' : List (List ℕ)) → ReadsAtMostOneBufferAhead q (y ++ w) (lines ++ lines') (answers ++ answers')
-ReadsAtMostOneBufferAhead-more n w lines' answers' = record {
-  answered_lines = n.answered_lines;
-  later_lines = n.later_lines ++ lines';
-  written = n.written;
-  later_answers = n.later_answers ++ answers';
+-- `ReadsAtMostOneBufferAhead` remains true when more octets are written
+ReadsAtMostOneBufferAhead-more : {State : Type 0} {r : Rules State} {a : State} {q y : List ℕ} → ReadsAtMostOneBufferAhead r a q y →
+    (w : List ℕ) → ReadsAtMostOneBufferAhead r a q (y ++ w)
+ReadsAtMostOneBufferAhead-more n w = record {
+  lines = n.lines;
+  answers = n.answers;
+  state = n.state;
   partial_line = n.partial_line;
-  lines_split = rw (n.lines_split, append_assoc);
-  answers_split = rw (n.answers_split, append_assoc);
-  count = n.count;
+  runs = n.runs;
   begins = n.begins;
-  is_prefix = (n.is_prefix.0 ++ w, rw (n.is_prefix.1, append_assoc));
+  is_prefix = (n.is_prefix.0 ++ w, rw (n.is_prefix.1, append_assoc) refl);
   reads_little_ahead = n.reads_little_ahead;
-}
-
--- `ReadsAtMostOneBufferAhead` holds if the answers to all lines are written and the octets after these lines fit in the buffer
-ReadsAtMostOneBufferAhead-all : {q y rest : List ℕ} {lines answers : List (List ℕ)} → BeginsWithLines q lines rest →
-    length rest ≤ buffer_limit → length lines ≡ length answers → concatenated_text answers ≡ y →
-    ReadsAtMostOneBufferAhead q y lines answers
-ReadsAtMostOneBufferAhead-all {rest = rest} {lines = lines} {answers = answers} begins room count written = record {
-  answered_lines = lines;
-  later_lines = [];
-  written = answers;
-  later_answers = [];
-  partial_line = rest;
-  lines_split = rw append-nil;
-  answers_split = rw append-nil;
-  count = count;
-  begins = begins;
-  is_prefix = ([], rw append-nil (sym written));
-  reads_little_ahead = room;
 }
 
 module _ {State : Type 0} {r : Rules State} {a : State} {Represents : State → Type 0} {reading reading' : ReaderState}
@@ -295,18 +275,25 @@ module _ {State : Type 0} {r : Rules State} {a : State} {Represents : State → 
     (u : IsRunUnderway r a Represents reading left mid taken taken' gathered) (ready : IsResultReady reading ⊎ (gathered ≡ [])) where
   module _ {next : Next} {came : List ℕ} (step : IsReaderStep reading reading' mid left' next came) where
     -- after a read from the source, the reader is still at most one buffer ahead of the output
-    near_now : ReadsAtMostOneBufferAhead (u.point.input_read ++ came) u.point.output u.point.lines u.point.answers
+    near_now : ReadsAtMostOneBufferAhead r a (u.point.input_read ++ came) u.point.output
     near_now = elim ready [
       | inl answer ↦ stays (nothing_read_if_ready step u.not_stopped answer)
       | inr none ↦ elim u.point.reads.lines_account_for_octets [
-        | inl (q_is, _) ↦ ReadsAtMostOneBufferAhead-all
-            (begins_with_more came (begins_with u.point.reads.no_line_feed q_is)) step.fits_buffer
-            (Runs-length r _ _ _ _ u.point.runs) (u.output ∙ rw (none, append-nil))
+        | inl (q_is, _) ↦ record {
+          lines = u.point.lines;
+          answers = u.point.answers;
+          state = u.point.state;
+          partial_line = _;
+          runs = u.point.runs;
+          begins = begins_with_more came (begins_with u.point.reads.no_line_feed q_is);
+          is_prefix = ([], sym (rw append-nil (u.output ∙ rw (none, append-nil) refl)));
+          reads_little_ahead = step.fits_buffer;
+        }
         | inr (_, _, ended, _) ↦ stays (step.no_read_after_end ended).0
       ]
     ]
       where
-        stays : came ≡ [] → ReadsAtMostOneBufferAhead (u.point.input_read ++ came) u.point.output u.point.lines u.point.answers
+        stays : came ≡ [] → ReadsAtMostOneBufferAhead r a (u.point.input_read ++ came) u.point.output
         stays none = rw (none, append-nil) u.point.reads_little_ahead
 
     -- the point that the run reaches when the reader reads the octets `came`
@@ -326,11 +313,12 @@ module _ {State : Type 0} {r : Rules State} {a : State} {Represents : State → 
     }
 
     -- the run ends with `status` once it has written the pending output and then `text`
-    ending : {Stands' : State → Type 0} {status : Status} {text : List ℕ} → Stands' u.point.state →
-        ((rest : List ℕ) → (SourceHasEnded left left' → rest ≡ []) →
-        InputJustifiesStatus r status (u.point.input_read ++ came) rest u.point.lines u.point.state text) →
-        IsRunEnding r a Stands' status left left' taken taken' gathered text
-    ending represents ends = record {
+    ending : {Stands' : State → Type 0} {status : Status} {text : List ℕ} (seen_end : Bool) →
+        (reading'.ended ≡ true → reading.held ++ reading.excess ++ came ≡ [] → seen_end ≡ true) → Stands' u.point.state →
+        (seen_end ≡ true → SourceHasEnded left left') →
+        IsResponse status (response r a (u.point.input_read ++ came) seen_end) (concatenated_text u.point.answers ++ text) →
+        IsRefusalOrNone text → IsRunEnding r a Stands' status left left' taken taken' gathered text
+    ending seen_end last represents ends is refusal = record {
       held = reading.held ++ reading.excess ++ came;
       octet_count = reading.octet_count;
       line_count = reading.line_count;
@@ -338,19 +326,23 @@ module _ {State : Type 0} {r : Rules State} {a : State} {Represents : State → 
       point = now;
       represents = represents;
       output = u.output;
-      input_justifies_status = ends;
+      seen_end = seen_end;
+      first_lines = lines_processed now.reads r a now.state now.answers now.runs seen_end last;
+      source_ended = ends;
+      prescribed = is;
+      is_refusal = refusal;
     }
 
   -- the run continues after the command answers a line, and the answer is added to the pending output
   pub line_answered : {Stands' : State → Type 0} {line : Bor (List ℕ)} {text : List ℕ} →
       IsNextLineCall reading mid left' (next.Line line) reading' →
-      ((b : State) → Represents b → (c : State) × (r.fault b line.now ≡ None) × r.Step b line.now text c × Stands' c) →
+      ((b : State) → Represents b → (c : State) × (r.step b line.now ≡ Ok (text, c)) × Stands' c) →
       IsRunUnderway r a Stands' reading' left left' taken taken' (gathered ++ text)
   line_answered {line = line} {text = text} n answers =
       let (came, step) = n.not_stopped u.not_stopped in
       let at = now step in
       let l = (answered_of step.outcome).1 in
-      let (state, none, answer, represents) = answers at.state u.represents in
+      let (state, answer, represents) = answers at.state u.represents in
       record {
         point = record {
           input_read = at.input_read;
@@ -362,8 +354,8 @@ module _ {State : Type 0} {r : Rules State} {a : State} {Represents : State → 
           line_count_matches_lines = omega (arith, l.line_count, at.line_count_matches_lines, length-append at.lines (line.now ∷ []));
           written = at.written;
           runs = Runs-append r a at.state state at.lines (line.now ∷ []) at.answers (text ∷ []) at.runs
-              (state, record { in_limit = l.in_limit; no_fault = none }, answer, refl);
-          reads_little_ahead = rw append-nil at (ReadsAtMostOneBufferAhead-more at.reads_little_ahead [] (line.now ∷ []) (text ∷ []));
+              (state, rw (le-ltb line_limit (length line.now) l.in_limit) answer, refl);
+          reads_little_ahead = at.reads_little_ahead;
         };
         represents = represents;
         output = joined-append at.answers (text ∷ []) ∙ rw (u.output, append-nil, append_assoc);
@@ -374,17 +366,20 @@ module _ {State : Type 0} {r : Rules State} {a : State} {Represents : State → 
   pub line_refused : {Stands' : State → Type 0} {line : Bor (List ℕ)} {text text' : List ℕ} {number : ℕ} {fault : LineFault} →
       IsNextLineCall reading mid left' (next.Line line) reading' → number ≡ reading'.line_count →
       text ≡ refused_text number fault →
-      ((b : State) → Represents b → (r.fault b line.now ≡ Some fault) × (text' ≡ []) × Stands' b) →
+      ((b : State) → Represents b → (r.step b line.now ≡ Err fault) × (text' ≡ []) × Stands' b) →
       IsRunEnding r a Stands' BadInput left left' taken taken' gathered text
-  line_refused {line = line} n number_is text_is answers =
+  line_refused {line = line} {text = text} {fault = fault} n number_is text_is answers =
       let (came, step) = n.not_stopped u.not_stopped in
       let l = (answered_of step.outcome).1 in
       let (reason, _, represents) = answers u.point.state u.represents in
-      ending step represents (λ rest at_end. (
-        _,
-        inl (line.now, line_judged (now step).reads n.valid line.now step.outcome rest at_end, inr (l.in_limit, reason)),
-        text_is ∙ rw (number_is, l.line_count, u.point.line_count_matches_lines),
-      ))
+      let at = now step in
+      let (seen_end, ended, is) = line_judged at.reads n.valid line.now step.outcome r a at.state at.answers fault at.runs
+      (rw (le-ltb line_limit (length line.now) l.in_limit) reason) in
+      let text_is' : text ≡ refused_text (length at.lines + 1) fault =
+      text_is ∙ rw (number_is, l.line_count, u.point.line_count_matches_lines) refl in
+      ending step seen_end
+      (λ e none. absurd (some_held at.reads n.valid line.now (answered_of step.outcome).0 (answered_of step.outcome).1 none e))
+      represents ended (rw text_is' is) (inr (_, fault, text_is'))
 
   pub end_good : {reason : Option LineFault} {text : List ℕ} → IsNextLineCall reading mid left' next.End reading' →
       reason ≡ None →
@@ -393,61 +388,77 @@ module _ {State : Type 0} {r : Rules State} {a : State} {Represents : State → 
   end_good n none text_is says =
       let (came, step) = n.not_stopped u.not_stopped in
       let (_, none_held, ended) = step.outcome in
-      ending step u.represents (λ rest at_end.
-      (whole_of (now step).reads rest at_end none_held ended, sym (says u.point.state u.represents) ∙ none, text_is))
+      let at = now step in
+      let good : r.end_fault at.state ≡ None = sym (says u.point.state u.represents) ∙ none in
+      ending step true (λ _ _. refl) u.represents (λ _. at.reads.at_end ended)
+      (respond_end r a at.state at.lines at.answers at.runs at.reads.no_line_feed _ (whole_of at.reads none_held)
+      (omega (arith, size_of at.reads, ap length none_held, at.reads.in_range)) ∙ rw (good, text_is) refl) (inl text_is)
 
   pub end_refused : {reason : Option LineFault} {text : List ℕ} {number : ℕ} {fault : LineFault} →
       IsNextLineCall reading mid left' next.End reading' → number ≡ reading'.line_count → text ≡ refused_text (number + 1) fault →
       reason ≡ Some fault → ((b : State) → Represents b → reason ≡ r.end_fault b) →
       IsRunEnding r a Represents BadInput left left' taken taken' gathered text
-  end_refused n number_is text_is some says =
+  end_refused {fault = fault} n number_is text_is some says =
       let (came, step) = n.not_stopped u.not_stopped in
       let (h, none_held, ended) = step.outcome in
-      ending step u.represents (λ rest at_end. (
-        _,
-        inr (whole_of (now step).reads rest at_end none_held ended, sym (says u.point.state u.represents) ∙ some),
-        text_is ∙ rw (number_is, h.line_count, u.point.line_count_matches_lines),
-      ))
+      let at = now step in
+      let bad = sym (says u.point.state u.represents) ∙ some in
+      let text_is' = text_is ∙ rw (number_is, h.line_count, u.point.line_count_matches_lines) refl in
+      ending step true (λ _ _. refl) u.represents (λ _. at.reads.at_end ended)
+      (respond_end r a at.state at.lines at.answers at.runs at.reads.no_line_feed _ (whole_of at.reads none_held)
+      (omega (arith, size_of at.reads, ap length none_held, at.reads.in_range)) ∙ rw (bad, text_is') refl) (inr (_, fault, text_is'))
 
   pub long_refused : {text : List ℕ} {number : ℕ} → IsNextLineCall reading mid left' next.Long reading' →
       number ≡ reading'.line_count → text ≡ refused_text (number + 1) Long →
       IsRunEnding r a Represents BadInput left left' taken taken' gathered text
-  long_refused n number_is text_is =
+  long_refused {text = text} n number_is text_is =
       let (came, step) = n.not_stopped u.not_stopped in
       let (h, long) = step.outcome in
-      ending step u.represents (λ rest at_end. (
-        Long,
-        inl (reading'.held, long_judged (now step).reads n.valid h rest long, inl (long, refl)),
-        text_is ∙ rw (number_is, h.line_count, u.point.line_count_matches_lines),
-      ))
+      let at = now step in
+      let text_is' : text ≡ refused_text (length at.lines + 1) Long =
+      text_is ∙ rw (number_is, h.line_count, u.point.line_count_matches_lines) refl in
+      ending step false
+      (λ _ none. absurd (omega (arith, long, ap length none, ap length h.octets, length-append {A = ℕ}))) u.represents (λ e. cc e)
+      (rw text_is' (long_judged at.reads n.valid h r a at.state at.answers at.runs long)) (inr (_, Long, text_is'))
 
   pub ends_too_long : {text : List ℕ} → IsNextLineCall reading mid left' next.TooMany reading' → text ≡ [] →
       IsRunEnding r a Represents TooLong left left' taken taken' gathered text
   ends_too_long n text_is =
       let (came, step) = n.not_stopped u.not_stopped in
       let (h, short, some) = step.outcome in
-      ending step u.represents (λ rest at_end. (goes_past (now step).reads n.valid h short some, text_is))
+      let at = now step in
+      ending step false
+      (λ _ none. absurd (omega (arith, some, ap length none, ap length h.octets, length-append {A = ℕ}))) u.represents (λ e. cc e)
+      (rw (text_is, append-nil) (goes_past at.reads n.valid h r a at.state at.answers at.runs short some)) (inl text_is)
 
   pub ends_failed : IsNextLineCall reading mid left' next.Failed reading' →
       IsRunEnding r a Represents ReadFault left left' taken taken' gathered [] × (gathered ≡ [])
   ends_failed n =
       let (came, step) = n.not_stopped u.not_stopped in
       let (h, needs) = step.outcome in
-      let (bound, part) = unfinished (now step).reads n.valid h needs in (
-        ending step u.represents (λ rest at_end. (bound, part, refl)),
+      let at = now step in (
+        ending step false (λ e _. let no : ⊥ = cc (e, needs.ended) in absurd no) u.represents (λ e. cc e) (rw append-nil (unfinished at.reads n.valid h r a at.state at.answers at.runs needs)) (inl refl),
         elim ready [ inl answer ↦ absurd (failed_unready u.valid n.valid step u.not_stopped answer) | inr none ↦ none ],
       )
 
--- ## AfterWrites: The state of a run after a write. `RunEndsWithStatus` holds whether the whole text or only a prefix of it was written.
+-- ## AfterWrites: The state of a run after a write. `EndsWithStatus` holds whether the whole text or only a prefix of it was written.
 
-module _ {State : Type 0} (r : Rules State) (q more y text : List ℕ) (lines answers : List (List ℕ)) (b : State) where
-  -- a run that has written all answers and the text after them satisfies `RunEndsWithStatus` for its status
-  full_row : (status : Status) → InputJustifiesStatus r status q more lines b text → y ≡ concatenated_text answers ++ text →
-      RunEndsWithStatus r status q more y lines answers [] b
-  full_row WriteFault none e = absurd none
-  full_row NoMemory none e = absurd none
-  full_row BadWords none e = none
-  full_row _ ends e = (text, ends, refl, e)
+-- a run that has written the whole response ends with its status
+whole_row : (status : Status) (response : Option Status × List ℕ) (q y text : List ℕ) → IsResponse status response text → y ≡ text →
+    EndsWithStatus status response q y
+whole_row WriteFault response q y text is e = absurd is
+whole_row NoMemory response q y text is e = absurd is
+whole_row BadWords response q y text is e = is
+whole_row ReadFault response q y text is e = rw e is
+whole_row _ response q y text is e = rw e is
+
+-- a run that has written a prefix of the response can end with `WriteFault`
+response_text : (status : Status) (response : Option Status × List ℕ) (text : List ℕ) → IsResponse status response text →
+    response.1 ≡ text
+response_text WriteFault response text is = absurd is
+response_text NoMemory response text is = absurd is
+response_text BadWords response text is = absurd is
+response_text _ response text is = ap (λ (z : Option Status × List ℕ). z.1) is
 
 module _ {State : Type 0} {r : Rules State} {a : State} {held : List ℕ} {answered number : ℕ} {ended : Bool}
     {left left' taken taken' : Option (List ℕ)} where
@@ -464,7 +475,7 @@ module _ {State : Type 0} {r : Rules State} {a : State} {held : List ℕ} {answe
     line_count_matches_lines = at.line_count_matches_lines;
     written = Appends-trans _ _ _ _ _ at.written written;
     runs = at.runs;
-    reads_little_ahead = rw (append-nil, append-nil) at (ReadsAtMostOneBufferAhead-more at.reads_little_ahead w [] []);
+    reads_little_ahead = ReadsAtMostOneBufferAhead-more at.reads_little_ahead w;
   }
 
   module _ (at : IsPointOfRun r a held answered number ended left left' taken taken') where
@@ -474,49 +485,42 @@ module _ {State : Type 0} {r : Rules State} {a : State} {held : List ℕ} {answe
     at_end : SourceHasEnded left left' → rest ≡ []
     at_end = (rest_of _ _ _ at.reads.read).2
 
-    module _ {Represents : State → Type 0} {status : Status} (represents : Represents at.state) where
-      -- a run satisfies `IsRun` if its answers consist of those that were written at least in part and those that were not written at all
-      run_in_two : (lines further answers unwritten : List (List ℕ)) (mid : State) → Runs r a lines answers mid →
-          Runs r mid further unwritten at.state → at.lines ≡ lines ++ further → at.answers ≡ answers ++ unwritten →
-          AllAnswersAtLeastPartlyWritten at.output answers →
-          RunEndsWithStatus r status at.input_read rest at.output lines answers further mid →
-          IsRun r a Represents status left left' taken taken'
-      run_in_two lines further answers unwritten mid runs unwritten_lines_answered lines_split answers_split reached table_row = record {
-        input_read = at.input_read;
-        unread = rest;
-        output = at.output;
-        lines = lines;
-        answers = answers;
-        state = mid;
-        unwritten_lines = further;
-        unwritten_answers = unwritten;
-        last = at.state;
-        read = (rest_of _ _ _ at.reads.read).1;
-        written = at.written;
-        read_bound = bound_of at.reads;
-        first_lines = rw (← lines_split) (first_of at.reads rest at_end);
-        runs = runs;
-        unwritten_lines_answered = unwritten_lines_answered;
-        represents = represents;
-        answers_at_least_partly_written = reached;
-        reads_little_ahead = rw (lines_split, answers_split) at at.reads_little_ahead;
-        ends_with_status = table_row;
-      }
+    -- the run ends at this point
+    run_ends_here : {Represents : State → Type 0} {status : Status} (seen_end : Bool) → Represents at.state →
+        (later : List (List ℕ)) × (processed_lines at.input_read seen_end ≡ at.lines ++ later) →
+        (seen_end ≡ true → SourceHasEnded left left') →
+        EndsWithStatus status (response r a at.input_read seen_end) at.input_read at.output →
+        (refusal : List ℕ) → IsRefusalOrNone refusal → IsPrefixOf at.output (concatenated_text at.answers ++ refusal) →
+        IsRun r a Represents status left left' taken taken'
+    run_ends_here seen_end represents first ends row refusal is_refusal begun = record {
+      input_read = at.input_read;
+      unread = rest;
+      output = at.output;
+      ended = seen_end;
+      read = (rest_of _ _ _ at.reads.read).1;
+      nothing_left = λ e. at_end (ends e);
+      written = at.written;
+      read_bound = bound_of at.reads;
+      ends_with_status = row;
+      reads_little_ahead = at.reads_little_ahead;
+      lines = at.lines;
+      answers = at.answers;
+      state = at.state;
+      first_lines = first;
+      runs = at.runs;
+      represents = represents;
+      refusal = refusal;
+      is_refusal = is_refusal;
+      answers_begun = begun;
+    }
 
-      -- a run that has written all answers and some text after them satisfies `IsRun`
-      ends_after_answers : (part : List ℕ) → at.output ≡ concatenated_text at.answers ++ part →
-          RunEndsWithStatus r status at.input_read rest at.output at.lines at.answers [] at.state →
-          IsRun r a Represents status left left' taken taken'
-      ends_after_answers part output_split = run_in_two at.lines [] at.answers [] at.state at.runs refl (rw append-nil)
-          (rw append-nil) (inl (part, output_split))
-
-    -- a run that has written only a prefix of the answers satisfies `IsRun` with the status `WriteFault`
+    -- a run that has written only a prefix of the answers ends with `WriteFault`
     ends_within_answers : {Represents : State → Type 0} → Represents at.state → (more : List ℕ) →
         concatenated_text at.answers ≡ at.output ++ more → IsRun r a Represents WriteFault left left' taken taken'
     ends_within_answers represents more e =
-        let (answers, unwritten, split, reached, front) = reach at.answers at.output more e in
-        let (lines, further, mid, runs, later, lines_split) = Runs-split r _ _ _ answers unwritten (rw split at at.runs) in
-        run_in_two represents lines further answers unwritten mid runs later lines_split split reached (inl front)
+        let (seen_end, ends, last, front) = starts_with_answers at.reads r a at.state at.answers at.runs in
+        run_ends_here seen_end represents (lines_processed at.reads r a at.state at.answers at.runs seen_end last) ends
+        (IsPrefixOf-append at.output (concatenated_text at.answers) _ (more, e) front) [] (inl refl) (more, rw append-nil e)
 
 module _ {State : Type 0} {r : Rules State} {a : State} {Represents : State → Type 0} {left left' taken mid taken' : Option (List ℕ)}
     {gathered : List ℕ} where
@@ -544,20 +548,18 @@ module _ {State : Type 0} {r : Rules State} {a : State} {Represents : State → 
     ending_taken : Appends mid taken' (gathered ++ text) → IsRun r a Represents status left left' taken taken'
     ending_taken written =
         let at = after_write h.point (gathered ++ text) written in
-        let split : at.output ≡ concatenated_text at.answers ++ text = rw (h.output, append_assoc) in
-        ends_after_answers at h.represents text split
-        (full_row r _ _ _ text _ _ _ status (h.input_justifies_status (rest at) (at_end at)) split)
+        let split : at.output ≡ concatenated_text at.answers ++ text = rw (h.output, append_assoc) refl in
+        run_ends_here at h.seen_end h.represents h.first_lines h.source_ended (whole_row status _ _ _ _ h.prescribed split)
+        text h.is_refusal ([], rw (split, append-nil) refl)
 
     -- if the sink fails after it has taken a prefix of the pending output and the final text, the run ends with `WriteFault`
     ending_cut : SinkTakesPrefix mid taken' (gathered ++ text) → IsRun r a Represents WriteFault left left' taken taken'
     ending_cut (w, (more, text_is), written) =
         let at = after_write h.point w written in
-        let whole : at.output ++ more ≡ concatenated_text at.answers ++ text = rw (append_assoc, ← text_is, h.output, append_assoc) in
-        elim (prefix_of_joined at.output more (concatenated_text at.answers) text whole) [
-          | inl (more', e) ↦ ends_within_answers at h.represents more' e
-          | inr (part, front, split) ↦ ends_after_answers at h.represents part split
-              (inr (status, text, part, h.input_justifies_status (rest at) (at_end at), refl, front, split))
-        ]
+        let whole : at.output ++ more ≡ concatenated_text at.answers ++ text =
+        rw (append_assoc, ← text_is, h.output, append_assoc) refl in
+        run_ends_here at h.seen_end h.represents h.first_lines h.source_ended (more, response_text status _ _ h.prescribed ∙ sym whole)
+        text h.is_refusal (more, sym whole)
 
     ending_concludes : (result : Status) → ((result ≡ status) × Appends mid taken' (gathered ++ text))
         ⊎ ((result ≡ WriteFault) × SinkTakesPrefix mid taken' (gathered ++ text)) →
@@ -594,8 +596,16 @@ before_any_read r a left taken = record {
   line_count_matches_lines = refl;
   written = Appends-nil taken;
   runs = refl;
-  reads_little_ahead = ReadsAtMostOneBufferAhead-all {rest = []} (begins_with (All-nil IsLine) refl) (omega arith)
-      refl refl;
+  reads_little_ahead = record {
+    lines = [];
+    answers = [];
+    state = a;
+    partial_line = [];
+    runs = refl;
+    begins = begins_with (All-nil IsLine) refl;
+    is_prefix = ([], refl);
+    reads_little_ahead = omega arith;
+  };
 }
 
 pub at_first : {State : Type 0} {r : Rules State} {a : State} {Represents : State → Type 0} {reading : ReaderState}
@@ -612,7 +622,8 @@ at_first {r = r} {a = a} {left = left} {taken = taken} e represents = rw e (reco
 pub without_memory : {State : Type 0} (r : Rules State) (a : State) (Represents : State → Type 0) (left taken : Option (List ℕ)) →
     Represents a → IsRun r a Represents NoMemory left left taken taken
 without_memory r a Represents left taken represents =
-    ends_after_answers (before_any_read r a left taken) represents [] refl (refl, refl, refl, refl)
+    run_ends_here (before_any_read r a left taken) false represents (processed_lines [] false, refl) (λ e. cc e) (refl, refl) []
+    (inl refl) ([], refl)
 
 -- `IsLastWriteResult` holds if the whole text was written, or if the sink failed after it had taken a prefix of the text
 pub last_written : (status : Status) (text : List ℕ) (taken taken' : Option (List ℕ)) (result : Status) →
@@ -622,62 +633,38 @@ pub last_written : (status : Status) (text : List ℕ) (taken taken' : Option (L
 last_written ReadFault text taken taken' result unlike written = absurd (unlike refl)
 last_written _ text taken taken' result unlike written = written
 
--- ## TableLemmas: `RunEndsWithStatus` determines how the run ends for the whole input: the lines that the run answered are the first lines
--- of the input, so what it wrote is the beginning of the prescribed output.
-
-IsPrefixOf-append : (x y z : List ℕ) → IsPrefixOf x y → IsPrefixOf y z → IsPrefixOf x z
-IsPrefixOf-append x y z (u, e) (v, f) = (u ++ v, rw (f, e, append_assoc))
+-- ## TableLemmas: What a run writes by the octets that it read is the beginning of what the whole input prescribes.
 
 Keeps-nil : (a b : Option (List ℕ)) → Appends a b [] → Keeps a b
 Keeps-nil None b h = tt
 Keeps-nil (Some xs) None h = h
 Keeps-nil (Some xs) (Some ys) h = rw append-nil at h
 
-module _ {State : Type 0} (r : Rules State) (det : IsDeterministic r) (a : State) (q rest : List ℕ) (due : Status) (z : List ℕ)
-    (out : IsOutput r a (q ++ rest) due z) where
-  -- the prescribed output begins with the answers to the first lines of the input
-  begins_with_answers : (b : State) (lines answers : List (List ℕ)) → Runs r a lines answers b → AreFirstLines q rest lines →
-      IsPrefixOf (concatenated_text answers) z
-  begins_with_answers b lines answers runs first =
-      let (judged, ended, j) = lines_first first in
-      let (judged', ended', j', g) = out in
-      let (end_is, same) = AreProcessedLines-unique _ _ _ _ _ j' j in
-      IsOutputOfLines-front r det _ _ _ _ _ judged _ _ _ runs (rw (end_is, same) at g)
+agrees : (s : Status) (heard due : Option Status × List ℕ) (q y : List ℕ) (taken taken' : Option (List ℕ)) → Continues heard due →
+    EndsWithStatus s heard q y → Appends taken taken' y → WritesAsPrescribed s due taken taken'
+agrees ReadFault heard due q y taken taken' goes row written =
+    (y, rw row at (Continues-prefix heard due goes), written)
+agrees WriteFault heard due q y taken taken' goes row written =
+    (y, IsPrefixOf-append y heard.1 due.1 row (Continues-prefix heard due goes), written)
+agrees NoMemory heard due q y taken taken' goes row written = Keeps-nil taken taken' (rw row.1 at written)
+agrees BadWords heard due q y taken taken' goes row written = absurd row
+agrees s heard due q y taken taken' goes row written =
+    let same : due ≡ (Some s, y) = rw row at goes in
+    rw same (refl, written)
 
-  module _ (b : State) (lines answers : List (List ℕ)) (runs : Runs r a lines answers b) where
-    -- the status and the output after these lines are those that the rules prescribe for the whole input
-    due_is : (s : Status) (text : List ℕ) → (s ≡ ReadFault → ⊥) → InputJustifiesStatus r s q rest lines b text →
-        (s ≡ due) × (concatenated_text answers ++ text ≡ z)
-    due_is s text unlike ends = output_unique r det _ _ _ _ _ _ (ends_output r _ _ _ _ runs _ _ s _ unlike ends) out
-
-    -- the prescribed output begins with the answers to these lines and the text that follows the answers
-    ends_front : (s : Status) (text : List ℕ) → AreFirstLines q rest lines → InputJustifiesStatus r s q rest lines b text →
-        IsPrefixOf (concatenated_text answers ++ text) z
-    ends_front ReadFault text first (_, _, none) = rw (none, append-nil) (begins_with_answers _ _ _ runs first)
-    ends_front s text first ends = ([], rw append-nil (sym (due_is s text (λ e. cc e) ends).1))
-
-    module _ (c : State) (y : List ℕ) (further unwritten : List (List ℕ)) (taken taken' : Option (List ℕ))
-        (ahead : Runs r b further unwritten c) (first : AreFirstLines q rest (lines ++ further)) (written : Appends taken taken' y) where
-      -- for each status, a run that satisfies `RunEndsWithStatus` writes what the rules prescribe
-      agrees : (s : Status) → RunEndsWithStatus r s q rest y lines answers further b → WritesAsPrescribed s due z taken taken'
-      agrees ReadFault (text, ends, none, split) =
-          (y, rw split (ends_front ReadFault text (rw (none, append-nil) at first) ends), written)
-      agrees WriteFault (inl front) =
-          let all = begins_with_answers _ _ _ (Runs-append r _ _ _ _ _ _ _ runs ahead) first in
-          let begins = IsPrefixOf-append (concatenated_text answers) _ z (_, joined-append answers unwritten) all in
-          (y, IsPrefixOf-append y (concatenated_text answers) z front begins, written)
-      agrees WriteFault (inr (s, text, part, ends, none, (more, text_is), split)) =
-          let front = ends_front s text (rw (none, append-nil) at first) ends in
-          (y, IsPrefixOf-append y (concatenated_text answers ++ text) z (more, rw (text_is, split, append_assoc)) front, written)
-      agrees NoMemory (_, none, _, _) = Keeps-nil taken taken' (rw none at written)
-      agrees BadWords table_row = absurd table_row
-      agrees s row = let (due, z_is) = due_is s row.0 (λ e. cc e) row.1 in (due, rw (row.3, z_is) at written)
+response-later : {State : Type 0} (r : Rules State) (a : State) (q more : List ℕ) (ended : Bool) → (ended ≡ true → more ≡ []) →
+    Continues (response r a q ended) (response r a (q ++ more) true)
+response-later r a q more false none = response-continues r a q more true
+response-later r a q more true none =
+    subst (λ o. Continues (response r a q true) (response r a o true)) (sym (append-nil q) ∙ ap (λ o. q ++ o) (sym (none refl)))
+    (Continues-refl (response r a q true))
 
 -- a run that satisfies `IsRun` ends as the rules prescribe for its whole input
 pub EndsAsPrescribed-from_run : {State : Type 0} {r : Rules State} {a : State} {Represents : State → Type 0} {status : Status}
     (left : Option (List ℕ)) {left' taken taken' : Option (List ℕ)} → IsRun r a Represents status left left' taken taken' →
-    IsDeterministic r → EndsAsPrescribed r a status left taken taken'
-EndsAsPrescribed-from_run None run det = tt
-EndsAsPrescribed-from_run {r = r} {a = a} {status = status} (Some x) run det = λ due z out.
-    agrees r det a run.input_read run.unread due z (rw run.read.0 at out) _ _ _ run.runs _ _
-    _ _ _ _ run.unwritten_lines_answered run.first_lines run.written status run.ends_with_status
+    EndsAsPrescribed r a status left taken taken'
+EndsAsPrescribed-from_run None run = tt
+EndsAsPrescribed-from_run {r = r} {a = a} {status = status} (Some x) {taken = taken} {taken' = taken'} run =
+    subst (λ o. WritesAsPrescribed status (response r a o true) taken taken') (sym run.read.0)
+    (agrees status _ _ run.input_read run.output _ _ (response-later r a run.input_read run.unread run.ended run.nothing_left)
+    run.ends_with_status run.written)

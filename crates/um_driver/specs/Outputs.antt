@@ -1,90 +1,71 @@
--- The output that the rules of a command prescribe for a whole input (this project's own rule).
-use Rattle.std.specs.Prelude.{ℕ, ◌≡◌, ◌≤◌, ◌<◌, ◌+◌, Bool, true, false, List, [], ◌∷◌, ◌++◌, length, Some}
-use Rattle.std.specs.Prelude.{None, ◌⊎◌}
-use Rattle.um_io.specs.Lines.{IsLine}
+-- What the rules of a command prescribe for the octets of an input, or for those read so far (this project's own rule).
+use Rattle.std.specs.Prelude.{ℕ, ◌+◌, Bool, List, [], ◌∷◌, ◌++◌, length, take, Option, Some, None, Result, Ok, Err}
+use Rattle.std.specs.Prelude.{nat_eq, nat_lt, if◌then◌else◌}
 use Rattle.um_io.specs.Reading.{input_limit, line_limit}
 use Rattle.um_lines.specs.declared.fault.LineFault.{LineFault}
 use Rattle.um_lines.specs.Refusals.{refused_text}
-use Rattle.um_driver.specs.Divided.{BeginsWithLines}
-use Rattle.um_driver.specs.Rules.{Rules, IsLineAccepted, IsLineRefused}
+use Rattle.um_driver.specs.Rules.{Rules, answer_to_line}
 use Rattle.um_driver.specs.declared.status.Status.{Status}
 use Rattle.um_driver.specs.declared.status.Status.TheVariants.{Done, BadInput, TooLong}
 
--- `input` exceeds the input limit: `counted` holds its octets up to the limit, `past` the octets beyond it
-pub record ExceedsInputLimit (input counted past : List ℕ) : Type 0 where
-  pub octets_split : input ≡ counted ++ past
-  pub count : length counted ≡ input_limit
-  pub nonempty : 0 < length past
+-- ---- the lines of an input
 
--- `octets` are the octets of `input` that are within the input limit: all of them if the input is within the limit (`ended`), otherwise
--- only the first ones
-abbrev pub AreOctetsWithinLimit : (input octets : List ℕ) (ended : Bool) → Type 0
-AreOctetsWithinLimit x octets true = (x ≡ octets) × (length x ≤ input_limit)
-AreOctetsWithinLimit x octets false = (past : List ℕ) × ExceedsInputLimit x octets past
+-- puts an octet in front of complete lines and the octets after the last line feed
+abbrev pub push_octet : (octet : ℕ) (lines : List (List ℕ)) (last : List ℕ) → List (List ℕ) × List ℕ
+push_octet octet [] last = ([], octet ∷ last)
+push_octet octet (line ∷ lines) last = ((octet ∷ line) ∷ lines, last)
 
--- the octets `last` after the last line feed are processed as a line: they end the input, or they already exceed the line limit
-abbrev pub LastLineIsProcessed : (last : List ℕ) (ended : Bool) → Type 0
-LastLineIsProcessed last true = 0 < length last
-LastLineIsProcessed last false = line_limit < length last
+-- the complete lines, without their line feeds, and the octets after the last line feed
+abbrev pub divided : (octets : List ℕ) → List (List ℕ) × List ℕ
+divided [] = ([], [])
+divided (octet ∷ octets) =
+    if nat_eq octet 10 then ([] ∷ (divided octets).0, (divided octets).1)
+    else push_octet octet (divided octets).0 (divided octets).1
 
--- the octets `last` after the last line feed are not processed: there are none, or the input limit cuts the line short
-abbrev pub LastLineIsNotProcessed : (last : List ℕ) (ended : Bool) → Type 0
-LastLineIsNotProcessed last true = last ≡ []
-LastLineIsNotProcessed last false = length last ≤ line_limit
+-- what follows the octets within the input limit: nothing, since the input has ended; octets beyond the limit; or what was not read yet
+pub data InputEnd : Type 0 where
+  Ended : InputEnd
+  Exceeded : InputEnd
+  Open : InputEnd
 
--- a run on `input` processes the lines `judged`; `ended` says whether the input is within the input limit
-pub record AreProcessedLines (input : List ℕ) (judged : List (List ℕ)) (ended : Bool) : Type 0 where
-  pub octets : List ℕ
-  pub lines : List (List ℕ)
-  pub last : List ℕ
-  pub in_limit : AreOctetsWithinLimit input octets ended
-  pub begins : BeginsWithLines octets lines last
-  pub no_line_feed : IsLine last
-  pub last_line_processed_or_not : ((judged ≡ lines) × LastLineIsNotProcessed last ended)
-      ⊎ ((judged ≡ lines ++ last ∷ []) × LastLineIsProcessed last ended)
+abbrev pub input_end : (octets : List ℕ) (ended : Bool) → InputEnd
+input_end octets ended = if nat_lt input_limit (length octets) then Exceeded else if ended then Ended else Open
 
--- the line is not refused, the output begins with its answer, and `Then` holds for the next state and the rest of the output
-pub record AnswersLineThenRestOfOutput {State : Type 0} (rules : Rules State) (state : State) (line : List ℕ) (Then : State →
-    List ℕ →
-    Type 0) (text : List ℕ) : Type 0 where
-  pub answer : List ℕ
-  pub later_output : List ℕ
-  pub state_after_line : State
-  pub line_accepted : IsLineAccepted rules state line
-  pub step : rules.Step state line answer state_after_line
-  pub rest_satisfies_condition : Then state_after_line later_output
-  pub output : text ≡ answer ++ later_output
+-- the octets after the last line feed, if they are processed as a line: they end the input and are not empty, or exceed the line limit
+abbrev pub last_line : (last : List ℕ) (end : InputEnd) → List (List ℕ)
+last_line [] Ended = []
+last_line (octet ∷ last) Ended = (octet ∷ last) ∷ []
+last_line last end = if nat_lt line_limit (length last) then last ∷ [] else []
 
--- the rules refuse `line`, which is line number `line_number` of the input, and `text` is the output line that reports the reason
-pub record RefusesLine {State : Type 0} (rules : Rules State) (state : State) (line_number : ℕ) (line : List ℕ) (status : Status)
-    (text : List ℕ) : Type 0
-  where
-    pub fault : LineFault
-    pub refused : IsLineRefused rules state line fault
-    pub is_bad_input : status ≡ BadInput
-    pub output : text ≡ refused_text line_number fault
+abbrev pub lines_to_process : (octets : List ℕ) (end : InputEnd) → List (List ℕ)
+lines_to_process octets end = (divided octets).0 ++ last_line (divided octets).1 end
 
--- the input must not end in `state`, and `text` is the output line that reports the reason; `line_number` is one more than the number of
--- the last line
-pub record RefusesInputEnd {State : Type 0} (rules : Rules State) (state : State) (line_number : ℕ) (status : Status) (text : List ℕ)
-    : Type 0 where
-  pub fault : LineFault
-  pub refused : rules.end_fault state ≡ Some fault
-  pub is_bad_input : status ≡ BadInput
-  pub output : text ≡ refused_text line_number fault
+-- the lines that the response to these octets answers or refuses
+unfoldable pub processed_lines : (octets : List ℕ) (ended : Bool) → List (List ℕ)
+processed_lines x ended = lines_to_process (take input_limit x) (input_end x ended)
 
--- the rules prescribe this status and output for `lines`, the first of which is line number `line_number` and is read in `state`; `ended`
--- says whether the input is within the input limit
-abbrev pub IsOutputOfLines : {State : Type 0} (rules : Rules State) (state : State) (line_number : ℕ) (lines : List (List ℕ))
-    (ended : Bool) (status : Status) (output : List ℕ) → Type 0
-IsOutputOfLines r a n [] true status z = ((r.end_fault a ≡ None) × (status ≡ Done) × (z ≡ [])) ⊎ RefusesInputEnd r a n status z
-IsOutputOfLines r a n [] false status z = (status ≡ TooLong) × (z ≡ [])
-IsOutputOfLines r a n (line ∷ judged) ended status z =
-    AnswersLineThenRestOfOutput r a line (λ mid rest. IsOutputOfLines r mid (n + 1) judged ended status rest) z
-    ⊎ RefusesLine r a n line status z
+-- ---- the answers to the lines, and the status in which the run ends after them; `None`: it needs more octets
 
--- the rules prescribe this status and output for the whole input of a command that starts in `state`
-abbrev pub IsOutput : {State : Type 0} (rules : Rules State) (state : State) (input : List ℕ) (status : Status) (output : List ℕ) →
-    Type 0
-IsOutput r a x status z = (judged : List (List ℕ)) × (ended : Bool) × AreProcessedLines x judged ended ×
-    IsOutputOfLines r a 1 judged ended status z
+abbrev pub response_at_end : (number : ℕ) (fault : Option LineFault) (end : InputEnd) → Option Status × List ℕ
+response_at_end n None Ended = (Some Done, [])
+response_at_end n (Some fault) Ended = (Some BadInput, refused_text n fault)
+response_at_end n fault Exceeded = (Some TooLong, [])
+response_at_end n fault Open = (None, [])
+
+-- the answer and what follows it, or the reason why line number `number` is refused
+abbrev pub response_from_answer : {State : Type 0} (number : ℕ) (later : (State → Option Status × List ℕ))
+    (answer : Result (List ℕ × State) LineFault) → Option Status × List ℕ
+response_from_answer n later (Ok next) = ((later next.1).0, next.0 ++ (later next.1).1)
+response_from_answer n later (Err fault) = (Some BadInput, refused_text n fault)
+
+-- the response to `lines`, the first of which is line number `number` and is read in `state`
+abbrev pub response_to_lines : {State : Type 0} (rules : Rules State) (state : State) (number : ℕ) (lines : List (List ℕ))
+    (end : InputEnd) → Option Status × List ℕ
+response_to_lines r a n [] end = response_at_end n (r.end_fault a) end
+response_to_lines r a n (line ∷ lines) end =
+    response_from_answer n (λ b. response_to_lines r b (n + 1) lines end) (answer_to_line r a line)
+
+-- the response of a command that starts in `state` to the octets read so far; `ended` says whether they are the whole input
+unfoldable pub response : {State : Type 0} (rules : Rules State) (state : State) (octets : List ℕ) (ended : Bool) →
+    Option Status × List ℕ
+response r a x ended = response_to_lines r a 1 (lines_to_process (take input_limit x) (input_end x ended)) (input_end x ended)

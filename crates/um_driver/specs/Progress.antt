@@ -5,7 +5,8 @@ use Rattle.um_io.specs.Lines.{IsLine, EndsWithoutLineFeed, text_of_lines}
 use Rattle.um_io.specs.Reading.{ReaderState, IsValidReader, input_limit, buffer_limit}
 use Rattle.um_io.specs.Streams.{FailureCountRose}
 use Rattle.um_driver.specs.Rules.{Rules, Runs, concatenated_text}
-use Rattle.um_driver.specs.Table.{ReadsAtMostOneBufferAhead, InputJustifiesStatus, SinkTakesPrefix}
+use Rattle.um_driver.specs.Outputs.{processed_lines, response}
+use Rattle.um_driver.specs.Table.{IsRefusalOrNone, ReadsAtMostOneBufferAhead, SinkTakesPrefix}
 use Rattle.um_driver.specs.declared.status.Status.{Status}
 use Rattle.um_driver.specs.declared.status.Status.TheVariants.{BadWords, ReadFault, WriteFault, NoMemory}
 
@@ -46,7 +47,7 @@ pub record IsPointOfRun {State : Type 0} (rules : Rules State) (start : State) (
   pub line_count_matches_lines : line_count ≡ length lines
   pub written : Appends written_before written_after output
   pub runs : Runs rules start lines answers state
-  pub reads_little_ahead : ReadsAtMostOneBufferAhead input_read output lines answers
+  pub reads_little_ahead : ReadsAtMostOneBufferAhead rules start input_read output
 
 -- the run continues: all answers so far have been written, except for the octets `gathered`, which are in the output buffer
 pub record IsRunUnderway {State : Type 0} (rules : Rules State) (start : State) (Represents : State → Type 0) (reading : ReaderState)
@@ -58,6 +59,14 @@ pub record IsRunUnderway {State : Type 0} (rules : Rules State) (start : State) 
   pub valid : IsValidReader reading
   pub not_stopped : reading.is_over ≡ false
 
+-- the response is this text and this status; `ReadFault`: the run needs more octets
+abbrev pub IsResponse : (status : Status) (response : Option Status × List ℕ) (text : List ℕ) → Type 0
+IsResponse ReadFault response text = response ≡ (None, text)
+IsResponse WriteFault response text = ⊥
+IsResponse NoMemory response text = ⊥
+IsResponse BadWords response text = ⊥
+IsResponse status response text = response ≡ (Some status, text)
+
 -- the run ends with this status once the octets `gathered` in the output buffer, and then `text`, have been written
 pub record IsRunEnding {State : Type 0} (rules : Rules State) (start : State) (Represents : State → Type 0) (status : Status)
     (unread_before unread_after written_before written_after : Option (List ℕ)) (gathered text : List ℕ) : Type 0 where
@@ -68,8 +77,11 @@ pub record IsRunEnding {State : Type 0} (rules : Rules State) (start : State) (R
   pub point : IsPointOfRun rules start held octet_count line_count ended unread_before unread_after written_before written_after
   pub represents : Represents point.state
   pub output : concatenated_text point.answers ≡ point.output ++ gathered
-  pub input_justifies_status : (rest : List ℕ) → (SourceHasEnded unread_before unread_after → rest ≡ []) →
-      InputJustifiesStatus rules status point.input_read rest point.lines point.state text
+  pub seen_end : Bool
+  pub first_lines : (later : List (List ℕ)) × (processed_lines point.input_read seen_end ≡ point.lines ++ later)
+  pub source_ended : seen_end ≡ true → SourceHasEnded unread_before unread_after
+  pub prescribed : IsResponse status (response rules start point.input_read seen_end) (concatenated_text point.answers ++ text)
+  pub is_refusal : IsRefusalOrNone text
 
 -- the result of processing one line, before its output is written: the run continues (`None`), or ends with a status
 abbrev pub IsLineOutcome : {State : Type 0} (rules : Rules State) (state : State) (Represents : (State → Type 0))

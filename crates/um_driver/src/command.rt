@@ -11,7 +11,7 @@ pub trait Command {
     /// The type of the command's abstract states.
     ghost State: { Type 0 };
 
-    /// The rules of the command: which lines it refuses, how it answers the others, and how each line changes its state.
+    /// The rules of the command: the answer to each line and the next state, or the reason to refuse the line.
     ghost rules: { Rules State };
 
     /// The abstract state of the command at the start of a run.

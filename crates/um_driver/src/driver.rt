@@ -2,7 +2,6 @@
 ghost use Rattle.std.specs.Prelude.{◌≡◌, ◌≢◌, ℕ, ◌<◌, List, Option, Some, None, [], ◌++◌, ◌⊎◌, OnOk};
 ghost use Rattle.um_io.specs.Reading.{new_reader, IsResultReady};
 ghost use Rattle.um_lines.specs.Refusals.{refused_text};
-ghost use Rattle.um_driver.specs.Rules.{IsDeterministic};
 ghost use Rattle.um_driver.specs.Table.{IsRun, FailureCountsMatch, EndsAsPrescribed};
 ghost use Rattle.um_driver.specs.Writing.{BuffersTextIfOk, CountsWriteFailure};
 ghost use Rattle.um_driver.specs.Progress.{IsRunUnderway, IsLineOutcome, IsLastWriteResult, ReadFailureIsCounted};
@@ -152,8 +151,8 @@ pub fn drive<C: Command, S: Source, K: Sink>(
     ensures table { IsRun C.rules (C.start command.old) (C.represents command.new) result
         (S.left input.old) (S.left input.new) (K.taken output.old) (K.taken output.new) }
 
-    // If the rules are deterministic, the run ends as they prescribe for the whole input.
-    ensures due { IsDeterministic C.rules → EndsAsPrescribed C.rules (C.start command.old) result
+    // The run ends as the rules prescribe for the whole input.
+    ensures due { EndsAsPrescribed C.rules (C.start command.old) result
         (S.left input.old) (K.taken output.old) (K.taken output.new) }
 
     ensures cause { FailureCountsMatch result (S.faults input.old) (S.faults input.new)

@@ -1,14 +1,9 @@
-//! Laws that hold for the rules of every command.
-ghost use Rattle.um_driver.specs.Laws.{OutputIsUnique, OutputExists};
+//! A law that holds for the rules of every command.
+ghost use Rattle.um_driver.specs.Continued.{MoreOctetsContinueResponse};
 
 use crate::command::Command;
 
-/// Law: if the rules are deterministic, they prescribe at most one output and one status for each input.
-pub fn law_deterministic_output_is_unique<C: Command>()
-    ensures { OutputIsUnique C.rules }
-{}
-
-/// Law: if the rules give an answer to every line that they do not refuse, they prescribe an output for every input.
-pub fn law_command_output_exists<C: Command>()
-    ensures { OutputExists C.rules }
+/// Law: if more octets are read, the prescribed response is only continued, and does not change once it has a status.
+pub fn law_more_octets_continue_response<C: Command>()
+    ensures { MoreOctetsContinueResponse C.rules }
 {}

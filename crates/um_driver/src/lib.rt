@@ -11,7 +11,7 @@ mod writing;
 
 pub use command::Command;
 pub use driver::drive;
-pub use laws::{law_command_output_exists, law_deterministic_output_is_unique};
+pub use laws::law_more_octets_continue_response;
 pub use stateless::{Answer, StatelessCommand};
 pub use status::Status;
 pub use um_io::{MemorySink, MemorySource, PlainSource, ReadSource, Sink, Source, WriteSink};

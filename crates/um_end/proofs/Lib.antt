@@ -1,4 +1,3 @@
 pub use Rattle.um_link.proofs.um_block as um_block
 pub use Rattle.um_lines.proofs as um_lines
 pub mod EndSteps
-pub mod EndTurns

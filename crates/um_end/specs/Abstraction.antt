@@ -1,13 +1,12 @@
--- The abstraction relation of a terminal, and when its answers follow the specification.
+-- The abstraction relation of a terminal, and when its answers are those that the specification computes.
 use Rattle.std.specs.Prelude.{◌≡◌, ℤ, List, Result}
 use Rattle.um_link.specs.lapdm_window.Ends.{Role}
 use Rattle.lapdm_end.specs.Sides as L
-use Rattle.um_link.specs.um_air.Air.{Event, Answer}
-use Rattle.um_link.specs.um_air.Air as A
+use Rattle.um_link.specs.um_air.Air.{Event}
 use Rattle.um_link.specs.declared.events.No.{No}
 use Rattle.um_link.specs.declared.events.Step.{Step}
 use Rattle.um_link.specs.Naming.{spec_role_of, spec_step_of, spec_answer_of}
-use Rattle.um_end.specs.Terminals.{SideState, SideAnswersCall, ReceivesBursts}
+use Rattle.um_end.specs.Terminals.{SideState, answer_to_call, answer_to_block}
 use Rattle.um_end.specs.declared.terminal.Terminal.{Terminal}
 
 -- the role of a terminal: mobile or network
@@ -18,30 +17,19 @@ role_of_terminal t = spec_role_of t.side
 abbrev pub Represents : (terminal : Terminal) (state : SideState) → Type 0
 Represents t a = L.Represents t.links a
 
--- for every state that the old terminal represents, the specification allows this answer to the call, and the new terminal represents the
--- state after it
+-- for every state that the old terminal represents, the result is the answer to the call, and the new terminal represents the state after
+-- it
 abbrev pub CallRefinesSideStep : (event : Event) (old : Terminal) (result : Result Step No) (new : Terminal) → Type 0
 CallRefinesSideStep event old result new = (a : SideState) → Represents old a →
-    (b : SideState) × Represents new b × SideAnswersCall (role_of_terminal old) a event b (spec_answer_of result)
+    let next = answer_to_call (role_of_terminal old) a event in
+    Represents new next.0 × (spec_answer_of result ≡ next.1)
 
--- for every state that the terminal represents, the specification allows no answer to the call other than this result
-abbrev pub IsOnlyPossibleAnswer : (event : Event) (old : Terminal) (result : Result Step No) → Type 0
-IsOnlyPossibleAnswer event old result =
-    (a : SideState) → Represents old a → (b : SideState) (answer : Answer) → SideAnswersCall (role_of_terminal old) a event b answer
-    →
-    answer ≡ spec_answer_of result
-
--- for every state that the old terminal represents, the specification allows this step for the four received bursts, and the new terminal
--- represents the state after it
+-- for every state that the old terminal represents, the result is that of the four received bursts, and the new terminal represents the
+-- state after it
 abbrev pub BurstsRefineSideStep : (bursts : List (List ℤ)) (old : Terminal) (result : Step) (new : Terminal) → Type 0
 BurstsRefineSideStep bursts old result new = (a : SideState) → Represents old a →
-    (b : SideState) × Represents new b × ReceivesBursts (role_of_terminal old) a bursts b (spec_step_of result)
-
--- for every state that the terminal represents, the specification allows no step for the four received bursts other than this one
-abbrev pub IsOnlyStepForBursts : (bursts : List (List ℤ)) (old : Terminal) (result : Step) → Type 0
-IsOnlyStepForBursts bursts old result =
-    (a : SideState) → Represents old a → (b : SideState) (step : A.Step) → ReceivesBursts (role_of_terminal old) a bursts b step →
-    step ≡ spec_step_of result
+    let next = answer_to_block (role_of_terminal old) a bursts in
+    Represents new next.0 × (spec_step_of result ≡ next.1)
 
 -- both terminals have the same side and training sequence code
 pub record KeepsSideAndTsc (old new : Terminal) : Type 0 where

@@ -1,4 +1,4 @@
--- Which events are calls to an endpoint, the SAPI of that endpoint, and its call (internal).
+-- Which events are calls to an endpoint, the SAPI of that endpoint, and its call.
 use Rattle.um_link.specs.lapdm_window.declared.Sapi.{Sapi}
 use Rattle.um_link.specs.lapdm_window.declared.Sapi.TheVariants.{Zero, Three}
 use Rattle.um_link.specs.lapdm_window.Calls.{Call, Opens, OpensWithoutInfo, SendsFillFrame}

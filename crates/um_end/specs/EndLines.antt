@@ -1,5 +1,5 @@
 -- What the lines of the `end` command mean (this project's own rule).
-use Rattle.std.specs.Prelude.{ℕ, ℤ, Bool, false, ◌||◌, List, [], ◌∷◌, Option, Some, None, codes}
+use Rattle.std.specs.Prelude.{ℕ, ℤ, Bool, false, ◌||◌, List, [], ◌∷◌, Option, Some, None, Result, codes}
 use Rattle.std.specs.Str.{bytes_eq}
 use Rattle.um_link.specs.bit_blocks.SoftValues.{AllSoftBits}
 use Rattle.um_link.specs.lapdm_window.Ends.{Role, Mobile, Network}
@@ -12,7 +12,7 @@ use Rattle.um_lines.specs.LinkForms.{LinkLineKind, mobile_call_line_forms, netwo
 use Rattle.um_lines.specs.LinkForms.{end_command_line_forms}
 use Rattle.um_lines.specs.LinkForms.{is_end_command_line_out_of_order}
 use Rattle.um_lines.specs.LinkForms as L
-use Rattle.um_lines.specs.Reading.{LineParsesTo}
+use Rattle.um_lines.specs.Reading.{LineParsesTo, parsed_line}
 use Rattle.um_formats.specs.declared.burst_lines.BurstLine.{BurstLine}
 use Rattle.um_formats.specs.declared.burst_lines.BurstLine.TheVariants.{Normal}
 use Rattle.um_formats.specs.BurstLines.{burst_line_of_values}
@@ -57,6 +57,11 @@ end_command_line_fault role held line =
 abbrev pub EndCommandLineMeans : (role : Role) (held_burst_count : ℕ) (line : List ℕ) (meaning : EndCommandLineMeaning) → Type 0
 EndCommandLineMeans role held line =
     LineParsesTo (end_command_line_forms (call_line_forms role)) (is_end_command_line_out_of_order held) meaning_of_end_command_line line
+
+-- the meaning of a line that follows `held_burst_count` bursts of an unfinished block, or the first reason why it is refused
+unfoldable pub end_command_line : (role : Role) (held_burst_count : ℕ) (line : List ℕ) → Result EndCommandLineMeaning LineFault
+end_command_line role held line =
+    parsed_line (end_command_line_forms (call_line_forms role)) (is_end_command_line_out_of_order held) meaning_of_end_command_line line
 
 -- the meaning of a line that the parser returned as an `EndCommandLine`
 abbrev pub meaning_of_parsed_line : EndCommandLine → EndCommandLineMeaning

@@ -2,10 +2,9 @@
 use Rattle.std.specs.Prelude.{ℕ, ◌≡◌, ◌⊎◌, List, [], ◌∷◌, ◌++◌, length}
 use Rattle.um_link.specs.lapdm_link.Events.{side_with_role}
 use Rattle.um_link.specs.um_air.Air.{Accepts}
-use Rattle.um_driver.specs.Rules.{Rules}
 use Rattle.um_end.specs.EndLines.{EndCommandLineMeaning, EndCommandLineMeans}
 use Rattle.um_end.specs.EndLines as L
-use Rattle.um_end.specs.EndRuns.{EndCommandState, IsAnswerText, end_command_rules}
+use Rattle.um_end.specs.EndRuns.{EndCommandState, IsAnswerText}
 use Rattle.um_end.specs.TwoTerminals.{TwoTerminals, TerminalStep, IsTerminalStep}
 use Rattle.um_end.specs.TwoTerminals as T
 
@@ -36,10 +35,9 @@ AnswersLineByStep s line text after = (meaning : EndCommandLineMeaning)
     × (((after.links ≡ s.links) × (text ≡ []))
     ⊎ ((a : TwoTerminals) → side_with_role s.role a.sides ≡ s.links → IsTerminalStepOfLine s meaning text after a))
 
--- the rules of `end`, with each line that changes an endpoint as a step of two terminals
-abbrev pub end_rules_as_terminal_steps : Rules EndCommandState
-end_rules_as_terminal_steps = record {
-  fault = end_command_rules.fault;
-  end_fault = end_command_rules.end_fault;
-  Step = AnswersLineByStep;
-}
+-- the lines get these answers, each by a step of two terminals or without a change of the endpoints
+abbrev pub AnswersLinesBySteps : (s : EndCommandState) (lines texts : List (List ℕ)) (after : EndCommandState) → Type 0
+AnswersLinesBySteps s [] [] after = after ≡ s
+AnswersLinesBySteps s (line ∷ lines) (text ∷ texts) after =
+    (next : EndCommandState) × AnswersLineByStep s line text next × AnswersLinesBySteps next lines texts after
+AnswersLinesBySteps s lines texts after = ⊥

@@ -8,7 +8,7 @@ use Rattle.um_link.specs.lapdm_link.Claims.{LogLine, answer_log_lines, notice_lo
 use Rattle.um_link.specs.um_air.Air.{Octets, Event, Answer, Step}
 use Rattle.um_link.specs.um_air.Damage.{AreCorrectableBursts}
 use Rattle.um_link.specs.um_air.Sessions.{answer_without_blocks}
-use Rattle.um_end.specs.Terminals.{SideState, IsCallOfRole, SideAnswersCall, ReceivesBursts}
+use Rattle.um_end.specs.Terminals.{SideState, IsCallOfRole, answer_to_call, ReceivesBursts}
 use Rattle.um_end.specs.EndRuns.{frames_in_answer}
 
 -- the state of both sides, and the octets of the blocks in transit from each, in order
@@ -35,9 +35,9 @@ state_after_step side links sent left a =
 
 -- `step` leads from the state `terminals` to the state `after`
 abbrev pub IsTerminalStep : (terminals : TwoTerminals) (step : TerminalStep) (after : TwoTerminals) → Type 0
-IsTerminalStep a (Calls side event answer) b = (links : SideState) × IsCallOfRole side event
-    × SideAnswersCall side (side_with_role side a.sides) event links answer
-    × (b ≡ state_after_step side links (frames_in_answer answer) a.queues a)
+IsTerminalStep a (Calls side event answer) b =
+    let next = answer_to_call side (side_with_role side a.sides) event in
+    IsCallOfRole side event × (answer ≡ next.1) × (b ≡ state_after_step side next.0 (frames_in_answer answer) a.queues a)
 IsTerminalStep a (TakesBurst side bursts step) b = (links : SideState)
     × ReceivesBursts side (side_with_role side a.sides) bursts links step
     × (b ≡ state_after_step side links step.frames (without_oldest_item (other side) a.queues) a)

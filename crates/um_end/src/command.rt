@@ -1,18 +1,14 @@
 //! The `end` command, which runs one side on recorded bursts and layer 3 calls.
-ghost use Rattle.std.specs.Prelude.{◌≡◌, ◌+◌, ◌*◌, ◌<◌, ◌≤◌, ℕ, [], ◌∷◌, ◌++◌, length, OnOk};
+ghost use Rattle.std.specs.Prelude.{◌≡◌, ◌+◌, ◌*◌, ◌<◌, ◌≤◌, [], ◌∷◌, ◌++◌, length, All, OnOk};
 ghost use Rattle.um_link.specs.um_block.conv_code.Likelihood.{AllSoftBits};
-ghost use Rattle.um_link.specs.Coded.{AreCodedBlocks};
 ghost use Rattle.um_link.specs.Naming.{spec_role_of, spec_step_of, spec_answer_of, result_with_step};
 ghost use Rattle.um_link.specs.Abstraction.{StepFitsItsActor};
-ghost use Rattle.um_link.specs.lapdm_window.Ends.{Role};
 ghost use Rattle.um_link.specs.um_io.Lines.{IsLine};
 ghost use Rattle.um_link.specs.um_io.Reading.{line_limit};
-ghost use Rattle.um_driver.specs.Laws.{HasOneOutput};
 ghost use Rattle.um_driver.specs.Rules.{IsLineAnswerOrFault};
 ghost use Rattle.um_script.specs.AnswerLines.{answer_text};
-ghost use Rattle.um_end.specs.EndRuns.{EndCommandState, initial_end_command_state, end_command_rules, frames_in_answer, IsAnswerText};
-ghost use Rattle.um_end.specs.EndRuns.{IsAnswerToBursts};
-ghost use Rattle.um_end.specs.EndRuns.{AppendsCodedFrames};
+ghost use Rattle.um_end.specs.EndRuns.{EndCommandState, initial_end_command_state, end_command_rules, answer_to_burst, end_answer_text};
+ghost use Rattle.um_end.specs.EndRuns.{burst_lines_of_frames, frames_in_answer};
 ghost use Rattle.um_end.specs.Commands.{CommandRepresents, start_state_of_end_command};
 
 use crate::lines::{EndCommandLine, parse_end};
@@ -22,11 +18,6 @@ use um_formats::{BLOCK_OCTETS, BURST_BITS, HeldBursts, push_block};
 use um_lines::{LineFault, Text};
 use um_link::{End, No, Step};
 use um_script::{Room, write_step_lines};
-
-/// Law: the `end` command has exactly one output and one status for every input.
-pub fn law_end_command_output_is_unique()
-    ensures { (role : Role) (tsc : ℕ) → tsc ≤ 7 → HasOneOutput end_command_rules (initial_end_command_state role tsc) }
-{}
 
 /// The state of the `end` command: its terminal, and the bursts received so far of a block.
 #[derive(Drop)]
@@ -58,8 +49,8 @@ impl EndCommand {
         requires soft { AllSoftBits burst }
         requires empty { out.old ≡ [] }
         ensures answers { (s : EndCommandState) → CommandRepresents self.old s →
-            (after : EndCommandState) × IsAnswerToBursts s (s.held_bursts ++ burst ∷ []) out.new after
-            × CommandRepresents self.new after }
+            let next = answer_to_burst s (s.held_bursts ++ burst ∷ []) in
+            (out.new ≡ next.0) × CommandRepresents self.new next.1 }
         ensures size { (s : EndCommandState) → CommandRepresents self.old s → length out.new < 2000 }
     {
         if self.held.add(burst) {
@@ -92,13 +83,16 @@ impl Command for EndCommand {
         ensures keeps { tt {0} ≡ tt }
         ensures size { (s : EndCommandState) → CommandRepresents self.old s → length out.new < 2000 }
     {
-        match parse_end(line, self.terminal.side, self.held.count(), &mut self.room)? {
-            EndCommandLine::Skip => {}
-            EndCommandLine::Burst(burst) => self.add_burst_to_block(burst, out),
-            EndCommandLine::Ask(event) => {
-                let done = self.terminal.ask_into(&event, &mut self.step);
-                write_answer(out, &self.terminal, &done, &self.step);
-            }
+        match parse_end(line, self.terminal.side, self.held.count(), &mut self.room) {
+            Ok(read) => match read {
+                EndCommandLine::Skip => {}
+                EndCommandLine::Burst(burst) => self.add_burst_to_block(burst, out),
+                EndCommandLine::Ask(event) => {
+                    let done = self.terminal.ask_into(&event, &mut self.step);
+                    write_answer(out, &self.terminal, &done, &self.step);
+                }
+            },
+            Err(fault) => return Err(fault),
         }
         Ok(())
     }
@@ -116,7 +110,8 @@ impl Command for EndCommand {
 fn write_answer(out: &mut Text, terminal: &Terminal, outcome: &Result<(), No>, step: &Step)
     requires empty { out.old ≡ [] }
     requires fits { OnOk outcome.now (StepFitsItsActor (spec_step_of step.now)) }
-    ensures text { IsAnswerText terminal.now.tsc (spec_answer_of (result_with_step outcome.now step.now)) out.new }
+    ensures text { out.new ≡ end_answer_text terminal.now.tsc (spec_answer_of (result_with_step outcome.now step.now)) }
+    ensures whole { All (λ octets. length octets ≡ 23) (frames_in_answer (spec_answer_of (result_with_step outcome.now step.now))) }
     ensures lines { length (answer_text (spec_answer_of (result_with_step outcome.now step.now))) < 2000 }
     ensures length { length out.new ≡
         length (answer_text (spec_answer_of (result_with_step outcome.now step.now))) + 604 * length
@@ -132,7 +127,8 @@ fn write_answer(out: &mut Text, terminal: &Terminal, outcome: &Result<(), No>, s
 fn push_block_lines(out: &mut Text, terminal: &Terminal, frames: &[[u8; BLOCK_OCTETS]])
     requires space { length out.old < 2000 }
     requires size { length frames.now ≤ 2 }
-    ensures text { AppendsCodedFrames terminal.now.tsc frames.now out.old out.new }
+    ensures text { out.new ≡ out.old ++ burst_lines_of_frames terminal.now.tsc frames.now }
+    ensures whole { All (λ octets. length octets ≡ 23) frames.now }
     ensures length { length out.new ≡ length out.old + 604 * length frames.now }
 {
     for octets in frames {

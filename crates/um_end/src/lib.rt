@@ -7,8 +7,11 @@ mod lines;
 mod terminal;
 mod two_ends;
 
-pub use command::{EndCommand, law_end_command_output_is_unique};
+pub use command::EndCommand;
 pub use lines::{EndCommandLine, law_end_line_meaning_is_unique, parse_end};
 pub use terminal::Terminal;
-pub use two_ends::{law_end_command_lines_are_terminal_steps, law_two_terminals_deliver_in_order};
+pub use two_ends::{
+    law_end_command_lines_are_terminal_steps, law_received_bursts_are_computed,
+    law_two_terminals_deliver_in_order,
+};
 pub use um_link::End;

@@ -1,8 +1,9 @@
 //! A terminal: both endpoints of one side, which sends and receives bursts.
-ghost use Rattle.std.specs.Prelude.{◌≡◌, ◌≤◌, ℕ, List, Some, None, IfOk, OnOk, OnErr, IsSome};
+ghost use Rattle.std.specs.Prelude.{◌≡◌, ◌≤◌, Some, None, IfOk, OnOk, OnErr, IsSome};
 ghost use Rattle.std.specs.List.{All};
 ghost use Rattle.um_link.specs.bit_blocks.Bits.{AllBits};
 ghost use Rattle.um_link.specs.um_block.conv_code.Likelihood.{AllSoftBits};
+ghost use Rattle.um_link.specs.um_block.Computed.{sent_block};
 ghost use Rattle.um_link.specs.um_block.Sent.{IsSentBlock};
 ghost use Rattle.um_link.specs.lapdm_frame.declared.Channel.TheVariants.{Sdcch};
 ghost use Rattle.lapdm_end.specs.Sides.{channel_of, role_of};
@@ -29,9 +30,8 @@ pub struct Terminal {
 }
 
 impl Terminal {
-    ghost use Rattle.um_end.specs.Terminals.{idle_side, IsCallOfRole};
-    ghost use Rattle.um_end.specs.Abstraction.{Represents, CallRefinesSideStep, IsOnlyPossibleAnswer, BurstsRefineSideStep};
-    ghost use Rattle.um_end.specs.Abstraction.{IsOnlyStepForBursts, KeepsSideAndTsc, role_of_terminal};
+    ghost use Rattle.um_end.specs.Terminals.{SideState, idle_side, IsCallOfRole, ReceivesBursts, answer_to_block};
+    ghost use Rattle.um_end.specs.Abstraction.{Represents, CallRefinesSideStep, BurstsRefineSideStep, KeepsSideAndTsc, role_of_terminal};
     ghost use Rattle.um_end.specs.BlockSteps.{BlockRefinesSideStep};
 
     /// Creates a side with both endpoints in Idle. The training sequence code `tsc` must be 0 to 7.
@@ -57,7 +57,6 @@ impl Terminal {
     pub fn ask(&mut self, event: &Event<'_>) -> Result<Step, No>
         requires own { IsCallOfRole (role_of_terminal self.old) (spec_event_of event.now) }
         ensures refines { CallRefinesSideStep (spec_event_of event.now) self.old result self.new }
-        ensures only { IsOnlyPossibleAnswer (spec_event_of event.now) self.old result }
         ensures refused { OnErr result (self.new ≡ self.old) }
         ensures who { IfOk result (λ step. spec_who_of step.who ≡ E.BySide (role_of_terminal self.old)) }
         ensures received { IfOk result (λ step. step.received ≡ None) }
@@ -74,7 +73,6 @@ impl Terminal {
     pub fn ask_into(&mut self, event: &Event<'_>, step: &mut Step) -> Result<(), No>
         requires own { IsCallOfRole (role_of_terminal self.old) (spec_event_of event.now) }
         ensures refines { CallRefinesSideStep (spec_event_of event.now) self.old (result_with_step result step.new) self.new }
-        ensures only { IsOnlyPossibleAnswer (spec_event_of event.now) self.old (result_with_step result step.new) }
         ensures refused { OnErr result (self.new ≡ self.old) }
         ensures out_unchanged { OnErr result (step.new ≡ step.old) }
         ensures who { OnOk result (spec_who_of step.new.who ≡ E.BySide (role_of_terminal self.old)) }
@@ -97,7 +95,8 @@ impl Terminal {
     pub fn receive(&mut self, bursts: &[[i8; BURST_BITS]; 4]) -> Step
         requires soft { All AllSoftBits bursts.now }
         ensures refines { BurstsRefineSideStep bursts.now self.old result self.new }
-        ensures only { IsOnlyStepForBursts bursts.now self.old result }
+        ensures lawful { (a : SideState) → let next = answer_to_block (role_of_terminal self.old) a bursts.now in
+            ReceivesBursts (role_of_terminal self.old) a bursts.now next.0 next.1 }
         ensures who { spec_who_of result.who ≡ E.BySide (role_of_terminal self.old) }
         ensures received { IsSome result.received }
         ensures numbers { (r : Received) → result.received ≡ Some r → ReceptionIsInRange (reception_quality r) }
@@ -113,7 +112,8 @@ impl Terminal {
     pub fn receive_into(&mut self, bursts: &[[i8; BURST_BITS]; 4], step: &mut Step)
         requires soft { All AllSoftBits bursts.now }
         ensures refines { BurstsRefineSideStep bursts.now self.old step.new self.new }
-        ensures only { IsOnlyStepForBursts bursts.now self.old step.new }
+        ensures lawful { (a : SideState) → let next = answer_to_block (role_of_terminal self.old) a bursts.now in
+            ReceivesBursts (role_of_terminal self.old) a bursts.now next.0 next.1 }
         ensures who { spec_who_of step.new.who ≡ E.BySide (role_of_terminal self.old) }
         ensures received { IsSome step.new.received }
         ensures numbers { (r : Received) → step.new.received ≡ Some r → ReceptionIsInRange (reception_quality r) }
@@ -128,7 +128,7 @@ impl Terminal {
     /// Encodes these octets as the four bursts of a block, with the terminal's training sequence code.
     pub fn bursts(&self, octets: &[u8; BLOCK_OCTETS]) -> [[u8; BURST_BITS]; 4]
         ensures sent { IsSentBlock octets.now self.now.tsc result }
-        ensures only { (other : List (List ℕ)) → IsSentBlock octets.now self.now.tsc other → other ≡ result }
+        ensures value { result ≡ sent_block octets.now self.now.tsc }
         ensures bits { All AllBits result }
     {
         send_block(octets, self.tsc)

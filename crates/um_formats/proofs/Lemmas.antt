@@ -1,6 +1,8 @@
 -- Lemmas about the lines of `code`, `replay` and `show`: what a line means, when it is refused, and that a written line can be parsed back.
+use Rattle.std.proofs.lemmas.Bool.{cases_eq}
 use Rattle.{
   lapdm_frame.{
+    specs.Readings.HasUniqueReading,
     proofs.Lemmas.{FieldsFit, content_fits, fields_fit, never_refused, octets_canonical, one_reading, same_canonical, same_frame},
     proofs.Lemmas.{same_reason, bit_bound},
     specs.{
@@ -14,7 +16,7 @@ use Rattle.{
     proofs.{
       Common.{Bool, Err, List, None, Ok, Option, Some, [], append-nil, append_assoc, ap, arith, codes, drop, eqb, false, inl, inr},
       Common.{length-append, length, map, negsuc, not, pos, refl, replicate, set, suc, sym, take, true, ℕ, ℤ, ◌&&◌, ◌++◌},
-      Common.{◌+◌, ◌-◌, ◌<◌, ◌==◌, ◌∙◌, ◌∷◌, ◌≡◌, ◌≢◌, ◌≤◌, if◌then◌else◌, subst},
+      Common.{◌+◌, ◌-◌, ◌<◌, ◌==◌, ◌∙◌, ◌∷◌, ◌≡◌, ◌≢◌, ◌≤◌, ◌⊎◌, if◌then◌else◌, subst},
       lemmas.{Bool.{Decides.nat_tests, and_right, cases_Bool, ne_eqb}, Int.ints, List.Elements.{All-cons, All-map, All-nil, All-replicate}},
       lemmas.List.{Splits.{join_with_byte-slice_split, length-slice_split}, append_cancel_right, drop_all, length-map, length-replicate},
       lemmas.{List.set_split, Slice.Eq.bytes_eq-Decides},
@@ -28,11 +30,12 @@ use Rattle.{
     specs.{bit_blocks.SoftValues.{AllSoftBits, IsSoftBit}, declared.received.Received.Received},
   },
   um_formats.specs.{
-    BurstLines.{BurstLineMeans, burst_line_fault, burst_line_of_meaning, burst_parse_result},
-    CodeLines.{CodeLineMeans, code_line_fault, code_line_of_meaning},
-    FrameTexts.{IsTextOfOctets, frame_text, frame_values, octets_text, line_values_of_fields, line_syntax_of_frame, unreadable_frame_text},
+    BurstLines.{BurstLineMeans, burst_line, burst_line_fault, burst_line_of_meaning, burst_parse_result},
+    CodeLines.{CodeLineMeans, code_line, code_line_fault, code_line_of_meaning},
+    FrameTexts.{IsTextOfOctets, frame_text, frame_values, octets_text, line_values_of_fields, line_syntax_of_frame, text_of_octets},
+    FrameTexts.unreadable_frame_text,
     Held.{IsHardNormalBurstLine, IsSoftNormalBurstLine},
-    Reports.{IsBlockReportText, block_report_line},
+    Reports.{IsBlockReportText, block_report_line, block_report_text, text_of_accepted},
     ShowLines.{ShowLineMeans, content_from_values, frame_from_values, is_bit_set, show_line_fault, show_line_of_frame},
     ShowLines.{show_line_of_meaning, show_line_of_values, show_parse_result},
     ShowReading.{frame_line_words, min_info_octets},
@@ -47,14 +50,14 @@ use Rattle.{
   },
   um_lines.{
     proofs.FormLaws.{AreOctets, Each, Fitting, fixed_words_lack, length-encode_lower, line_by_forms, line_short, passing_lack},
-    proofs.{FormLaws.{read_of_words, spelled_means, spelled_uncut, one_made, one_meaning}, Texts.words-join},
+    proofs.{FormLaws.{parsed_meaning, parsed_means, read_of_words, spelled_means, spelled_uncut, one_made, one_meaning}, Texts.words-join},
     specs.{BurstForms.{burst_line_forms, is_burst_out_of_order}, CodeForms.code_line_forms, Fields.{BitDigits, LineField, FixedWord}},
     specs.Fields.{HexOctets, NumberList, Number, Value, bit_digits, fits_field, has_wrong_digits, has_wrong_length, is_bit_digit},
     specs.{Fields.octets_from_hex, Forms.{AreDistinct, Exactly, IsTableEntry, LineMeans, fault_or_value, has_faulty_word, line_meaning}},
     specs.{Forms.{never_misplaced, bit_indices_of_values, values_of_words}, Hex.{encode_lower, encode_with, is_hex_digit}},
     specs.{Meanings.HasOneMeaningOrFault, ShowForms.{FrameFormat, NumberedInfo, ShowLineKind, Supervisory, WithInfo, WithoutInfo}},
     specs.{ShowForms.{frame_fields, fields_of_frame_format, show_line_forms, syntax}, LineTexts.{line_of_values, octets_word}},
-    specs.{Words.{IsNotSpace, is_skipped_line, words}, declared.fault.LineFault.TheVariants.{Digits, Length, Word}},
+    specs.{Words.{IsNotSpace, is_skipped_line, words}, declared.fault.LineFault.{TheVariants.{Digits, Length, Word}, LineFault}},
   },
 }
 use Rattle.um_lines.specs.BurstForms as F
@@ -317,6 +320,28 @@ can_be_sent =
     & (λ _ _ _ (info, _, is, known, none). rw (is, none) known)
     & tt)
 
+-- a line of `replay` that has a meaning parses to it, and one that has a fault to the fault
+pub burst_line_meaning : (held : ℕ) (line : List ℕ) (meaning : BurstLine) → BurstLineMeans held line meaning →
+    burst_line held line ≡ Ok meaning
+unfolding burst_line
+burst_line_meaning held line meaning means =
+    parsed_meaning burst_line_forms (is_burst_out_of_order held) burst_line_of_meaning line meaning refl means
+
+pub burst_line_means : (held : ℕ) (line : List ℕ) (meaning : BurstLine) → burst_line held line ≡ Ok meaning →
+    BurstLineMeans held line meaning
+unfolding burst_line
+burst_line_means held line meaning is =
+    parsed_means burst_line_forms (is_burst_out_of_order held) burst_line_of_meaning line meaning is
+
+pub code_line_means : (line : List ℕ) (meaning : CodeLine) → code_line line ≡ Ok meaning → CodeLineMeans line meaning
+unfolding code_line
+code_line_means line meaning is = parsed_means code_line_forms never_misplaced code_line_of_meaning line meaning is
+
+pub burst_line_refused : (held : ℕ) (line : List ℕ) (fault : LineFault) → burst_line_fault held line ≡ Some fault →
+    burst_line held line ≡ Err fault
+unfolding burst_line
+burst_line_refused held line fault bad = rw bad refl
+
 -- ## ReportLaws: Any 23 octets have exactly one text, and so has the report on a received block.
 
 -- a list of octets has at most one text
@@ -330,6 +355,44 @@ some_frame_text octets count =
       | inl (f, only) ↦ (frame_text f, inl (f, only.frame, refl))
       | inr (reason, only) ↦ (unreadable_frame_text reason, inr (reason, only.refused, refl))
     ]
+
+pub IsTextOfOctets-text_of_octets : (octets : List ℕ) → length octets ≡ 23 → IsTextOfOctets octets (text_of_octets octets)
+unfolding text_of_octets
+IsTextOfOctets-text_of_octets octets count = go (cases_eq (length octets) 23)
+  where
+    read : (reading : HasUniqueReading Sdcch octets) → IsTextOfOctets octets (elim reading [
+      | inl reading ↦ frame_text reading.0
+      | inr reading ↦ unreadable_frame_text reading.0
+    ])
+    read (inl (f, only)) = inl (f, only.frame, refl)
+    read (inr (reason, only)) = inr (reason, only.refused, refl)
+
+    go : (known : (length octets ≡ 23) ⊎ (length octets ≢ 23)) → IsTextOfOctets octets (elim known [
+      | inl count ↦ elim (one_reading Sdcch octets count) [
+        | inl reading ↦ frame_text reading.0
+        | inr reading ↦ unreadable_frame_text reading.0
+      ]
+      | inr other ↦ []
+    ])
+    go (inl count) = read (one_reading Sdcch octets count)
+    go (inr other) = absurd (other count)
+
+pub text_of_octets-only : (octets text : List ℕ) → length octets ≡ 23 → IsTextOfOctets octets text → text ≡ text_of_octets octets
+text_of_octets-only octets text count is = one_frame_text octets text _ is (IsTextOfOctets-text_of_octets octets count)
+
+-- the text that `frame_line` writes
+pub written_text : (octets text out : List ℕ) → length octets ≡ 23 → IsTextOfOctets octets text → out ≡ text → out ≡ text_of_octets octets
+written_text octets text out count is e = e ∙ text_of_octets-only octets text count is
+
+pub block_report_text-only : (r : Received) (text : List ℕ) → IfSome r.accepted (λ octets. length octets ≡ 23) →
+    IsBlockReportText r text → text ≡ block_report_text r
+block_report_text-only r = go (block_report_line r) r.accepted
+  where
+    go : (line : List ℕ) (accepted : Option (List ℕ)) (text : List ℕ) → IfSome accepted (λ octets. length octets ≡ 23) →
+        MatchOption accepted (text ≡ line) (λ octets. (second : List ℕ) × IsTextOfOctets octets second × (text ≡ line ++ second)) →
+        text ≡ line ++ text_of_accepted accepted
+    go line None text count is = rw append-nil is
+    go line (Some octets) text count (second, is, e) = rw (← text_of_octets-only octets second count is) e
 
 -- the text of a report: the given line, followed by the text of the accepted octets if there are any
 abbrev Reported : List ℕ → Option (List ℕ) → List ℕ → Type 0

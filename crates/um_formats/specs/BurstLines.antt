@@ -5,7 +5,7 @@ use Rattle.um_lines.specs.declared.fault.LineFault.{LineFault}
 use Rattle.um_lines.specs.declared.fault.LineFault.TheVariants.{Order}
 use Rattle.um_lines.specs.Fields.{Value, NumberList}
 use Rattle.um_lines.specs.Forms.{line_fault}
-use Rattle.um_lines.specs.Reading.{LineParsesTo, words_parse_result}
+use Rattle.um_lines.specs.Reading.{LineParsesTo, parsed_line, words_parse_result}
 use Rattle.um_lines.specs.BurstForms.{BurstLineKind, Normal, NormalSoft, Lost, Access, AccessSoft, Sync, SyncSoft, burst_line_forms}
 use Rattle.um_lines.specs.BurstForms.{is_burst_out_of_order}
 use Rattle.um_formats.specs.declared.burst_lines.BurstLine.{BurstLine}
@@ -44,3 +44,7 @@ BurstLineMeans held line = LineParsesTo burst_line_forms (is_burst_out_of_order 
 -- the result of parsing the words of a line of `replay` (used only inside the parser)
 abbrev pub burst_parse_result : (held_burst_count : ℕ) (words : List (List ℕ)) → Result BurstLine LineFault
 burst_parse_result held words = words_parse_result burst_line_forms (is_burst_out_of_order held) burst_line_of_meaning words
+
+-- the meaning of a line of `replay` after this number of bursts of an incomplete block, or the reason why it is refused
+unfoldable pub burst_line : (held_burst_count : ℕ) (line : List ℕ) → Result BurstLine LineFault
+burst_line held line = parsed_line burst_line_forms (is_burst_out_of_order held) burst_line_of_meaning line

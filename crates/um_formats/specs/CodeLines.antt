@@ -3,7 +3,7 @@ use Rattle.std.specs.Prelude.{ℕ, List, [], ◌∷◌, Option, Some, None, Resu
 use Rattle.um_lines.specs.declared.fault.LineFault.{LineFault}
 use Rattle.um_lines.specs.Fields.{Value, Number, NumberList}
 use Rattle.um_lines.specs.Forms.{never_misplaced, line_fault}
-use Rattle.um_lines.specs.Reading.{LineParsesTo, words_parse_result}
+use Rattle.um_lines.specs.Reading.{LineParsesTo, parsed_line, words_parse_result}
 use Rattle.um_lines.specs.CodeForms.{CodeLineKind, Block, Rach, Sch, code_line_forms}
 use Rattle.um_formats.specs.declared.code.CodeLine.{CodeLine}
 use Rattle.um_formats.specs.declared.code.CodeLine.TheVariants as C
@@ -30,3 +30,7 @@ CodeLineMeans line = LineParsesTo code_line_forms never_misplaced code_line_of_m
 -- the result of parsing the words of a line of `code` (used only inside the parser)
 abbrev pub code_parse_result : (words : List (List ℕ)) → Result CodeLine LineFault
 code_parse_result words = words_parse_result code_line_forms never_misplaced code_line_of_meaning words
+
+-- the meaning of a line of `code`, or the reason why it is refused
+unfoldable pub code_line : (line : List ℕ) → Result CodeLine LineFault
+code_line line = parsed_line code_line_forms never_misplaced code_line_of_meaning line

@@ -1,5 +1,8 @@
 -- How frames are written as lines (this project's own rule).
-use Rattle.std.specs.Prelude.{ℕ, ◌≡◌, List, [], ◌∷◌, ◌++◌, codes, ◌⊎◌}
+use Rattle.std.specs.Prelude.{ℕ, ◌≡◌, List, [], ◌∷◌, ◌++◌, length, codes, ◌⊎◌}
+use Rattle.std.proofs.Common.{inl, inr}
+use Rattle.std.proofs.lemmas.Bool.{cases_eq}
+use Rattle.lapdm_frame.proofs.Lemmas.{one_reading}
 use Rattle.um_lines.specs.Hex.{encode_lower}
 use Rattle.lapdm_frame.specs.declared.Channel.TheVariants.{Sdcch}
 use Rattle.lapdm_frame.specs.declared.Refusal.{Refusal}
@@ -51,6 +54,16 @@ abbrev pub IsTextOfOctets : (octets text : List ℕ) → Type 0
 IsTextOfOctets octets text =
     ((f : Frame) × IsFrameCoding Sdcch f octets × (text ≡ frame_text f))
     ⊎ ((reason : Refusal) × IsRefused Sdcch octets reason × (text ≡ unreadable_frame_text reason))
+
+-- the text for the 23 octets of an SDCCH block as a function; `IsTextOfOctets` is its law
+unfoldable pub text_of_octets : (octets : List ℕ) → List ℕ
+text_of_octets octets = elim (cases_eq (length octets) 23) [
+  | inl count ↦ elim (one_reading Sdcch octets count) [
+    | inl reading ↦ frame_text reading.0
+    | inr reading ↦ unreadable_frame_text reading.0
+  ]
+  | inr other ↦ []
+]
 
 -- the line `octets HEX46` for 23 octets
 abbrev pub octets_text : (octets : List ℕ) → List ℕ

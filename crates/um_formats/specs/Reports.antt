@@ -1,5 +1,5 @@
 -- How reports on received blocks and bursts are written as lines (this project's own rule).
-use Rattle.std.specs.Prelude.{ℕ, ◌≡◌, Bool, true, false, ℤ, List, ◌++◌, take, drop, codes, MatchOption, is_some}
+use Rattle.std.specs.Prelude.{ℕ, ◌≡◌, Bool, true, false, ℤ, List, [], ◌++◌, Option, Some, None, take, drop, codes, MatchOption, is_some}
 use Rattle.std.specs.Fmt.{decimal, signed_decimal}
 use Rattle.um_lines.specs.Hex.{encode_lower}
 use Rattle.um_block.specs.bit_blocks.Octets.{octets_of}
@@ -7,7 +7,7 @@ use Rattle.um_block.specs.declared.received.Received.{Received}
 use Rattle.um_block.specs.declared.received.ReceivedAccess.{ReceivedAccess}
 use Rattle.um_block.specs.declared.received.ReceivedSync.{ReceivedSync}
 use Rattle.um_lines.specs.Fields.{bit_digits}
-use Rattle.um_formats.specs.FrameTexts.{IsTextOfOctets}
+use Rattle.um_formats.specs.FrameTexts.{IsTextOfOctets, text_of_octets}
 
 -- the word for the result of the CRC: `ok` or `bad`
 abbrev pub crc_result_word : Bool → List ℕ
@@ -36,6 +36,15 @@ IsBlockReportText r text =
     MatchOption r.accepted
     (text ≡ block_report_line r)
     (λ octets. (second : List ℕ) × IsTextOfOctets octets second × (text ≡ block_report_line r ++ second))
+
+-- the text for accepted octets: that of the frame in them
+abbrev pub text_of_accepted : Option (List ℕ) → List ℕ
+text_of_accepted None = []
+text_of_accepted (Some octets) = text_of_octets octets
+
+-- the report on a block as a function
+abbrev pub block_report_text : Received → List ℕ
+block_report_text r = block_report_line r ++ text_of_accepted r.accepted
 
 -- the report line of an access burst: `access BSIC6 train E metric M parity P data DIGITS8 check DIGITS6`
 abbrev pub access_report_text : (bsic : List ℕ) (access : ReceivedAccess) → List ℕ

@@ -7,7 +7,7 @@ use Rattle.lapdm_frame.specs.Frames.{octets_of}
 use Rattle.um_lines.specs.declared.fault.LineFault.{LineFault}
 use Rattle.um_lines.specs.Fields.{Value, Number, NumberList}
 use Rattle.um_lines.specs.Forms.{never_misplaced, line_fault}
-use Rattle.um_lines.specs.Reading.{LineParsesTo, words_parse_result}
+use Rattle.um_lines.specs.Reading.{LineParsesTo, parsed_line, words_parse_result}
 use Rattle.um_lines.specs.ShowForms as F
 use Rattle.um_lines.specs.ShowForms.{ShowLineKind, FrameFormat, NumberedInfo, Supervisory, WithInfo, WithoutInfo, syntax, show_line_forms}
 use Rattle.um_formats.specs.declared.show.ShowLine.{ShowLine}
@@ -63,3 +63,7 @@ ShowLineMeans line = LineParsesTo show_line_forms never_misplaced show_line_of_m
 -- the result of parsing the words of a line of `show` (used only inside the parser)
 abbrev pub show_parse_result : (words : List (List ℕ)) → Result ShowLine LineFault
 show_parse_result words = words_parse_result show_line_forms never_misplaced show_line_of_meaning words
+
+-- the meaning of a line of `show`, or the reason why it is refused
+unfoldable pub show_line : (line : List ℕ) → Result ShowLine LineFault
+show_line line = parsed_line show_line_forms never_misplaced show_line_of_meaning line

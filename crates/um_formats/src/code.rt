@@ -3,7 +3,7 @@ ghost use Rattle.std.specs.Prelude.{◌≡◌, ℕ, List, ◌∷◌, IfOk, codes
 ghost use Rattle.std.specs.Result.{result_err};
 ghost use Rattle.um_lines.specs.Words.{words};
 ghost use Rattle.um_lines.specs.Meanings.{HasOneMeaningOrFault};
-ghost use Rattle.um_formats.specs.CodeLines.{code_line_fault, CodeLineMeans, code_parse_result};
+ghost use Rattle.um_formats.specs.CodeLines.{code_line, code_line_fault, CodeLineMeans, code_parse_result};
 
 use um_block::{BLOCK_OCTETS, Bits};
 use um_lines::{
@@ -30,6 +30,7 @@ pub enum CodeLine {
 pub fn parse_code(line: &[u8]) -> Result<CodeLine, LineFault>
     ensures means { IfOk result (CodeLineMeans line.now) }
     ensures refused { result_err result ≡ code_line_fault line.now }
+    ensures value { result ≡ code_line line.now }
 {
     if line.len() > LINE_LIMIT {
         return Err(LineFault::Long);

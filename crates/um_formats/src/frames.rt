@@ -6,7 +6,7 @@ ghost use Rattle.um_lines.specs.Fields.{FixedWord};
 ghost use Rattle.um_lines.specs.ShowForms.{fields_of_frame_format};
 ghost use Rattle.um_lines.specs.LineTexts.{octets_word, line_of_values};
 ghost use Rattle.um_formats.specs.FrameTexts.{line_values_of_fields, frame_text, refusal_word, unreadable_frame_text, octets_text};
-ghost use Rattle.um_formats.specs.FrameTexts.{IsTextOfOctets};
+ghost use Rattle.um_formats.specs.FrameTexts.{IsTextOfOctets, text_of_octets};
 ghost use Rattle.um_formats.specs.ShowReading.{spec_frame_format_of, pf_bit_name, digit};
 
 use crate::frame_words::{FrameFormat, kind_word_and_frame_format};
@@ -18,6 +18,7 @@ use um_lines::Text;
 pub fn frame_line(out: &mut Text, octets: &[u8; BLOCK_OCTETS])
     requires { out.old ≡ [] }
     ensures line { IsTextOfOctets octets.now out.new }
+    ensures value { out.new ≡ text_of_octets octets.now }
     ensures size { length out.new < 2000 }
 {
     push_frame(out, octets);

@@ -10,7 +10,7 @@ ghost use Rattle.um_lines.specs.Forms.{LineMeans, never_misplaced};
 ghost use Rattle.um_lines.specs.ShowForms.{ShowLineKind, show_line_forms};
 ghost use Rattle.um_lines.specs.Meanings.{HasOneMeaningOrFault};
 ghost use Rattle.um_formats.specs.FrameTexts.{frame_text, octets_text, IsTextOfOctets};
-ghost use Rattle.um_formats.specs.ShowLines.{frame_from_values, show_line_fault, ShowLineMeans, show_parse_result};
+ghost use Rattle.um_formats.specs.ShowLines.{show_line, frame_from_values, show_line_fault, ShowLineMeans, show_parse_result};
 ghost use Rattle.um_formats.specs.WrittenBursts.{IsUnskippedLine};
 
 use crate::frame_words::frame_words;
@@ -38,6 +38,7 @@ pub enum ShowLine {
 pub fn parse_show(line: &[u8]) -> Result<ShowLine, LineFault>
     ensures means { IfOk result (ShowLineMeans line.now) }
     ensures refused { result_err result ≡ show_line_fault line.now }
+    ensures value { result ≡ show_line line.now }
 {
     if line.len() > LINE_LIMIT {
         return Err(LineFault::Long);

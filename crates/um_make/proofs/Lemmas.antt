@@ -6,9 +6,9 @@ use Rattle.{
   std.proofs.lemmas.{Bool.cases_Bool, List.{Elements.{All-map, All-cons, All-nil, filter_map-append}, FromFn.length-map-range_with_len}},
   std.{proofs.lemmas.List.{Sums.{sum_by-append, sum_by_push}, append-nil}, specs.List.{filter_map, range_with_len, sum_by}},
   um_link.{
-    proofs.um_air.Lemmas.{air_counts, few_inverted_is_benign, one_run, some_run},
+    proofs.um_air.Lemmas.{air_counts, air_step_only, few_inverted_is_benign, some_run},
     specs.{
-      Abstraction.{arrival_count, blocks_received_in_step, sent_frame_count},
+      Abstraction.{Represents, arrival_count, blocks_received_in_step, sent_frame_count},
       Naming.spec_answer_of,
       Sessions.ExtendsSession,
       declared.{events.{No.No, Step.Step}, links.WorldState.WorldState},
@@ -30,8 +30,8 @@ use Rattle.{
     Courses.pending_events,
     Generated.{events_after_transmission, generated_events, is_lost_transmission, last_transmission_number, last_transmission_of_segment},
     Generated.{message_length, messages, message, message_segment_count, segment_transmissions, segment_transmission, sender},
-    Runs.{AckedAtMostReceived, HasOneSummary, IsSummaryOfEvents},
-    Summaries.{IsEndpointSummary, IsSessionSummary, crc_fails, crc_passes, is_loss_event, reports_bad_crc, reports_good_crc},
+    Runs.{AckedAtMostReceived, IsGeneratedSession, answers_to, generated_answers, generated_summary},
+    Summaries.{crc_fails, endpoint_summary, session_summary, crc_passes, is_loss_event, reports_bad_crc, reports_good_crc},
     Summaries.sent_block_count,
     RunProgress.IsRunInProgress,
     declared.{course.SessionStage.{TheVariants.SendNext, SessionStage}, end_summary.EndpointSummary.EndpointSummary},
@@ -191,91 +191,48 @@ event_notices r e (Refuses why) = refl
 event_notices r (Open info) (Accepts step) = line_notices r step.who step.sapi step.notices
 event_notices r e (Accepts step) = line_notices r step.who step.sapi step.notices
 
+same_endpoint_summary : (a b : EndpointSummary) → a.messages_got ≡ b.messages_got → a.octets ≡ b.octets → a.octet_sum ≡ b.octet_sum →
+    a.acked_messages ≡ b.acked_messages → a ≡ b
+same_endpoint_summary a b messages octets octet_sum acked = grind arith
+
 end_summary-push : (r : Role) (es : List Event) (answers : List Answer) (e : Event) (a : Answer) (old new : EndpointSummary) →
-    length answers ≡ length es → IsEndpointSummary r (session_log es answers) old
+    length answers ≡ length es → old ≡ endpoint_summary r (session_log es answers)
     → CountsNotices (sapi0_notices_in_answer r a) old new →
-    IsEndpointSummary r (session_log (es ++ e ∷ []) (answers ++ a ∷ [])) new
+    new ≡ endpoint_summary r (session_log (es ++ e ∷ []) (answers ++ a ∷ []))
 end_summary-push r es answers e a old new same h t =
     let said = notices_in_log r Zero (session_log es answers) in
     let none : EndpointSummary = record { messages_got = 0; octets = 0; octet_sum = 0; acked_messages = 0 } in
     let before : CountsNotices said none old = record {
-      messages_got = omega (arith, h.messages);
-      octets = omega (arith, h.octets);
-      octet_sum = omega (arith, h.octet_sum);
-      acked_messages = omega (arith, h.acked_messages);
+      messages_got = omega (arith, ap (λ (s : EndpointSummary). s.messages_got) h);
+      octets = omega (arith, ap (λ (s : EndpointSummary). s.octets) h);
+      octet_sum = omega (arith, ap (λ (s : EndpointSummary). s.octet_sum) h);
+      acked_messages = omega (arith, ap (λ (s : EndpointSummary). s.acked_messages) h);
     } in
     let all = counts-append said (sapi0_notices_in_answer r a) none old new before t in
     let both : notices_in_log r Zero (session_log (es ++ e ∷ []) (answers ++ a ∷ [])) ≡ said ++ sapi0_notices_in_answer r a =
     ap (filter_map (notice_in_line r Zero)) (session_log-push es answers e a same)
     ∙ filter_map-append (notice_in_line r Zero) (session_log es answers) (session_log (e ∷ []) (a ∷ []))
     ∙ ap (λ (ns : List Notice). said ++ ns) (event_notices r e a) in
-    record {
-      messages = rw both (omega (arith, all.messages_got));
-      octets = rw both (omega (arith, all.octets));
-      octet_sum = rw both (omega (arith, all.octet_sum));
-      acked_messages = rw both (omega (arith, all.acked_messages));
-    }
+    same_endpoint_summary new _ (rw both (omega (arith, all.messages_got))) (rw both (omega (arith, all.octets)))
+    (rw both (omega (arith, all.octet_sum))) (rw both (omega (arith, all.acked_messages)))
 
-IsSessionSummary-push : (es : List Event) (answers : List Answer) (e : Event) (a : Answer) (old new : Summary) →
-    length answers ≡ length es → IsSessionSummary es answers old → CountsStep e a old new →
-    IsSessionSummary (es ++ e ∷ []) (answers ++ a ∷ []) new
-IsSessionSummary-push es answers e a old new same h k = record {
-  steps = omega (arith, h.steps, k.steps, length-append es (e ∷ []));
-  sent_blocks = omega (arith, h.sent_blocks, k.sent_blocks, sum_by_push sent_block_count answers a);
-  good_blocks = omega (arith, h.good_blocks, k.good_blocks, sum_by_push (λ x. one_if_true (reports_good_crc x)) answers a);
-  bad_blocks = omega (arith, h.bad_blocks, k.bad_blocks, sum_by_push (λ x. one_if_true (reports_bad_crc x)) answers a);
-  lost_blocks = omega (arith, h.lost_blocks, k.lost_blocks, sum_by_push (λ x. one_if_true (is_loss_event x)) es e);
-  mobile = end_summary-push Mobile es answers e a old.mobile new.mobile same h.mobile k.mobile;
-  network = end_summary-push Network es answers e a old.network new.network same h.network k.network;
-}
+same_summary : (s t : Summary) → s.steps ≡ t.steps → s.sent_blocks ≡ t.sent_blocks → s.good_blocks ≡ t.good_blocks →
+    s.bad_blocks ≡ t.bad_blocks → s.lost_blocks ≡ t.lost_blocks → s.mobile ≡ t.mobile → s.network ≡ t.network → s ≡ t
+same_summary s t steps sent good bad lost mobile network = grind arith
 
--- ## OneSummary: The events of a session have exactly one summary, because they determine their answers, and these determine the counters.
+session_summary-push : (es : List Event) (answers : List Answer) (e : Event) (a : Answer) (old new : Summary) →
+    length answers ≡ length es → old ≡ session_summary es answers → CountsStep e a old new →
+    new ≡ session_summary (es ++ e ∷ []) (answers ++ a ∷ [])
+session_summary-push es answers e a old new same h k = same_summary new _
+    (omega (arith, ap (λ (s : Summary). s.steps) h, k.steps, length-append es (e ∷ [])))
+    (omega (arith, ap (λ (s : Summary). s.sent_blocks) h, k.sent_blocks, sum_by_push sent_block_count answers a))
+    (omega (arith, ap (λ (s : Summary). s.good_blocks) h, k.good_blocks, sum_by_push (λ x. one_if_true (reports_good_crc x)) answers a))
+    (omega (arith, ap (λ (s : Summary). s.bad_blocks) h, k.bad_blocks, sum_by_push (λ x. one_if_true (reports_bad_crc x)) answers a))
+    (omega (arith, ap (λ (s : Summary). s.lost_blocks) h, k.lost_blocks, sum_by_push (λ x. one_if_true (is_loss_event x)) es e))
+    (end_summary-push Mobile es answers e a old.mobile new.mobile same (ap (λ (s : Summary). s.mobile) h) k.mobile)
+    (end_summary-push Network es answers e a old.network new.network same (ap (λ (s : Summary). s.network) h) k.network)
 
-end_summary_of : Role → List LogLine → EndpointSummary
-end_summary_of r ls = record {
-  messages_got = length (delivered_messages r Zero ls);
-  octets = sum_by (λ m. length m) (delivered_messages r Zero ls);
-  octet_sum = sum_by (λ m. sum m) (delivered_messages r Zero ls);
-  acked_messages = length (acked_message_numbers r Zero ls);
-}
-
-summary_of : List Event → List Answer → Summary
-summary_of events answers = record {
-  steps = length events;
-  sent_blocks = sum_by sent_block_count answers;
-  good_blocks = count_by reports_good_crc answers;
-  bad_blocks = count_by reports_bad_crc answers;
-  lost_blocks = count_by is_loss_event events;
-  mobile = end_summary_of Mobile (session_log events answers);
-  network = end_summary_of Network (session_log events answers);
-}
-
-end_summary_of-Is : (r : Role) (ls : List LogLine) → IsEndpointSummary r ls (end_summary_of r ls)
-unfolding end_summary_of
-end_summary_of-Is r ls = search rules
-
-summary_of-Is : (events : List Event) (answers : List Answer) → IsSessionSummary events answers (summary_of events answers)
-unfolding summary_of
-summary_of-Is events answers = search (rules, end_summary_of-Is)
-
-end_summary-unique : (r : Role) (ls : List LogLine) (e : EndpointSummary) → IsEndpointSummary r ls e → e ≡ end_summary_of r ls
-unfolding end_summary_of
-end_summary-unique r ls e h = rw (← h.messages, ← h.octets, ← h.octet_sum, ← h.acked_messages) refl
-
-IsSessionSummary-unique : (events : List Event) (answers : List Answer) (s : Summary) → IsSessionSummary events answers s →
-    s ≡ summary_of events answers
-unfolding summary_of
-IsSessionSummary-unique events answers s h =
-    rw (
-      ← h.steps,
-      ← h.sent_blocks,
-      ← h.good_blocks,
-      ← h.bad_blocks,
-      ← h.lost_blocks,
-      ← end_summary-unique Mobile (session_log events answers) s.mobile h.mobile,
-      ← end_summary-unique Network (session_log events answers) s.network h.network,
-    )
-    refl
+-- ## OneSession: The events of a generated session determine its answers.
 
 -- if a list of events satisfies `AllEventsInvertFewBits`, its messages consist of octets
 octets_of_few_inverted : (events : List Event) → AllEventsInvertFewBits events → All EventMessageIsOctets events
@@ -283,27 +240,26 @@ octets_of_few_inverted [] few_inverted = All-nil EventMessageIsOctets
 octets_of_few_inverted (event ∷ events) few_inverted = All-cons EventMessageIsOctets event events few_inverted.1
     (octets_of_few_inverted events few_inverted.2)
 
--- a summary of the events and answers of a run is a summary of the events, since the events determine the answers
-summary_of_run : (tsc : ℕ) (events : List Event) (answers : List Answer) (last : AirState) (s : Summary) →
-    IsAirRun (initial_session tsc Sdcch) events answers last → IsSessionSummary events answers s → IsSummaryOfEvents tsc events s
-summary_of_run tsc events answers last s run summary = record {
-  answers = answers;
-  last_state = last;
-  run = run;
-  summary = summary;
-  same_for_other_answers = λ others b other.
-      rw (← (one_run (initial_session tsc Sdcch) events last b answers others run other).1) summary;
-}
+answers_to-only : (a : AirState) (events : List Event) (answers : List Answer) (b : AirState) → IsAirRun a events answers b →
+    answers ≡ answers_to a events
+answers_to-only a [] [] b run = refl
+answers_to-only a (event ∷ events) (answer ∷ answers) b (mid, step, run) =
+    rw (air_step_only a event mid answer step) (ap (λ (xs : List Answer). answer ∷ xs) (answers_to-only mid events answers b run))
+answers_to-only a events answers b run = absurd assumption
 
--- the events of a generated session have exactly one summary
-pub one_generated_summary : (n tsc : ℕ) → tsc ≤ 7 → HasOneSummary tsc (generated_events n)
-one_generated_summary n tsc within =
-    let events : List Event = generated_events n in
-    let some = some_run tsc Sdcch events within (octets_of_few_inverted events (few_inverted-generated n)) in
+generated_answers-only : (tsc n : ℕ) (answers : List Answer) (last : AirState) →
+    IsAirRun (initial_session tsc Sdcch) (generated_events n) answers last → answers ≡ generated_answers tsc n
+unfolding generated_answers
+generated_answers-only tsc n answers last run = answers_to-only (initial_session tsc Sdcch) (generated_events n) answers last run
+
+pub generated_session : (n tsc : ℕ) → tsc ≤ 7 → IsGeneratedSession tsc n
+generated_session n tsc within =
+    let few = few_inverted-generated n in
+    let (answers, last, run) = some_run tsc Sdcch (generated_events n) within (octets_of_few_inverted (generated_events n) few) in
     record {
-      summary = summary_of events some.0;
-      is_summary_of_events = summary_of_run tsc events some.0 some.1 (summary_of events some.0) some.2 (summary_of-Is events some.0);
-      only_one = λ other sums. IsSessionSummary-unique events some.0 other (sums.same_for_other_answers some.0 some.1 some.2);
+      last_state = last;
+      run = rw (← generated_answers-only tsc n answers last run) run;
+      only = generated_answers-only tsc n;
     }
 
 -- ## CountedEvents: After each event of a generated session, its answer is counted. No counter overflows, because an event raises a counter
@@ -315,6 +271,20 @@ counters-grow n k m old new within h g = search rules
 
 zero_growth : (s : Summary) → CountersGrowAtMost 0 s s
 zero_growth s = search rules
+
+pub progress-start : (tsc : ℕ) (all script : List Event) (world : WorldState) (s : Summary) → all ≡ script →
+    Represents world (initial_session tsc Sdcch) → s ≡ session_summary [] [] → CountersAreAtMost 0 s →
+    IsRunInProgress tsc all script world s
+progress-start tsc all script world s same represents counts bounded = record {
+  events = [];
+  answers = [];
+  state = initial_session tsc Sdcch;
+  script_events_split = same;
+  one_answer_per_event = refl;
+  world_after_events = record { run = refl; represents = represents };
+  summary = counts;
+  counters_bounded = bounded;
+}
 
 pub progress-step : (tsc : ℕ) (all script others : List Event) (world next : WorldState) (s t : Summary) (e : Event)
     (r : Result Step No) →
@@ -337,7 +307,7 @@ progress-step tsc all script others world next s t e r h first goes counts rises
         length-append h.events (e ∷ []),
       );
       world_after_events = to.1;
-      summary = IsSessionSummary-push h.events h.answers e (spec_answer_of r) s t h.one_answer_per_event h.summary counts;
+      summary = session_summary-push h.events h.answers e (spec_answer_of r) s t h.one_answer_per_event h.summary counts;
       counters_bounded = counters-grow (192015 * length h.events) 192015 (192015 * length (h.events ++ e ∷ [])) s t
           (omega (arith, length-append h.events (e ∷ []))) h.counters_bounded rises;
     }
@@ -353,24 +323,24 @@ counters_bound tsc n script world s most h =
     ))
     h.counters_bounded (zero_growth s)
 
-pub is_summary_of_events : (tsc : ℕ) (all script : List Event) (world : WorldState) (s : Summary) → script ≡ [] →
-    IsRunInProgress tsc all script world s → IsSummaryOfEvents tsc all s
-is_summary_of_events tsc all script world s none h =
-    let done : h.events ≡ all = sym (append-nil h.events) ∙ ap (λ (es : List Event). h.events ++ es) (sym none)
+pub is_generated_summary : (tsc n : ℕ) (script : List Event) (world : WorldState) (s : Summary) → script ≡ [] →
+    IsRunInProgress tsc (generated_events n) script world s → s ≡ generated_summary tsc n
+is_generated_summary tsc n script world s none h =
+    let done : h.events ≡ generated_events n = sym (append-nil h.events) ∙ ap (λ (es : List Event). h.events ++ es) (sym none)
     ∙ sym h.script_events_split in
-    summary_of_run tsc all h.answers h.state s (rw done at h.world_after_events.run) (rw done at h.summary)
+    let answers : h.answers ≡ generated_answers tsc n =
+    generated_answers-only tsc n h.answers h.state (rw done at h.world_after_events.run) in
+    h.summary ∙ ap (λ (es : List Event). session_summary es h.answers) done
+    ∙ ap (λ (xs : List Answer). session_summary (generated_events n) xs) answers
 
-pub acked_at_most_received : (tsc n : ℕ) (s : Summary) → IsSummaryOfEvents tsc (generated_events n) s → AckedAtMostReceived s
-acked_at_most_received tsc n s h =
-    let benign : IsBenign (generated_events n) h.answers = few_inverted_is_benign tsc Sdcch (generated_events n) h.answers h.last_state
-    h.run
-    (few_inverted-generated n) in
-    let agree : AckedAtMostDelivered (session_log (generated_events n) h.answers) =
-    air_counts tsc Sdcch (generated_events n) h.answers h.last_state h.run benign in
-    record {
-      mobile = omega (arith, agree Mobile Zero, h.summary.mobile.acked_messages, h.summary.network.messages);
-      network = omega (arith, agree Network Zero, h.summary.network.acked_messages, h.summary.mobile.messages);
-    }
+pub acked_at_most_received : (tsc n : ℕ) → tsc ≤ 7 → AckedAtMostReceived (generated_summary tsc n)
+acked_at_most_received tsc n within =
+    let h = generated_session n tsc within in
+    let benign : IsBenign (generated_events n) (generated_answers tsc n) =
+    few_inverted_is_benign tsc Sdcch (generated_events n) (generated_answers tsc n) h.last_state h.run (few_inverted-generated n) in
+    let agree : AckedAtMostDelivered (session_log (generated_events n) (generated_answers tsc n)) =
+    air_counts tsc Sdcch (generated_events n) (generated_answers tsc n) h.last_state h.run benign in
+    record { mobile = agree Mobile Zero; network = agree Network Zero }
 
 -- ## Worked: The first generated events, computed by hand.
 

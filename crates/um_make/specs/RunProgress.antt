@@ -5,7 +5,7 @@ use Rattle.um_link.specs.um_air.Air.{Event, Answer, AirState}
 use Rattle.um_link.specs.declared.links.WorldState.{WorldState}
 use Rattle.um_link.specs.Sessions.{IsWorldAfterEvents}
 use Rattle.um_make.specs.declared.summary.Summary.{Summary}
-use Rattle.um_make.specs.Summaries.{IsSessionSummary}
+use Rattle.um_make.specs.Summaries.{session_summary}
 use Rattle.um_make.specs.Counting.{CountersAreAtMost}
 
 -- the events `script_events` except `remaining_events` have led to `world`, and `counters` counts them and their answers
@@ -17,5 +17,5 @@ pub record IsRunInProgress (tsc : ℕ) (script_events remaining_events : List Ev
     pub script_events_split : script_events ≡ events ++ remaining_events
     pub one_answer_per_event : length answers ≡ length events
     pub world_after_events : IsWorldAfterEvents tsc Sdcch events answers state world
-    pub summary : IsSessionSummary events answers counters
+    pub summary : counters ≡ session_summary events answers
     pub counters_bounded : CountersAreAtMost (192015 * length events) counters

@@ -1,5 +1,5 @@
 -- The counters of a session, computed from its events and their answers (this project's own rule).
-use Rattle.std.specs.Prelude.{◌≡◌, ℕ, Bool, true, false, not, List, length, sum, count_by, Option, Some, None, is_some}
+use Rattle.std.specs.Prelude.{ℕ, Bool, true, false, not, List, length, sum, count_by, Option, Some, None, is_some}
 use Rattle.std.specs.List.{sum_by}
 use Rattle.um_link.specs.lapdm_window.declared.Sapi.TheVariants.{Zero}
 use Rattle.um_link.specs.lapdm_window.Ends.{Role, Mobile, Network}
@@ -41,20 +41,23 @@ abbrev pub is_loss_event : Event → Bool
 is_loss_event (Lose sender) = true
 is_loss_event event = false
 
--- `summary` holds the counters of side `side` on SAPI 0: messages delivered, octets in these messages, the sum of these octets, and
--- messages acknowledged
-pub record IsEndpointSummary (side : Role) (log_lines : List LogLine) (summary : EndpointSummary) : Type 0 where
-  pub messages : summary.messages_got ≡ length (delivered_messages side Zero log_lines)
-  pub octets : summary.octets ≡ sum_by (λ m. length m) (delivered_messages side Zero log_lines)
-  pub octet_sum : summary.octet_sum ≡ sum_by (λ m. sum m) (delivered_messages side Zero log_lines)
-  pub acked_messages : summary.acked_messages ≡ length (acked_message_numbers side Zero log_lines)
+-- the counters of this side on SAPI 0: messages delivered, octets in these messages, the sum of these octets, and messages acknowledged
+abbrev pub endpoint_summary : (side : Role) (log_lines : List LogLine) → EndpointSummary
+endpoint_summary side log = record {
+  messages_got = length (delivered_messages side Zero log);
+  octets = sum_by (λ m. length m) (delivered_messages side Zero log);
+  octet_sum = sum_by (λ m. sum m) (delivered_messages side Zero log);
+  acked_messages = length (acked_message_numbers side Zero log);
+}
 
--- `summary` holds the counters of a session with these events and answers
-pub record IsSessionSummary (events : List Event) (answers : List Answer) (summary : Summary) : Type 0 where
-  pub steps : summary.steps ≡ length events
-  pub sent_blocks : summary.sent_blocks ≡ sum_by sent_block_count answers
-  pub good_blocks : summary.good_blocks ≡ count_by reports_good_crc answers
-  pub bad_blocks : summary.bad_blocks ≡ count_by reports_bad_crc answers
-  pub lost_blocks : summary.lost_blocks ≡ count_by is_loss_event events
-  pub mobile : IsEndpointSummary Mobile (session_log events answers) summary.mobile
-  pub network : IsEndpointSummary Network (session_log events answers) summary.network
+-- the counters of a session with these events and answers
+abbrev pub session_summary : (events : List Event) (answers : List Answer) → Summary
+session_summary events answers = record {
+  steps = length events;
+  sent_blocks = sum_by sent_block_count answers;
+  good_blocks = count_by reports_good_crc answers;
+  bad_blocks = count_by reports_bad_crc answers;
+  lost_blocks = count_by is_loss_event events;
+  mobile = endpoint_summary Mobile (session_log events answers);
+  network = endpoint_summary Network (session_log events answers);
+}

@@ -4,7 +4,7 @@
 ghost use Rattle.std.specs.Prelude.{ℕ, ◌≤◌};
 ghost use Rattle.um_link.specs.um_air.Sessions.{AllEventsInvertFewBits};
 ghost use Rattle.um_make.specs.Generated.{generated_events};
-ghost use Rattle.um_make.specs.Runs.{HasOneSummary};
+ghost use Rattle.um_make.specs.Runs.{IsGeneratedSession};
 
 mod course;
 mod end_summary;
@@ -24,7 +24,7 @@ pub fn law_generated_session_inverts_few_bits()
     ensures { (n : ℕ) → AllEventsInvertFewBits (generated_events n) }
 {}
 
-/// A generated session has exactly one summary.
-pub fn law_session_summary_is_unique()
-    ensures { (n tsc : ℕ) → tsc ≤ 7 → HasOneSummary tsc (generated_events n) }
+/// The answers that `generated_summary` counts are those of a session over blocks, which the events determine.
+pub fn law_generated_answers_are_a_session()
+    ensures { (n tsc : ℕ) → tsc ≤ 7 → IsGeneratedSession tsc n }
 {}

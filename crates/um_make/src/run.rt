@@ -1,8 +1,7 @@
 //! Carries out all events of a generated session.
 ghost use Rattle.std.specs.Prelude.{◌≡◌, ◌≤◌, ◌+◌, IfOk, OnErr};
 ghost use Rattle.um_link.specs.um_block.Tallies.{counter_plus};
-ghost use Rattle.um_make.specs.Generated.{generated_events};
-ghost use Rattle.um_make.specs.Runs.{IsSummaryOfEvents, AckedAtMostReceived};
+ghost use Rattle.um_make.specs.Runs.{generated_summary, AckedAtMostReceived};
 
 use crate::script::Script;
 use crate::summary::Summary;
@@ -16,7 +15,7 @@ pub fn make<R: Radio>(alloc: Global, n: u32, tsc: u8, radio: &mut R) -> Result<S
     requires some { 1 ≤ n }
     requires most { n ≤ 1000 }
     requires tsc { tsc ≤ 7 }
-    ensures run { IfOk result (λ s. IsSummaryOfEvents tsc (generated_events n) s) }
+    ensures run { IfOk result (λ s. s ≡ generated_summary tsc n) }
     ensures delivered_messages { IfOk result (λ s. AckedAtMostReceived s) }
     ensures sent { IfOk result (λ s. R.sent radio.new ≡ counter_plus s.sent_blocks (R.sent radio.old)) }
     ensures heard { IfOk result (λ s. R.heard radio.new ≡ counter_plus (s.good_blocks + s.bad_blocks) (R.heard radio.old)) }

@@ -28,14 +28,14 @@ pub struct Summary {
 }
 
 impl Summary {
-    ghost use Rattle.um_make.specs.Summaries.{IsSessionSummary, crc_passes, crc_fails};
+    ghost use Rattle.um_make.specs.Summaries.{session_summary, crc_passes, crc_fails};
     ghost use Rattle.um_make.specs.Counting.{CountsAnswer, CountsStep, CountersGrowAtMost, CountersAreAtMost, EndpointCountersAreAtMost};
     ghost use Rattle.um_make.specs.Counting.{CountsNotices, EndpointCountersGrowAtMost};
     ghost use Rattle.um_make.specs.Counting.{sapi0_notices_in_answer, one_if_true};
 
     /// Creates a summary with all counters 0.
     pub(crate) fn new() -> Summary
-        ensures counts { IsSessionSummary [] [] result }
+        ensures counts { result ≡ session_summary [] [] }
         ensures counters_bounded { CountersAreAtMost 0 result }
     {
         Summary {

@@ -1,38 +1,28 @@
--- Lemmas about the comparison of the two most likely words, and about the `margin` command.
+-- Lemmas about the comparison of the two most likely words.
 use Rattle.{
   list_decode.{
-    proofs.{
-      Lemmas.{IsLikelihoodMargin-second, both_unique, one_margin, some_second},
-      weight_bound.Lemmas.{Between, all_places, at_least_seven},
-    },
-    specs.{Ranking.{HasTiedWord, IsCandidate}, weight_bound.Distance.distance},
+    proofs.{Lemmas.{IsLikelihoodMargin-second, both_unique, one_margin}, SecondWord.IsSecondMostLikely-second_most_likely},
+    proofs.weight_bound.Lemmas.{Between, all_places, at_least_seven},
+    specs.{Ranking.{HasTiedWord, IsCandidate}, SecondWord.second_most_likely, weight_bound.Distance.distance},
   },
   std.proofs.Common.{List, [], ap, ap₂, arith, inl, inr, length, pos, refl, sym, ℕ, ℤ, ◌*◌, ◌+ℤ◌, ◌-ℤ◌, ◌-◌},
   std.proofs.{Common.{◌∙◌, ◌≡◌, ◌≢◌, ◌≤◌}, Math.Logic.◌↔◌, lemmas.{Int.ints, List.Elements.All-weaker}},
   std.specs.{List.All, Prelude.{unsigned_abs, ◌≤ℤ◌}},
   um_block.{
-    proofs.{
-      Lemmas.{some_received_access, some_received_block, some_received_sync},
-      conv_code.Lemmas.{AllBits-coded, IsMostLikely-only, length-coded},
-      interleave.Lemmas.same_coded,
-    },
-    specs.{Received.{IsReceivedBlock, access_soft_bits, sync_soft_bits}, bit_blocks.SoftValues.{count_wrong_bits, likelihood}},
-    specs.{conv_code.{Code.encoding, Likelihood.IsMostLikely}, declared.received.Received.Received},
+    proofs.{conv_code.Lemmas.{AllBits-coded, IsMostLikely-only, length-coded}, interleave.Lemmas.{IsInterleaved-deinterleaved, same_coded}},
+    proofs.trellis_decode.Lemmas.IsMostLikely-most_likely,
+    specs.{Received.IsReceivedBlock, bit_blocks.SoftValues.{count_wrong_bits, likelihood}, interleave.Bursts.IsInterleaved},
+    specs.{interleave.Bursts.deinterleaved, conv_code.{Code.encoding, Likelihood.IsMostLikely}, declared.received.Received.Received},
+    specs.trellis_decode.MostLikely.most_likely,
   },
-  um_bursts.proofs.Lemmas.{HaveOneAnswer, HaveSomeAnswer, bursts_are_determined, bursts_have_one_output},
-  um_bursts.specs.um_driver.{Laws.HasOneOutput, Rules.IsDeterministic},
-  um_margin.specs.{
-    Compared.{AreTwoMostLikelyBlockWords, AreTwoMostLikelyWords, TwoMostLikelyWords},
-    Margins.{margin_burst_answers, margin_command_rules},
-    Texts.{access_margin_text, block_margin_text, sync_margin_text},
-  },
+  um_margin.specs.Compared.{AreTwoMostLikelyBlockWords, AreTwoMostLikelyWords, TwoMostLikelyWords, compared_block_words, compared_words},
 }
 
 -- ## Comparing: For any soft bits, there is exactly one comparison of the two most likely words.
 
 -- ---- soft bits have at most one comparison of their two most likely words
 
-one_compared : (soft : List ℤ) (c d : TwoMostLikelyWords) → AreTwoMostLikelyWords soft c → AreTwoMostLikelyWords soft d → c ≡ d
+pub one_compared : (soft : List ℤ) (c d : TwoMostLikelyWords) → AreTwoMostLikelyWords soft c → AreTwoMostLikelyWords soft d → c ≡ d
 one_compared soft c d h g =
     let same = both_unique soft d.best d.next c.best c.next g.best g.next h.best h.next in
     let make : List ℕ → List ℕ → ℤ → ℤ → TwoMostLikelyWords =
@@ -40,11 +30,6 @@ one_compared soft c d h g =
     ap₂ (λ a b. make a b c.margin c.metric) same.0 same.1
     ∙ ap₂ (make d.best d.next) (one_margin soft d.best c.margin d.margin (rw same.0 at h.margin) g.margin)
     (h.metric ∙ ap (λ u. likelihood soft (encoding u)) same.0 ∙ sym g.metric)
-
-one_compared_block : (bursts : List (List ℤ)) (c d : TwoMostLikelyWords) → AreTwoMostLikelyBlockWords bursts c →
-    AreTwoMostLikelyBlockWords bursts d → c ≡ d
-one_compared_block bursts c d h g =
-    one_compared g.soft c d (rw (same_coded h.soft g.soft _ h.deinterleaved g.deinterleaved) at h.compared) g.compared
 
 -- ---- `margin` finds the same most likely word as `replay`
 
@@ -60,25 +45,33 @@ same_block_word bursts r c received h =
     same_word received.soft r.u r.metric c received.best received.metric
     (rw (same_coded h.soft received.soft _ h.deinterleaved received.deinterleaved) at h.compared)
 
--- ---- soft bits have at least one comparison of their two most likely words
+-- ---- the comparison as a function
 
-some_compared : (soft : List ℤ) (u : List ℕ) → IsMostLikely soft u → (c : TwoMostLikelyWords) × AreTwoMostLikelyWords soft c
-some_compared soft u best =
-    let next = some_second soft u (record { information = best.information; count = best.count }) in (
-      record {
-        best = u;
-        next = next.0;
-        margin = likelihood soft (encoding u) -ℤ likelihood soft (encoding next.0);
-        metric = likelihood soft (encoding u);
-      },
-      record {
-        best = best;
-        next = next.1;
-        margin = IsLikelihoodMargin-second soft u next.0 (likelihood soft (encoding u) -ℤ likelihood soft (encoding next.0)) next.1 refl;
-        margin_is_difference = refl;
-        metric = refl;
-      },
-    )
+pub AreTwoMostLikelyWords-compared_words : (soft : List ℤ) (n : ℕ) → length soft ≡ 2 * n → 5 ≤ n →
+    AreTwoMostLikelyWords soft (compared_words soft)
+AreTwoMostLikelyWords-compared_words soft n pairs long =
+    let next = IsSecondMostLikely-second_most_likely soft n pairs long in record {
+      best = IsMostLikely-most_likely soft n pairs long;
+      next = next;
+      margin = IsLikelihoodMargin-second soft (most_likely soft) (second_most_likely soft) _ next refl;
+      margin_is_difference = refl;
+      metric = refl;
+    }
+
+pub compared_words-only : (soft : List ℤ) (n : ℕ) (c : TwoMostLikelyWords) → length soft ≡ 2 * n → 5 ≤ n → AreTwoMostLikelyWords soft c →
+    c ≡ compared_words soft
+compared_words-only soft n c pairs long h = one_compared soft c _ h (AreTwoMostLikelyWords-compared_words soft n pairs long)
+
+-- the soft bits of a block, from its bursts
+pub deinterleaved-only : (soft : List ℤ) (parts : List (List ℤ)) → IsInterleaved soft parts → soft ≡ deinterleaved (pos 0) parts
+deinterleaved-only soft parts h =
+    same_coded soft _ parts h (IsInterleaved-deinterleaved (pos 0) parts h.burst_count h.burst_lengths)
+
+pub compared_block_words-only : (bursts : List (List ℤ)) (c : TwoMostLikelyWords) → AreTwoMostLikelyBlockWords bursts c →
+    c ≡ compared_block_words bursts
+compared_block_words-only bursts c h =
+    compared_words-only h.soft 228 c h.deinterleaved.coded_count (omega arith) h.compared
+    ∙ ap compared_words (deinterleaved-only h.soft _ h.deinterleaved)
 
 -- ## Ahead: The margin of the most likely word is 0 if and only if another word has the same path metric. For hard bits with few errors,
 -- the margin is large: two codewords differ in at least seven bits, and each wrong bit cancels a correct one.
@@ -134,43 +127,3 @@ hard_margin_law soft c e h hard wrong few =
     weighed : (a b : ℤ) (d w e : ℕ) → (b +ℤ pos (2 * (127 * d))) ≤ℤ (a +ℤ pos (2 * (254 * w))) → 7 ≤ d → w ≡ e →
         e ≤ 3 → pos (254 * (7 - 2 * e)) ≤ℤ (a -ℤ b)
     weighed a b d w e sums seven wrong few = omega (arith, ints)
-
--- ## MarginRules: The command `margin` has exactly one output for every input, since bursts have exactly one comparison.
-
-one_answer : HaveOneAnswer margin_burst_answers
-one_answer = record {
-  block = λ bursts y y' (c, compared, text) (c', compared', text').
-      text ∙ ap block_margin_text (one_compared_block bursts c c' compared compared') ∙ sym text';
-  access = λ bsic burst y y' (c, compared, text) (c', compared', text').
-      text ∙ ap (access_margin_text bsic) (one_compared (access_soft_bits burst) c c' compared compared') ∙ sym text';
-  sync = λ burst y y' (c, compared, text) (c', compared', text').
-      text ∙ ap sync_margin_text (one_compared (sync_soft_bits burst) c c' compared compared') ∙ sym text';
-}
-
-some_answer : HaveSomeAnswer margin_burst_answers
-some_answer = record {
-  block = λ bursts four whole.
-      let received = some_received_block bursts four whole in
-      let found = some_compared received.1.soft received.0.u received.1.best in (
-        block_margin_text found.0,
-        (
-          found.0,
-          record { soft = received.1.soft; deinterleaved = received.1.deinterleaved; compared = found.1 },
-          refl,
-        ),
-      );
-  access = λ bsic burst many six bits.
-      let received = some_received_access burst bsic many six bits in
-      let found = some_compared (access_soft_bits burst) received.0.u received.1.best in
-      (access_margin_text bsic found.0, (found.0, found.1, refl));
-  sync = λ burst many.
-      let received = some_received_sync burst many in
-      let found = some_compared (sync_soft_bits burst) received.0.u received.1.best in
-      (sync_margin_text found.0, (found.0, found.1, refl));
-}
-
-pub margin_is_determined : IsDeterministic margin_command_rules
-margin_is_determined = bursts_are_determined margin_burst_answers one_answer
-
-pub margin_has_one_output : HasOneOutput margin_command_rules []
-margin_has_one_output = bursts_have_one_output margin_burst_answers one_answer some_answer

@@ -3,7 +3,7 @@ ghost use Rattle.std.specs.Prelude.{◌≡◌, ◌++◌, ◌<◌, length};
 ghost use Rattle.std.specs.List.{All};
 ghost use Rattle.um_block.specs.bit_blocks.SoftValues.{AllSoftBits};
 ghost use Rattle.um_block.specs.Received.{access_soft_bits, sync_soft_bits};
-ghost use Rattle.um_margin.specs.Compared.{AreTwoMostLikelyWords, AreTwoMostLikelyBlockWords};
+ghost use Rattle.um_margin.specs.Compared.{compared_words, compared_block_words};
 ghost use Rattle.um_margin.specs.Margins.{margin_burst_answers};
 
 use crate::comparison::{WordComparison, compare_words};
@@ -36,21 +36,21 @@ impl Reports for Margins {
 
 fn compare_block(bursts: &[[i8; BURST_BITS]; 4]) -> WordComparison<ENCODER_INPUT_BITS>
     requires { All AllSoftBits bursts.now }
-    ensures { AreTwoMostLikelyBlockWords bursts.now result }
+    ensures { result ≡ compared_block_words bursts.now }
 {
     compare_words(&deinterleave_block(bursts))
 }
 
 fn compare_access_burst_words(burst: &[i8; 88]) -> WordComparison<18>
     requires { AllSoftBits burst.now }
-    ensures { AreTwoMostLikelyWords (access_soft_bits burst.now) result }
+    ensures { result ≡ compared_words (access_soft_bits burst.now) }
 {
     compare_words(AccessView::new(burst).body())
 }
 
 fn compare_sync_burst_words(burst: &[i8; BURST_BITS]) -> WordComparison<39>
     requires { AllSoftBits burst.now }
-    ensures { AreTwoMostLikelyWords (sync_soft_bits burst.now) result }
+    ensures { result ≡ compared_words (sync_soft_bits burst.now) }
 {
     let parts = SyncView::new(burst);
     compare_words(&join_sync_halves(parts.first(), parts.second()))

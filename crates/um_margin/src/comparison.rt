@@ -1,7 +1,7 @@
 //! Compares the two most likely encoder inputs for soft bits.
 ghost use Rattle.std.specs.Prelude.{◌≡◌, ◌*◌, ◌≤◌, length};
 ghost use Rattle.um_block.specs.bit_blocks.SoftValues.{AllSoftBits};
-ghost use Rattle.um_margin.specs.Compared.{AreTwoMostLikelyWords};
+ghost use Rattle.um_margin.specs.Compared.{AreTwoMostLikelyWords, compared_words};
 
 use list_decode::{decode, margin};
 use std::marker::Model;
@@ -31,7 +31,8 @@ pub(crate) fn compare_words<const N: usize>(soft: &[i8]) -> WordComparison<N>
     requires at_least { 5 ≤ N }
     requires at_most { N ≤ ENCODER_INPUT_BITS }
     requires soft { AllSoftBits soft.now }
-    ensures { AreTwoMostLikelyWords soft.now result }
+    ensures compares { AreTwoMostLikelyWords soft.now result }
+    ensures value { result ≡ compared_words soft.now }
 {
     let mut best = [0; N];
     let mut next = [0; N];

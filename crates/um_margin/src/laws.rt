@@ -1,5 +1,5 @@
 //! Laws of the `margin` command. A law does nothing at run time; its contract states a theorem.
-ghost use Rattle.std.specs.Prelude.{◌≡◌, ℕ, ◌*◌, ◌-◌, ◌≤◌, ℤ, pos, ◌≤ℤ◌, unsigned_abs, List, []};
+ghost use Rattle.std.specs.Prelude.{◌≡◌, ℕ, ◌*◌, ◌-◌, ◌≤◌, ℤ, pos, ◌≤ℤ◌, unsigned_abs, List, length};
 ghost use Rattle.std.specs.List.{All};
 ghost use Rattle.std.proofs.Math.Logic.{◌↔◌};
 ghost use Rattle.um_block.specs.bit_blocks.SoftValues.{count_wrong_bits};
@@ -9,13 +9,15 @@ ghost use Rattle.um_block.specs.Received.{access_soft_bits, sync_soft_bits, IsRe
 ghost use Rattle.um_block.specs.declared.received.Received.{Received};
 ghost use Rattle.um_block.specs.declared.received.ReceivedAccess.{ReceivedAccess};
 ghost use Rattle.um_block.specs.declared.received.ReceivedSync.{ReceivedSync};
-ghost use Rattle.um_bursts.specs.um_driver.Laws.{HasOneOutput};
 ghost use Rattle.um_margin.specs.Compared.{TwoMostLikelyWords, AreTwoMostLikelyWords, AreTwoMostLikelyBlockWords};
-ghost use Rattle.um_margin.specs.Margins.{margin_command_rules};
+ghost use Rattle.um_margin.specs.Compared.{compared_words, compared_block_words};
 
-/// Law: every input has exactly one output and one exit status.
-pub fn law_margin_command_output_is_unique()
-    ensures { HasOneOutput margin_command_rules [] }
+/// Law: `compared_words` and `compared_block_words` compare the two most likely words, and no other comparison does.
+pub fn law_comparison_is_of_two_most_likely_words()
+    ensures words { (soft : List ℤ) (n : ℕ) → length soft ≡ 2 * n → 5 ≤ n → AreTwoMostLikelyWords soft (compared_words soft) }
+    ensures only { (soft : List ℤ) (c d : TwoMostLikelyWords) → AreTwoMostLikelyWords soft c → AreTwoMostLikelyWords soft d → c ≡ d }
+    ensures block { (bursts : List (List ℤ)) (c : TwoMostLikelyWords) → AreTwoMostLikelyBlockWords bursts c →
+        c ≡ compared_block_words bursts }
 {}
 
 /// Law: `replay` reports the same most likely word and path metric for the same bursts.

@@ -1,9 +1,12 @@
--- The command `repair` has exactly one output for every input.
+-- The lines of `repair`, and the result of a repair.
 use Rattle.{
-  fire_repair.proofs.Lemmas.{one_answer, some_answer},
-  std.proofs.Common.{List, [], ap, arith, drop, length-append, length, refl, sym, ℕ, ◌++◌, ◌∙◌, ◌≡◌},
+  fire_code.{proofs.Lemmas.{AllBits-low_bits, length-low_bits, low_bits-number_of, number_of}, specs.Registers.low_bits},
+  fire_repair.{
+    proofs.Lemmas.{one_answer, some_answer},
+    specs.{Answers.IsRepairResult, declared.repairs.RepairAnswer.RepairAnswer},
+  },
+  std.proofs.Common.{List, [], subst, ap, arith, drop, length-append, length, refl, sym, ℕ, ◌++◌, ◌∙◌, ◌≡◌},
   std.proofs.lemmas.List.{append-nil, drop_all, drop_at, take_at},
-  um_driver.{proofs.Outputs.{stateless_has_one_output, stateless_is_determined}, specs.{Laws.HasOneOutput, Rules.IsDeterministic}},
   um_lines.{
     proofs.{FormLaws.line_by_forms, bit_blocks.Lemmas.{AllBits-append, AllBits-bits_of, length-bits_of}},
     specs.{Forms.{LineMeans, never_misplaced}, Meanings.HasOneMeaningOrFault, RepairForms.repair_line_forms, bit_blocks.Bits.AllBits},
@@ -11,8 +14,7 @@ use Rattle.{
   },
   um_repair.specs.{
     RepairLines.{RepairLineMeans, bits_of_data_and_crc, repair_line_fault, repair_line_of_meaning},
-    RepairRules.{IsRepairCommandAnswer, repair_command_rules},
-    Texts.answer_text,
+    RepairRules.repair_result,
     declared.parsing.RepairLine.{TheVariants.{Skip, Word}, RepairLine},
   },
 }
@@ -55,24 +57,19 @@ written_word x y zeros ex ez =
     ∙ ap (λ back. x ++ (y ++ back)) rest
     ∙ ap (λ back. x ++ back) (append-nil y)
 
--- ## RepairAnswers: The command `repair` has exactly one output for every input, since 224 received bits have exactly one answer.
+-- ## Results: `repair_result` is the only result that is correct for a word of 224 bits.
 
--- the command has at most one answer to a line with a given meaning
-same_answer : (m : RepairLine) (y y' : List ℕ) → IsRepairCommandAnswer m y → IsRepairCommandAnswer m y' → y ≡ y'
-same_answer Skip y y' a a' = a ∙ sym a'
-same_answer (Word w) y y' a a' = a.2 ∙ ap answer_text (one_answer w a.0 a'.0 a.1 a'.1) ∙ sym a'.2
+pub IsRepairResult-repair_result : (w : List ℕ) → length w ≡ 224 → AllBits w → IsRepairResult w (repair_result w)
+unfolding repair_result
+IsRepairResult-repair_result w count bits = go (low_bits 224 (number_of w)) (length-low_bits 224 (number_of w))
+    (AllBits-low_bits 224 (number_of w)) (rw count at (low_bits-number_of w bits))
+  where
+    go : (v : List ℕ) (e : length v ≡ 224) (b : AllBits v) → v ≡ w → IsRepairResult w (some_answer v e b).0
+    go v e b same = subst (λ x. IsRepairResult x (some_answer v e b).0) same (some_answer v e b).1
 
-pub repair_is_determined : IsDeterministic repair_command_rules
-repair_is_determined = stateless_is_determined repair_line_fault RepairLineMeans IsRepairCommandAnswer one_meaning same_answer
+pub repair_result-only : (w : List ℕ) (a : RepairAnswer) → length w ≡ 224 → AllBits w → IsRepairResult w a → a ≡ repair_result w
+repair_result-only w a count bits is = one_answer w a _ is (IsRepairResult-repair_result w count bits)
 
--- the command has an answer to every line that has a meaning
-some_repair_answer : (line : List ℕ) (m : RepairLine) → RepairLineMeans line m → (answer : List ℕ) × IsRepairCommandAnswer m answer
-some_repair_answer line Skip means = ([], refl)
-some_repair_answer line (Word w) means =
-    let known = are_word_bits line (Word w) means in
-    let found = some_answer w known.0 known.1 in
-    (answer_text found.0, (found.0, found.1, refl))
-
-pub repair_has_one_output : HasOneOutput repair_command_rules tt
-repair_has_one_output =
-    stateless_has_one_output repair_line_fault RepairLineMeans IsRepairCommandAnswer one_meaning same_answer some_repair_answer
+-- the result for the word on a line
+pub result_of_line : (line w : List ℕ) (a : RepairAnswer) → RepairLineMeans line (Word w) → IsRepairResult w a → a ≡ repair_result w
+result_of_line line w a means = repair_result-only w a (are_word_bits line (Word w) means).0 (are_word_bits line (Word w) means).1

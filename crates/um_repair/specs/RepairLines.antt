@@ -4,7 +4,7 @@ use Rattle.um_lines.specs.bit_blocks.Octets.{bits_of}
 use Rattle.um_lines.specs.declared.fault.LineFault.{LineFault}
 use Rattle.um_lines.specs.Fields.{Value, NumberList}
 use Rattle.um_lines.specs.Forms.{never_misplaced, line_fault}
-use Rattle.um_lines.specs.Reading.{LineParsesTo, words_parse_result}
+use Rattle.um_lines.specs.Reading.{LineParsesTo, parsed_line, words_parse_result}
 use Rattle.um_lines.specs.RepairForms.{RepairLineKind, WordWithCrc, repair_line_forms}
 use Rattle.um_repair.specs.declared.parsing.RepairLine.{RepairLine}
 use Rattle.um_repair.specs.declared.parsing.RepairLine.TheVariants.{Skip, Word}
@@ -33,3 +33,7 @@ RepairLineMeans line = LineParsesTo repair_line_forms never_misplaced repair_lin
 -- the result of parsing the words of a line of `repair` (used only inside the parser)
 abbrev pub repair_parse_result : (words : List (List ℕ)) → Result RepairLine LineFault
 repair_parse_result words = words_parse_result repair_line_forms never_misplaced repair_line_of_meaning words
+
+-- the meaning of a line of `repair`, or the reason why it is refused
+unfoldable pub repair_line : (line : List ℕ) → Result RepairLine LineFault
+repair_line line = parsed_line repair_line_forms never_misplaced repair_line_of_meaning line

@@ -1,7 +1,8 @@
 //! Implements the `repair` command as an `Answer` for the driver.
-ghost use Rattle.std.specs.Prelude.{◌≡◌, ◌<◌, [], Some, None, length, MatchResult};
-ghost use Rattle.um_repair.specs.RepairLines.{repair_line_fault};
-ghost use Rattle.um_repair.specs.RepairRules.{IsAnswerToRepairLine};
+ghost use Rattle.std.specs.Prelude.{◌≡◌, [], Ok, Err, MatchResult};
+ghost use Rattle.um_driver.specs.Rules.{answer_to_meaning};
+ghost use Rattle.um_repair.specs.RepairLines.{repair_line};
+ghost use Rattle.um_repair.specs.RepairRules.{repair_answer};
 
 use crate::lines::write_answer_line;
 use crate::parsing::{RepairLine, parse_repair_line};
@@ -14,17 +15,9 @@ use um_lines::{LineFault, Text};
 pub struct Repair;
 
 impl Answer for Repair {
-    ghost fault = { repair_line_fault };
+    ghost answers = { λ line. answer_to_meaning repair_answer (repair_line line) };
 
-    ghost answers = { IsAnswerToRepairLine };
-
-    fn answer(&self, line: &[u8], out: &mut Text) -> Result<(), LineFault>
-        requires empty { out.old ≡ [] }
-        ensures answered { MatchResult result
-            (λ _. (repair_line_fault line.now ≡ None) × IsAnswerToRepairLine line.now out.new)
-            (λ reason. (repair_line_fault line.now ≡ Some reason) × (out.new ≡ [])) }
-        ensures size { length out.new < 2000 }
-    {
+    fn answer(&self, line: &[u8], out: &mut Text) -> Result<(), LineFault> {
         match parse_repair_line(line)? {
             RepairLine::Skip => {}
             RepairLine::Word(word) => write_answer_line(out, &repair(&word)),

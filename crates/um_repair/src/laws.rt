@@ -1,13 +1,17 @@
 //! Laws of the `repair` command. A law does nothing at run time; its contract states a theorem.
-ghost use Rattle.std.specs.Prelude.{ℕ, List};
+ghost use Rattle.std.specs.Prelude.{ℕ, List, ◌≡◌, length};
+ghost use Rattle.fire_repair.specs.Answers.{IsRepairResult};
+ghost use Rattle.fire_repair.specs.declared.repairs.RepairAnswer.{RepairAnswer};
+ghost use Rattle.um_lines.specs.bit_blocks.Bits.{AllBits};
 ghost use Rattle.um_lines.specs.Meanings.{HasOneMeaningOrFault};
-ghost use Rattle.um_driver.specs.Laws.{HasOneOutput};
 ghost use Rattle.um_repair.specs.RepairLines.{repair_line_fault, RepairLineMeans};
-ghost use Rattle.um_repair.specs.RepairRules.{repair_command_rules};
+ghost use Rattle.um_repair.specs.RepairRules.{repair_result};
 
-/// Law: every input has exactly one output and one exit status.
-pub fn law_repair_command_output_is_unique()
-    ensures output { HasOneOutput repair_command_rules tt }
+/// Law: `repair_result` is the only correct result for a word of 224 bits.
+pub fn law_repair_result_is_correct()
+    ensures result { (word : List ℕ) → length word ≡ 224 → AllBits word → IsRepairResult word (repair_result word) }
+    ensures only { (word : List ℕ) (other : RepairAnswer) → length word ≡ 224 → AllBits word → IsRepairResult word other →
+        other ≡ repair_result word }
 
     // Every line either has exactly one meaning, or is refused and has none.
     ensures lines { (line : List ℕ) → HasOneMeaningOrFault (repair_line_fault line) (RepairLineMeans line) }

@@ -4,7 +4,7 @@ ghost use Rattle.std.specs.Result.{result_err};
 ghost use Rattle.um_lines.specs.bit_blocks.Bits.{AllBits};
 ghost use Rattle.um_lines.specs.bit_blocks.Octets.{bits_of};
 ghost use Rattle.um_lines.specs.Words.{words};
-ghost use Rattle.um_repair.specs.RepairLines.{repair_line_fault, RepairLineMeans, repair_parse_result, bits_of_data_and_crc};
+ghost use Rattle.um_repair.specs.RepairLines.{repair_line, repair_line_fault, RepairLineMeans, repair_parse_result, bits_of_data_and_crc};
 
 use um_lines::{
     BLOCK_BITS, BLOCK_OCTETS, Bits, LINE_LIMIT, LineFault, are_hex_digits, first_word, from_octets,
@@ -26,6 +26,7 @@ pub enum RepairLine {
 pub fn parse_repair_line(line: &[u8]) -> Result<RepairLine, LineFault>
     ensures means { IfOk result (RepairLineMeans line.now) }
     ensures refused { result_err result ≡ repair_line_fault line.now }
+    ensures value { result ≡ repair_line line.now }
 {
     if line.len() > LINE_LIMIT {
         return Err(LineFault::Long);

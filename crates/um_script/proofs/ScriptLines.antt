@@ -15,7 +15,7 @@ use Rattle.{
     specs.{Prelude.{All, slice_set}, Result.result_err, Str.{Parse.{digits_value_after, digits_value}, all_ascii_digits, bytes_eq}},
   },
   um_lines.{
-    proofs.FormLaws.{Each, Fitting, line_by_forms, read_of_words},
+    proofs.FormLaws.{Each, Fitting, line_by_forms, parsed_meaning, parsed_means, read_of_words},
     specs.Fields.{BitDigits, BlockBitIndex, DigitUpTo, LineField, FixedWord, HexOctets, OctetsBetween, SoftOctets, Value, fits_field},
     specs.Fields.{has_forbidden_soft_value, has_octet_count, has_wrong_bit_index, has_wrong_digits, has_wrong_length, is_dash_or_hex},
     specs.{Fields.{is_decimal, octets_from_hex}, Forms.{LineForms, fault_or_value, fields_for_word_count, first_field_fault}},
@@ -32,7 +32,7 @@ use Rattle.{
     Held.{has_marked_or_repeated_index, decimal_word_values},
     Names.{action_of_name, actor_of_name, request_of_name},
     Naming.event_or_fault,
-    ScriptLines.{ScriptLineMeans, call_event, event_of_script_line_meaning, event_of_values, octets_of_values, sender_of},
+    ScriptLines.{ScriptLineMeans, call_event, event_of_script_line_meaning, event_of_values, octets_of_values, script_line, sender_of},
     ScriptReading.{event_from_parsed_list, is_index_above_591, parsed_actor_line, parsed_bit_indices, parsed_bit_inversion},
     ScriptReading.{parsed_layer3_call, parsed_octets_call, parsed_octets_word, parsed_radio_event, parsed_script_words},
     ScriptReading.script_parse_result,
@@ -259,6 +259,22 @@ pub octet_event : (line : List ℕ) (event : Event) → ScriptLineMeans line (So
 octet_event line event means =
     line_by_forms link_line_forms never_misplaced event_of_script_line_meaning HasOctets tt (each_has link_line_forms) line (Some event)
     means
+
+-- ---- the event of a line as a function
+
+pub script_line_meaning : (line : List ℕ) (event : Option Event) → ScriptLineMeans line event → script_line line ≡ Ok event
+unfolding script_line
+script_line_meaning line event means =
+    parsed_meaning link_line_forms never_misplaced event_of_script_line_meaning line event refl means
+
+pub script_line_means : (line : List ℕ) (event : Option Event) → script_line line ≡ Ok event → ScriptLineMeans line event
+unfolding script_line
+script_line_means line event is = parsed_means link_line_forms never_misplaced event_of_script_line_meaning line event is
+
+pub script_line_refused : (line : List ℕ) (fault : LineFault) → line_fault link_line_forms never_misplaced line ≡ Some fault →
+    script_line line ≡ Err fault
+unfolding script_line
+script_line_refused line fault bad = rw bad refl
 
 -- ## PlaceLaws: Lemmas about words that are bit indices of a block: their values are capped at 592, and a mark for each index that has
 -- occurred finds repeated indices.

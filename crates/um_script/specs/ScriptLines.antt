@@ -1,5 +1,5 @@
 -- The meaning of the script lines of `link` (this project's own rule).
-use Rattle.std.specs.Prelude.{ℕ, List, [], ◌∷◌, Option, option_map}
+use Rattle.std.specs.Prelude.{ℕ, List, [], ◌∷◌, Option, Result, option_map}
 use Rattle.um_link.specs.lapdm_window.declared.Sapi.{Sapi}
 use Rattle.um_link.specs.lapdm_window.declared.Sapi.TheVariants.{Zero, Three}
 use Rattle.um_link.specs.lapdm_window.Ends.{Role, Mobile, Network}
@@ -10,6 +10,8 @@ use Rattle.um_lines.specs.Forms.{LineMeans, never_misplaced, bit_indices_of_valu
 use Rattle.um_lines.specs.LinkForms as L
 use Rattle.um_lines.specs.LinkForms.{link_line_forms}
 use Rattle.um_lines.specs.Meanings.{IsValueOfMeaning}
+use Rattle.um_lines.specs.Reading.{parsed_line}
+use Rattle.um_lines.specs.declared.fault.LineFault.{LineFault}
 
 abbrev pub role_of : L.LinkEndpoint → Role
 role_of L.MobileSapi0 = Mobile
@@ -60,3 +62,7 @@ event_of_script_line_meaning said = option_map (λ meaning. event_of_values mean
 -- a script line describes the given event, or is skipped if there is no event (`None`)
 abbrev pub ScriptLineMeans : (line : List ℕ) (event : Option A.Event) → Type 0
 ScriptLineMeans line = IsValueOfMeaning event_of_script_line_meaning (LineMeans link_line_forms never_misplaced line)
+
+-- the event that a line describes, if it describes one, or the reason why it is refused
+unfoldable pub script_line : (line : List ℕ) → Result (Option A.Event) LineFault
+script_line line = parsed_line link_line_forms never_misplaced event_of_script_line_meaning line

@@ -1,9 +1,9 @@
 -- A session together with the counters of the radio that encodes and decodes its blocks.
-use Rattle.std.specs.Prelude.{ℕ, ◌≡◌, ◌+◌, List, [], ◌∷◌, length, Option, Some, None}
+use Rattle.std.specs.Prelude.{ℕ, ◌+◌, List, [], ◌∷◌, length, Option, Some, None}
 use Rattle.um_link.specs.um_block.declared.received.Received.{Received}
 use Rattle.um_link.specs.um_air.Air.{Answer, Refuses, Accepts}
-use Rattle.um_driver.specs.Rules.{Rules}
-use Rattle.um_session.specs.Sessions.{LinkSession, IsScriptLineStep, link_command_rules}
+use Rattle.um_driver.specs.Rules.{Rules, answer_to_meaning}
+use Rattle.um_session.specs.Sessions.{LinkSession, link_command_rules}
 
 -- the number of frames that an answer reports as sent
 abbrev pub sent_frame_count : Answer → ℕ
@@ -43,7 +43,6 @@ pub record SessionWithRadioCounters : Type 0 where
 -- the rules of the `link` command, with states that also contain the radio's counters before the first line
 abbrev pub link_rules_with_radio_counters : Rules SessionWithRadioCounters
 link_rules_with_radio_counters = record {
-  fault = λ c line. link_command_rules.fault c.session line;
+  step = λ c line. answer_to_meaning (λ next. (next.0, record c { session = next.1 })) (link_command_rules.step c.session line);
   end_fault = λ c. None;
-  Step = λ c line text after. IsScriptLineStep c.session line text after.session × (after.initial_counters ≡ c.initial_counters);
 }

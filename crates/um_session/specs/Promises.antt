@@ -1,5 +1,5 @@
 -- The guarantees for a run of the `link` command (this project's own rule).
-use Rattle.std.specs.Prelude.{ℕ, ◌≡◌, ◌≤◌, List, Option, All}
+use Rattle.std.specs.Prelude.{ℕ, ◌≡◌, List, Option, All}
 use Rattle.um_link.specs.lapdm_frame.declared.Channel.{Channel}
 use Rattle.um_link.specs.lapdm_link.Claims.{Claims, HasNoticesInOrder}
 use Rattle.um_link.specs.um_block.Tallies.{counter_plus}
@@ -21,22 +21,13 @@ pub record DeliveryLawsHold (session : LinkSession) : Type 0 where
   pub delivery : IsBenign session.events session.answers → Claims (session_log session.events session.answers)
   pub benign : EventsInvertFewBits session.events → IsBenign session.events session.answers
 
--- the radio sent at least as many blocks as these answers report as sent, and received at least as many as they report as received; each
--- block raised a counter by one, up to the largest `u64`
+-- the radio sent and received the blocks that these answers report; each block raised a counter by one, up to the largest `u64`
 pub record RadioCountersRose (answers : List Answer) (before after : RadioCounters) : Type 0 where
-  pub sent_block_increase : ℕ
-  pub received_block_increase : ℕ
-  pub increase_covers_sent_frames : total_frames_sent answers ≤ sent_block_increase
-  pub increase_covers_received_blocks : total_blocks_received answers ≤ received_block_increase
-  pub sent_rose : after.sent_blocks ≡ counter_plus sent_block_increase before.sent_blocks
-  pub received_rose : after.received_blocks ≡ counter_plus received_block_increase before.received_blocks
+  pub sent_rose : after.sent_blocks ≡ counter_plus (total_frames_sent answers) before.sent_blocks
+  pub received_rose : after.received_blocks ≡ counter_plus (total_blocks_received answers) before.received_blocks
 
--- a run of the `link` command by its rules: the radio counted the blocks of all lines whose answers were written at least in part, and the
--- claims about order and delivery hold for these lines
-pub record IsLinkCommandRun (tsc : ℕ) (channel : Channel) (status : Status)
-    (input_before input_after output_before output_after : Option (List ℕ))
-    (before after : RadioCounters) : Type 0 where
-  pub run : IsRun link_command_rules (new_session tsc channel) (λ last. Unit {0}) status input_before input_after output_before
-      output_after
-  pub counters_rose : RadioCountersRose run.state.answers before after
-  pub delivery_laws_hold : DeliveryLawsHold run.state
+-- a run of the `link` command by its rules; the radio counted the blocks of all lines that were answered
+abbrev pub IsLinkCommandRun : (tsc : ℕ) (channel : Channel) (status : Status)
+    (input_before input_after output_before output_after : Option (List ℕ)) (before after : RadioCounters) → Type 0
+IsLinkCommandRun tsc channel status left left' taken taken' before after =
+    IsRun link_command_rules (new_session tsc channel) (λ last. RadioCountersRose last.answers before after) status left left' taken taken'

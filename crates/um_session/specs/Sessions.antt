@@ -1,12 +1,11 @@
 -- How the `link` command answers the lines of a script (this project's own rule).
-use Rattle.std.specs.Prelude.{ℕ, ◌≡◌, List, [], ◌∷◌, ◌++◌, Option, Some, None}
+use Rattle.std.specs.Prelude.{ℕ, List, [], ◌∷◌, ◌++◌, Option, Some, None}
 use Rattle.um_link.specs.lapdm_frame.declared.Channel.{Channel}
-use Rattle.um_script.specs.um_lines.Forms.{line_fault, never_misplaced}
-use Rattle.um_script.specs.um_lines.LinkForms.{link_line_forms}
-use Rattle.um_script.specs.ScriptLines.{ScriptLineMeans}
+use Rattle.um_script.specs.ScriptLines.{script_line}
 use Rattle.um_script.specs.AnswerLines.{answer_text}
-use Rattle.um_link.specs.um_air.Air.{Event, Answer, AirState, IsAirStep, initial_session}
-use Rattle.um_driver.specs.Rules.{Rules}
+use Rattle.um_link.specs.um_air.Air.{Event, Answer, AirState, initial_session}
+use Rattle.um_link.specs.um_air.Computed.{air_step}
+use Rattle.um_driver.specs.Rules.{Rules, answer_to_meaning}
 
 -- a session so far: its events, their answers, and the state of both sides and the radio path after them
 pub record LinkSession : Type 0 where
@@ -22,28 +21,20 @@ new_session tsc channel = record { events = []; answers = []; air = initial_sess
 abbrev pub session_with_step : LinkSession → Event → Answer → AirState → LinkSession
 session_with_step s event answer air = record { events = s.events ++ event ∷ []; answers = s.answers ++ answer ∷ []; air = air }
 
--- the event leads from session `before` to session `after`, and `output` is the text of its answer
-pub record IsEventStep (before : LinkSession) (event : Event) (output : List ℕ) (after : LinkSession) : Type 0 where
-  pub answer : Answer
-  pub air : AirState
-  pub step : IsAirStep before.air event air answer
-  pub text_is : output ≡ answer_text answer
-  pub after_is : after ≡ session_with_step before event answer air
+-- the text of the answer to an event, and the session after it
+abbrev pub answer_to_event : (session : LinkSession) (event : Event) → List ℕ × LinkSession
+answer_to_event s event =
+    let step = air_step s.air event in
+    (answer_text step.1, session_with_step s event step.1 step.0)
 
--- `output` answers a line with this meaning, and `after` is the session after it; a skipped line has no answer
-abbrev pub IsParsedLineStep : (session : LinkSession) (event : Option Event) (output : List ℕ) (after : LinkSession) → Type 0
-IsParsedLineStep s None text after = (text ≡ []) × (after ≡ s)
-IsParsedLineStep s (Some event) text after = IsEventStep s event text after
-
--- `output` answers a line of the script, and `after` is the session after it
-abbrev pub IsScriptLineStep : (session : LinkSession) (line output : List ℕ) (after : LinkSession) → Type 0
-IsScriptLineStep s line text after =
-    (meaning : Option Event) × ScriptLineMeans line meaning × IsParsedLineStep s meaning text after
+-- the answer to a line with this meaning, and the session after it; a skipped line has no answer
+abbrev pub answer_to_script_line : (session : LinkSession) (meaning : Option Event) → List ℕ × LinkSession
+answer_to_script_line s None = ([], s)
+answer_to_script_line s (Some event) = answer_to_event s event
 
 -- the rules of the `link` command; the script may end after any line
 abbrev pub link_command_rules : Rules LinkSession
 link_command_rules = record {
-  fault = λ s line. line_fault link_line_forms never_misplaced line;
+  step = λ s line. answer_to_meaning (answer_to_script_line s) (script_line line);
   end_fault = λ s. None;
-  Step = IsScriptLineStep;
 }

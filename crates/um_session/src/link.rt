@@ -57,14 +57,17 @@ impl<'a, R: Radio> Command for LinkCommand<'a, R> {
     ghost kept = { λ link. link.radio.ghost_name };
 
     fn answer(&mut self, line: &[u8], out: &mut Text) -> Result<(), LineFault> {
-        match parse_script(line, &mut self.room)? {
-            ScriptLine::Skip => {}
-            ScriptLine::Step(event) => {
-                let done = self
-                    .world
-                    .step_into(&mut *self.radio, &event, &mut self.step);
-                write_step_lines(out, &done, &self.step);
-            }
+        match parse_script(line, &mut self.room) {
+            Ok(read) => match read {
+                ScriptLine::Skip => {}
+                ScriptLine::Step(event) => {
+                    let done = self
+                        .world
+                        .step_into(&mut *self.radio, &event, &mut self.step);
+                    write_step_lines(out, &done, &self.step);
+                }
+            },
+            Err(fault) => return Err(fault),
         }
         Ok(())
     }

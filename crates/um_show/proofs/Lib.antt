@@ -1,1 +1,1 @@
-pub mod ShowRules
+mod Worked

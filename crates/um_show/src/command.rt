@@ -1,7 +1,8 @@
 //! The `show` command: converts LAPDm frames between octets and text.
-ghost use Rattle.std.specs.Prelude.{◌≡◌, Some, None, [], MatchResult};
-ghost use Rattle.um_formats.specs.ShowLines.{show_line_fault};
-ghost use Rattle.um_show.specs.Show.{IsAnswerToShowLine};
+ghost use Rattle.std.specs.Prelude.{◌≡◌, [], Ok, Err, MatchResult};
+ghost use Rattle.um_driver.specs.Rules.{answer_to_meaning};
+ghost use Rattle.um_formats.specs.ShowLines.{show_line};
+ghost use Rattle.um_show.specs.Show.{show_answer};
 
 use um_driver::Answer;
 use um_formats::{LineFault, ShowLine, Text, frame_line, octets_line, parse_show};
@@ -11,9 +12,7 @@ use um_formats::{LineFault, ShowLine, Text, frame_line, octets_line, parse_show}
 pub struct Show;
 
 impl Answer for Show {
-    ghost fault = { show_line_fault };
-
-    ghost answers = { IsAnswerToShowLine };
+    ghost answers = { λ line. answer_to_meaning show_answer (show_line line) };
 
     fn answer(&self, line: &[u8], out: &mut Text) -> Result<(), LineFault> {
         match parse_show(line)? {

@@ -1,5 +1,5 @@
 //! Runs of a command for tests, with reads and writes of a few octets that fail at each call in turn.
-ghost use Rattle.std.specs.Prelude.{◌≡◌, ◌==◌, ℕ, List, Bool, Some, None, [], length, nat_lt, not, if◌then◌else◌};
+ghost use Rattle.std.specs.Prelude.{◌≡◌, ◌==◌, Bool, Some, None, Ok, Err, [], length, nat_lt, not, if◌then◌else◌};
 ghost use Rattle.um_driver.specs.um_lines.Refusals.{refused_text};
 
 use std::process::Abort;
@@ -21,11 +21,10 @@ impl Command for LineLengthCommand {
     ghost State = { Bool };
 
     ghost rules = { record {
-      fault = λ a line. if length line == 3 then Some Word else None;
+      step = λ a line.
+          if length line == 3 then Err Word
+          else Ok (if nat_lt (length line) 2 then [] else refused_text (length line) Twice, if length line == 1 then not a else a);
       end_fault = λ a. if a then Some Order else None;
-      Step = λ a line y b.
-          (y ≡ (if nat_lt (length line) 2 then [] else refused_text (length line) Twice))
-          × (b ≡ (if length line == 1 then not a else a));
     } };
 
     ghost start = { λ s. s.open };

@@ -4,7 +4,8 @@ pub use Rattle.{
   burst_map.specs.Tails.tail_bits,
   conv_code.{proofs.Lemmas.{AllBits-coded, length-coded}, specs.Code.{IsEncoderInput, encoding}},
   fire_code.{
-    proofs.Lemmas.{one_rach_crc, one_sch_crc, one_xcch_crc, some_rach_crc, some_sch_crc, some_xcch_crc},
+    proofs.Lemmas.{one_rach_crc, one_sch_crc, one_xcch_crc, rach_crc_word, sch_crc_word, xcch_crc_word},
+    specs.Crcs.{rach_crc as crc_of_rach, sch_crc, xcch_crc},
     specs.Words.{IsRachCodeword, IsSchCodeword, IsXcchCodeword},
   },
   std.{
@@ -30,9 +31,9 @@ use Rattle.{
     SyncBurst.{sync_burst, sync_sequence},
   },
   conv_code.proofs.Lemmas.{AreCodedBitsPacked-front, IsEncoderInput-tail},
-  interleave.proofs.Lemmas.{AllBits-bursts, same_bursts, some_spread},
+  interleave.{proofs.Lemmas.{AllBits-bursts, IsInterleaved-interleaved, same_bursts}, specs.Bursts.interleaved},
   std.{proofs.{Common.{replicate, leb, true}, lemmas.Grind.flat_map-append}, specs.List.list_all},
-  um_block.specs.Sent.{CarriesDataAndCrc, with_tail},
+  um_block.specs.{Computed.{coded_word, sent_access, sent_block, sent_sync}, Sent.{CarriesDataAndCrc, with_tail}},
 }
 
 -- ## Words: Encoder inputs that consist of information bits, CRC and tail, and their coded bits.
@@ -192,37 +193,57 @@ sent_sync_bits info burst s =
 
 -- ## SentExists: Any information bits can be sent: their CRC exists, and their coded bits can be interleaved.
 
-pub some_sent_block : (octets : List ℕ) (tsc : ℕ) → length octets ≡ 23 → AllOctets octets → tsc ≤ 7 →
-    (x : List (List ℕ)) × IsSentBlock octets tsc x
-some_sent_block octets tsc count small known =
+pub IsSentBlock-sent_block : (octets : List ℕ) (tsc : ℕ) → length octets ≡ 23 → AllOctets octets → tsc ≤ 7 →
+    IsSentBlock octets tsc (sent_block octets tsc)
+unfolding sent_block
+IsSentBlock-sent_block octets tsc count small known =
     let d = bits_of octets in
-    let p = some_xcch_crc d (length-block _ count) (AllBits-bits_of _) in
-    let code : IsCodedBlock octets _ = record {
-      u = with_tail (d ++ p.0);
+    let coded = coded_word d (xcch_crc d) in
+    let code : IsCodedBlock octets coded = record {
+      u = with_tail (d ++ xcch_crc d);
       count = count;
       all_octets = small;
-      information = carries IsXcchCodeword d p.0 p.1;
+      information = carries IsXcchCodeword d (xcch_crc d) (xcch_crc_word d (length-block _ count) (AllBits-bits_of _));
       code = refl;
-    } in
-    let parts = some_spread _ (coded_block_bits octets _ code).right_length in (
-      _,
-      record { coded_bits = _; interleaved_bits = parts.0; valid_tsc = known; code = code; interleaved = parts.1; layout = refl },
-    )
+    } in record {
+      coded_bits = coded;
+      interleaved_bits = interleaved coded;
+      valid_tsc = known;
+      code = code;
+      interleaved = IsInterleaved-interleaved coded (coded_block_bits octets coded code).right_length;
+      layout = refl;
+    }
 
-pub some_access_burst : (d b : List ℕ) → length d ≡ 8 → AllBits d → length b ≡ 6 → AllBits b → (x : List ℕ)
-    × IsSentAccess d b x
-some_access_burst d b ed bd eb bb =
-    let p = some_rach_crc d b ed bd eb bb in
-    let code : IsCodedAccess d b _ =
-    record { u = with_tail (d ++ p.0); count = ed; information = carries (λ w. IsRachCodeword w b) d p.0 p.1; code = refl } in
-    (_, record { coded_bits = _; code = code; burst = refl })
+pub IsSentAccess-sent_access : (d b : List ℕ) → length d ≡ 8 → AllBits d → length b ≡ 6 → AllBits b → IsSentAccess d b (sent_access d b)
+unfolding sent_access
+IsSentAccess-sent_access d b ed bd eb bb = record {
+  coded_bits = coded_word d (crc_of_rach d b);
+  code = record {
+    u = with_tail (d ++ crc_of_rach d b);
+    count = ed;
+    information = carries (λ w. IsRachCodeword w b) d (crc_of_rach d b) (rach_crc_word d b ed bd eb bb);
+    code = refl;
+  };
+  burst = refl;
+}
 
-pub some_sync_burst : (d : List ℕ) → length d ≡ 25 → AllBits d → (x : List ℕ) × IsSentSync d x
-some_sync_burst d ed bd =
-    let p = some_sch_crc d ed bd in
-    let code : IsCodedSync d _ =
-    record { u = with_tail (d ++ p.0); count = ed; information = carries IsSchCodeword d p.0 p.1; code = refl } in
-    (_, record { coded_bits = _; code = code; burst = refl })
+pub IsSentSync-sent_sync : (d : List ℕ) → length d ≡ 25 → AllBits d → IsSentSync d (sent_sync d)
+unfolding sent_sync
+IsSentSync-sent_sync d ed bd = record {
+  coded_bits = coded_word d (sch_crc d);
+  code = record {
+    u = with_tail (d ++ sch_crc d);
+    count = ed;
+    information = carries IsSchCodeword d (sch_crc d) (sch_crc_word d ed bd);
+    code = refl;
+  };
+  burst = refl;
+}
+
+-- (um_air asks for it)
+pub some_sent_block : (octets : List ℕ) (tsc : ℕ) → length octets ≡ 23 → AllOctets octets → tsc ≤ 7 →
+    (x : List (List ℕ)) × IsSentBlock octets tsc x
+some_sent_block octets tsc count small known = (sent_block octets tsc, IsSentBlock-sent_block octets tsc count small known)
 
 -- ## SentOnce: The bursts of given information bits are unique, since the CRC of these bits is unique.
 
@@ -247,6 +268,22 @@ pub one_sent_block : (octets : List ℕ) (tsc : ℕ) (x x' : List (List ℕ)) �
 one_sent_block octets tsc x x' h g =
     let same = one_coded_block octets h.coded_bits g.coded_bits h.code g.code in
     cc (same_bursts g.coded_bits h.interleaved_bits g.interleaved_bits (rw same at h.interleaved) g.interleaved)
+
+pub sent_block-only : (octets : List ℕ) (tsc : ℕ) (x : List (List ℕ)) → IsSentBlock octets tsc x → x ≡ sent_block octets tsc
+sent_block-only octets tsc x h =
+    one_sent_block octets tsc x _ h (IsSentBlock-sent_block octets tsc h.code.count h.code.all_octets h.valid_tsc)
+
+pub sent_access-only : (d b x : List ℕ) → IsSentAccess d b x → x ≡ sent_access d b
+sent_access-only d b x h =
+    let w = h.code.information.word in
+    let bits = rw (take_at d h.code.information.crc 8 h.code.count) at (All-take IsBit 8 (d ++ h.code.information.crc) w.bits) in
+    one_access_burst d b x _ h (IsSentAccess-sent_access d b h.code.count bits w.bsic_bit_count w.bsic_bits)
+
+pub sent_sync-only : (d x : List ℕ) → IsSentSync d x → x ≡ sent_sync d
+sent_sync-only d x h =
+    let w = h.code.information.word in
+    let bits = rw (take_at d h.code.information.crc 25 h.code.count) at (All-take IsBit 25 (d ++ h.code.information.crc) w.bits) in
+    one_sync_burst d x _ h (IsSentSync-sent_sync d h.code.count bits)
 
 -- ## SpreadParts: A list of four elements consists of its elements 0 to 3.
 

@@ -1,35 +1,34 @@
--- The prescribed output of an input: which lines a run processes, and the answers to them.
+-- The prescribed response to an input: the lines of octets, and the answers to them.
 pub use Rattle.{
   std.{
     proofs.{
-      Common.{Bool, List, None, Option, Some, [], append-nil, append_assoc, ap, arith, drop, false, inl, inr, length-append, length-drop},
-      Common.{leb, length, refl, sym, take-append-drop, take, true, ℕ, ◌++◌, ◌+◌, ◌-◌, ◌<◌, ◌∙◌, ◌∷◌},
+      Common.{Bool, Err, List, None, Ok, Option, Result, Some, [], append-nil, append_assoc, ap, arith, false, inl, inr},
+      Common.{add-one, length-append, length, refl, subst, sym, take, true, ℕ, ◌++◌, ◌+◌, ◌-◌, ◌<◌, ◌∙◌, ◌∷◌},
       Common.{◌≡◌, ◌≤◌, ◌⊎◌},
-      lemmas.{Bool.{cases_lt, le-leb, lt-leb}, List.{Elements.{All-append, All-cons, All-head, All-nil, All-push, All-tail}, length-take}},
-      lemmas.List.{take_all, take_at},
+      lemmas.{
+        Bool.{cases_Bool, cases_lt, le-ltb, lt-ltb, ne_eqb},
+        List.{Elements.{All-append, All-cons, All-head, All-nil, All-push, All-tail}, length-take},
+      },
+      lemmas.List.{take-append-le, take_all, take_at},
+      Math.Seq.{take-append-add},
     },
     specs.List.All,
   },
   um_driver.specs.{
+    Continued.Continues,
     Divided.BeginsWithLines,
-    Laws.{HasOneOutput, OutputExists, OutputIsUnique},
-    Outputs.{AreOctetsWithinLimit, AreProcessedLines, ExceedsInputLimit, IsOutputOfLines, IsOutput, LastLineIsNotProcessed},
-    Outputs.LastLineIsProcessed,
-    Rules.{IsDeterministic, IsLineAccepted, IsLineRefused, AnswersEveryAcceptedLine, Rules, Runs, concatenated_text, stateless},
-    Table.{AllAnswersAtLeastPartlyWritten, AreFirstLines, InputJustifiesStatus, IsNextLineProcessed, IsPrefixOf, IsRun, IsWholeInputRead},
-    Table.{RunEndsWithStatus},
+    Outputs.{InputEnd, Ended, Exceeded, Open, divided, input_end, last_line, lines_to_process, push_octet, response, response_at_end},
+    Outputs.{processed_lines, response_from_answer, response_to_lines},
+    Rules.{Rules, Runs, answer_to_line, answer_to_meaning, concatenated_text},
+    Table.{EndsAsPrescribed, EndsWithStatus, IsPrefixOf, IsRun},
     declared.status.Status.{TheVariants.{BadInput, BadWords, Done, NoMemory, ReadFault, TooLong, WriteFault}, Status},
   },
-  um_io.proofs.Lemmas.{All-front, divide, length-text-push, one_division, text-append, text-cons, text-push},
-  um_io.specs.{Lines.{IsDividedIntoLines, IsLine, IsNotLineFeed, text_of_lines}, Reading.{input_limit, line_limit}},
-  um_lines.{
-    proofs.FormLaws.{good_meaning, same_meaning},
-    specs.{Meanings.HasOneMeaningOrFault, Refusals.refused_text, declared.fault.LineFault.{TheVariants.Long, LineFault}},
-  },
+  um_io.proofs.Lemmas.{All-front, divide, length-text-push, text-append, text-cons, text-push},
+  um_io.specs.{Lines.{EndsWithoutLineFeed, IsDividedIntoLines, IsLine, IsNotLineFeed, text_of_lines}, Reading.{input_limit, line_limit}},
+  um_lines.specs.{Refusals.refused_text, declared.fault.LineFault.{TheVariants.Long, LineFault}},
 }
 
--- ## Judging: Which lines of an input a run processes: those that end within the limit, and the octets after them if these are too long for
--- a line or end the input. There is exactly one such list of lines, because octets can be divided into lines in only one way.
+-- ## Dividing: The lines of octets, from the way in which the octets were put together.
 
 pub begins_with : {x rest : List ℕ} {lines : List (List ℕ)} → All IsLine lines → x ≡ text_of_lines lines ++ rest →
     BeginsWithLines x lines rest
@@ -40,212 +39,96 @@ pub begins_with_more : {x rest : List ℕ} {lines : List (List ℕ)} (more : Lis
     BeginsWithLines (x ++ more) lines (rest ++ more)
 begins_with_more more b = begins_with b.no_line_feed (rw (b.octets_split, append_assoc))
 
--- the processed lines `judged` are `lines`, followed by `last` if the run processes `last` as a line
-abbrev AreJudged : (judged lines : List (List ℕ)) (last : List ℕ) (ended : Bool) → Type 0
-AreJudged judged lines last ended =
-    ((judged ≡ lines) × LastLineIsNotProcessed last ended) ⊎ ((judged ≡ lines ++ last ∷ []) × LastLineIsProcessed last ended)
+divided-plain : (last : List ℕ) → IsLine last → divided last ≡ ([], last)
+divided-plain [] plain = refl
+divided-plain (octet ∷ last) plain =
+    rw (ne_eqb octet 10 (All-head IsNotLineFeed octet last plain), divided-plain last (All-tail IsNotLineFeed octet last plain)) refl
 
--- the lines of an input are its complete lines and then the rest, if the rest is not empty
-division_of : {x : List ℕ} {lines : List (List ℕ)} → IsDividedIntoLines x lines →
-    (front : List (List ℕ)) × (last : List ℕ) × BeginsWithLines x front last × IsLine last × AreJudged lines front last true
-division_of {lines = lines} h = elim h.octets_split [
-  | inl x_is ↦ (
-    lines,
-    [],
-    begins_with h.no_line_feed (rw (x_is, append-nil)),
-    All-nil IsNotLineFeed,
-    inl (refl, refl),
-  )
-  | inr cut ↦
-      let (front_plain, last_plain) = All-front lines cut.front cut.last h.no_line_feed cut.lines_split in (
-        cut.front,
-        cut.last,
-        begins_with front_plain cut.octets_split,
-        last_plain,
-        inr (cut.lines_split, cut.nonempty),
-      )
-]
+divided-line : (line rest : List ℕ) → IsLine line → divided (line ++ 10 ∷ rest) ≡ (line ∷ (divided rest).0, (divided rest).1)
+divided-line [] rest plain = refl
+divided-line (octet ∷ line) rest plain =
+    rw (ne_eqb octet 10 (All-head IsNotLineFeed octet line plain), divided-line line rest (All-tail IsNotLineFeed octet line plain)) refl
 
--- ---- every input has a list of processed lines
+divided-lines : (lines : List (List ℕ)) (rest : List ℕ) → All IsLine lines →
+    divided (text_of_lines lines ++ rest) ≡ (lines ++ (divided rest).0, (divided rest).1)
+divided-lines [] rest plain = refl
+divided-lines (line ∷ lines) rest plain =
+    rw (
+      text-cons line lines rest,
+      divided-line line (text_of_lines lines ++ rest) (All-head IsLine line lines plain),
+      divided-lines lines rest (All-tail IsLine line lines plain),
+    ) refl
 
-processed_or_not : (lines : List (List ℕ)) (last : List ℕ) (ended : Bool) →
-    (judged : List (List ℕ)) × AreJudged (lines ++ judged) lines last ended
-processed_or_not lines [] true = ([], inl (append-nil lines, refl))
-processed_or_not lines (o ∷ last) true = ((o ∷ last) ∷ [], inr (refl, omega arith))
-processed_or_not lines last false = elim (cases_lt line_limit (length last)) [
-  | inl long ↦ (last ∷ [], inr (refl, long))
-  | inr short ↦ ([], inl (append-nil lines, short))
-]
+pub lines_to_process-after : (lines : List (List ℕ)) (rest : List ℕ) (end : InputEnd) → All IsLine lines →
+    lines_to_process (text_of_lines lines ++ rest) end ≡ lines ++ lines_to_process rest end
+lines_to_process-after lines rest end plain = rw (divided-lines lines rest plain, append_assoc) refl
 
--- the octets within the input limit determine the processed lines: the complete lines, and the rest if it is processed as a line
-lines_counted : {x counted : List ℕ} {ended : Bool} {lines : List (List ℕ)} {last : List ℕ} →
-    AreOctetsWithinLimit x counted ended →
-    BeginsWithLines counted lines last → IsLine last → (judged : List (List ℕ)) × AreProcessedLines x (lines ++ judged) ended
-lines_counted {ended = ended} {lines = lines} {last = last} counts b p =
-    let (judged, split) = processed_or_not lines last ended in (
-      judged,
-      record {
-        octets = _;
-        lines = _;
-        last = _;
-        in_limit = counts;
-        begins = b;
-        no_line_feed = p;
-        last_line_processed_or_not =
-            split;
-      },
-    )
+pub lines_to_process-last : (last : List ℕ) (end : InputEnd) → IsLine last → lines_to_process last end ≡ last_line last end
+lines_to_process-last last end plain = rw (divided-plain last plain) refl
 
--- if a prefix of the input does not exceed the input limit, it is a prefix of the octets within this limit
-counted_front : (x u v : List ℕ) → x ≡ u ++ v → length u ≤ input_limit →
-    (part : List ℕ) × (ended : Bool) × AreOctetsWithinLimit x (u ++ part) ended
-counted_front x u v e h = elim (cases_lt input_limit (length x)) [
-  | inl is_over ↦
-      let n = input_limit - length u in
-      let size = simp length-append at (ap length e) in (
-        take n v,
-        false,
-        (
-          drop n v,
-          record {
-            octets_split = rw (e, append_assoc, take-append-drop);
-            count = omega (arith, is_over, size, length-append u (take n v), length-take n v);
-            nonempty = omega (arith, is_over, size, length-drop n v);
-          },
-        ),
-      )
-  | inr short ↦ (v, true, (e, short))
-]
+long_last : (last : List ℕ) (end : InputEnd) → line_limit < length last → last_line last end ≡ last ∷ []
+long_last [] end long = absurd (omega arith)
+long_last (o ∷ last) Ended long = refl
+long_last (o ∷ last) Exceeded long = rw (lt-ltb line_limit (length (o ∷ last)) long) refl
+long_last (o ∷ last) Open long = rw (lt-ltb line_limit (length (o ∷ last)) long) refl
 
--- if the input begins with lines that end within the input limit, the run processes these lines first
-lines_after : {x : List ℕ} {lines : List (List ℕ)} (more : List ℕ) → BeginsWithLines x lines more →
-    length (text_of_lines lines) ≤ input_limit →
-    (judged : List (List ℕ)) × (ended : Bool) × AreProcessedLines x (lines ++ judged) ended
-lines_after {x} {lines} more b h =
-    let (part, ended, counts) = counted_front x (text_of_lines lines) more b.octets_split h in
-    let (ls, last, plain, p, part_is) = divide part in
-    let (judged, j) = lines_counted counts (begins_with (All-append IsLine lines ls b.no_line_feed plain)
-    (cc (part_is, text-append lines ls last))) p in
-    (ls ++ judged, ended, rw append_assoc at j)
+short_last : (last : List ℕ) → length last ≤ line_limit → last_line last Open ≡ []
+short_last [] short = refl
+short_last (o ∷ last) short = rw (le-ltb line_limit (length (o ∷ last)) short) refl
 
--- after `lines`, the next line processed is `line` or, if `line` is too long, a line that is also too long
-abbrev IsJudgedNext : (x : List ℕ) (lines : List (List ℕ)) (line : List ℕ) → Type 0
-IsJudgedNext x lines line = (next : List ℕ) × (judged : List (List ℕ)) × (ended : Bool)
-    × AreProcessedLines x (lines ++ next ∷ judged) ended
-    × ((next ≡ line) ⊎ ((line_limit < length line) × (line_limit < length next)))
+short_last_exceeded : (last : List ℕ) → length last ≤ line_limit → last_line last Exceeded ≡ []
+short_last_exceeded [] short = refl
+short_last_exceeded (o ∷ last) short = rw (le-ltb line_limit (length (o ∷ last)) short) refl
 
--- if a line that is too long follows these lines within the limit, the next line processed is this line or one that is also too long
-lines_long : {x : List ℕ} {lines : List (List ℕ)} (line more : List ℕ) → BeginsWithLines x lines (line ++ more) → IsLine line →
-    length (text_of_lines lines ++ line) ≤ input_limit → line_limit < length line → IsJudgedNext x lines line
-lines_long {x} {lines} line more b p h long =
-    let (part, ended, counts) = counted_front x (text_of_lines lines ++ line) more (rw append_assoc b.octets_split) h in
-    let (ls, last, plain, q, part_is) = divide part in
-    next part ended counts ls last plain q part_is
+some_last : (last : List ℕ) → 0 < length last → last_line last Ended ≡ last ∷ []
+some_last [] some = absurd (omega arith)
+some_last (o ∷ last) some = refl
+
+open_end : (x : List ℕ) → length x ≤ input_limit → input_end x false ≡ Open
+open_end x short = rw (le-ltb input_limit (length x) short) refl
+
+-- if a line that is too long comes first, so does it when more octets follow
+long_first : (line more : List ℕ) (end : InputEnd) → IsLine line → line_limit < length line →
+    (next : List ℕ) × (later : List (List ℕ)) × (line_limit < length next) × (lines_to_process (line ++ more) end ≡ next ∷ later)
+long_first line more end plain long =
+    let (ls, last, all, p, e) = divide more in go ls last all p e
   where
-    next : (part : List ℕ) (ended : Bool) → AreOctetsWithinLimit x ((text_of_lines lines ++ line) ++ part) ended →
-        (ls : List (List ℕ)) (last : List ℕ) → All IsLine ls → IsLine last → part ≡ text_of_lines ls ++ last →
-        IsJudgedNext x lines line
-    next part ended counts [] last plain q e = (
-      line ++ last,
-      [],
-      ended,
-      record {
-        octets = _;
-        lines = lines;
-        last = _;
-        in_limit = counts;
-        begins = begins_with b.no_line_feed (rw (e, append_assoc));
-        no_line_feed = All-append IsNotLineFeed line last p q;
-        last_line_processed_or_not = inr (refl, grind (arith, length-append line last));
-      },
-      inr (long, omega (arith, length-append line last)),
-    )
-    next part ended counts (l ∷ ls) last plain q e =
-        let (judged, j) = lines_counted counts (begins_with (All-append IsLine lines ((line ++ l) ∷ ls) b.no_line_feed
-        (All-cons IsLine (line ++ l) ls (All-append IsNotLineFeed line l p (All-head IsLine l ls plain))
-        (All-tail IsLine l ls plain)))
-        (rw (e, text-append, text-cons, text-cons, append_assoc, append_assoc))) q in
-        (line ++ l, ls ++ judged, ended, rw append_assoc at j, inr (long, omega (arith, length-append line l)))
+    go : (ls : List (List ℕ)) (last : List ℕ) → All IsLine ls → IsLine last → more ≡ text_of_lines ls ++ last →
+        (next : List ℕ) × (later : List (List ℕ)) × (line_limit < length next) × (lines_to_process (line ++ more) end ≡ next ∷ later)
+    go [] last all p e =
+        let far : line_limit < length (line ++ last) = omega (arith, length-append line last) in (
+          line ++ last,
+          [],
+          far,
+          ap (λ o. lines_to_process (line ++ o) end) e
+              ∙ lines_to_process-last (line ++ last) end (All-append IsNotLineFeed line last plain p) ∙ long_last (line ++ last) end far,
+        )
+    go (l ∷ ls) last all p e =
+        let whole : IsLine (line ++ l) = All-append IsNotLineFeed line l plain (All-head IsLine l ls all) in
+        let split : line ++ more ≡ (line ++ l) ++ 10 ∷ (text_of_lines ls ++ last) = rw (e, text-cons, append_assoc) refl in (
+          line ++ l,
+          lines_to_process (text_of_lines ls ++ last) end,
+          omega (arith, length-append line l),
+          ap (λ o. lines_to_process o end) split ∙ rw (divided-line (line ++ l) (text_of_lines ls ++ last) whole) refl,
+        )
 
--- if an input is within the limit, all its lines are processed
-lines_whole : {x : List ℕ} {lines : List (List ℕ)} → IsDividedIntoLines x lines → length x ≤ input_limit →
-    AreProcessedLines x lines true
-lines_whole d h =
-    let (_, _, begins, p, split) = division_of d in
-    record { octets = _; lines = _; last = _; in_limit = (refl, h); begins = begins; no_line_feed = p; last_line_processed_or_not = split }
+-- ---- a response that is only continued when more octets come
 
--- if a run has read the whole input, it processes all lines of the input
-lines_read : {q rest : List ℕ} {lines : List (List ℕ)} → IsWholeInputRead q rest lines →
-    AreProcessedLines (q ++ rest) (lines ++ []) true
-lines_read w = rw (w.nothing_left, append-nil, append-nil) (lines_whole w.divided w.limit)
+Continues-answer : (text : List ℕ) (now later : Option Status × List ℕ) → Continues now later →
+    Continues (now.0, text ++ now.1) (later.0, text ++ later.1)
+Continues-answer text (None, y) later (more, e) = (more, rw (e, append_assoc) refl)
+Continues-answer text (Some s, y) later e = rw e refl
 
--- lines that satisfy `AreFirstLines` are the first lines that the run processes
-pub lines_first : {q rest : List ℕ} {lines : List (List ℕ)} → AreFirstLines q rest lines →
-    (judged : List (List ℕ)) × (ended : Bool) × AreProcessedLines (q ++ rest) (lines ++ judged) ended
-lines_first {rest = rest} (inl (more, b, h)) = lines_after (more ++ rest) (begins_with_more rest b) h
-lines_first (inr whole) = ([], true, lines_read whole)
+pub Continues-refl : (now : Option Status × List ℕ) → Continues now now
+Continues-refl (None, text) = ([], sym (append-nil text))
+Continues-refl (Some status, text) = refl
 
--- the next line processed is the line that was read or, if that is too long, a line that is also too long
-lines_next : {q rest : List ℕ} {lines : List (List ℕ)} {line : List ℕ} → IsNextLineProcessed q rest lines line →
-    IsJudgedNext (q ++ rest) lines line
-lines_next {q} {rest} {lines} {line} n = elim n.is_complete [
-  | inl (after, feed, under) ↦
-      let (judged, ended, j) = lines_after {x = q ++ rest} (after ++ rest)
-      (begins_with (All-push IsLine lines line n.begins.no_line_feed n.no_line_feed)
-      (rw (n.begins.octets_split, feed, append_assoc, append_assoc, text-push))) (omega (arith, length-text-push lines line)) in
-      (line, judged, ended, rw append_assoc at j, inl refl)
-  | inr (inl long) ↦
-      lines_long line (n.octets_after_line ++ rest) (rw append_assoc at (begins_with_more rest n.begins)) n.no_line_feed n.limit long
-  | inr (inr (some, none, no_rest)) ↦
-      let b = rw (none, append-nil) at n.begins in (
-        line,
-        [],
-        true,
-        rw (no_rest, append-nil) (record {
-          octets = q;
-          lines = lines;
-          last = line;
-          in_limit = (refl, omega (arith, n.limit, ap length b.octets_split));
-          begins = b;
-          no_line_feed = n.no_line_feed;
-          last_line_processed_or_not = inr (refl, some);
-        }),
-        inl refl,
-      )
-]
+pub Continues-prefix : (now later : Option Status × List ℕ) → Continues now later → IsPrefixOf now.1 later.1
+Continues-prefix (None, text) later front = front
+Continues-prefix (Some status, text) later e = ([], rw append-nil (ap (λ (z : Option Status × List ℕ). z.1) e))
 
--- no processed line contains a line feed
-processed_are_lines : (x : List ℕ) (judged : List (List ℕ)) (ended : Bool) → AreProcessedLines x judged ended → All IsLine judged
-processed_are_lines x judged ended j = elim j.last_line_processed_or_not [
-  | inl (e, _) ↦ rw e j.begins.no_line_feed
-  | inr (e, _) ↦ rw e (All-push IsLine j.lines j.last j.begins.no_line_feed j.no_line_feed)
-]
-
--- ---- an input has only one list of processed lines
-
-same_processed : (judged judged' lines : List (List ℕ)) (last : List ℕ) (ended : Bool) → AreJudged judged lines last ended →
-    AreJudged judged' lines last ended → judged ≡ judged'
-same_processed judged judged' lines last ended h k = grind arith
-
--- the octets within the limit are the first `input_limit` octets of the input
-counted_is : (x octets : List ℕ) (ended : Bool) → AreOctetsWithinLimit x octets ended →
-    (octets ≡ take input_limit x) × (ended ≡ leb (length x) input_limit)
-counted_is x octets true (e, h) = (sym e ∙ sym (take_all input_limit x h), sym (le-leb (length x) input_limit h))
-counted_is x octets false (past, h) = (
-  sym (take_at octets past input_limit h.count) ∙ ap (take input_limit) (sym h.octets_split),
-  sym (lt-leb (length x) input_limit (omega (arith, ap length h.octets_split, length-append octets past))),
-)
-
--- an input has only one list of processed lines
-pub AreProcessedLines-unique : (x : List ℕ) (judged judged' : List (List ℕ)) (ended ended' : Bool) →
-    AreProcessedLines x judged ended → AreProcessedLines x judged' ended' → (ended ≡ ended') × (judged ≡ judged')
-AreProcessedLines-unique x judged judged' ended ended' j k =
-    let (first, over) = counted_is _ _ _ j.in_limit in
-    let (first', over') = counted_is _ _ _ k.in_limit in
-    let end_is = over ∙ sym over' in
-    let (lines, last) = one_division j.lines k.lines j.last k.last j.begins.no_line_feed k.begins.no_line_feed j.no_line_feed k.no_line_feed
-    (sym j.begins.octets_split ∙ first ∙ sym first' ∙ k.begins.octets_split) in
-    (end_is, same_processed _ _ _ _ _ (rw (lines, last, end_is) at j.last_line_processed_or_not) k.last_line_processed_or_not)
+over_end : (x : List ℕ) (ended : Bool) → input_limit < length x → input_end x ended ≡ Exceeded
+over_end x ended over = rw (lt-ltb input_limit (length x) over) refl
 
 -- ## RunLemmas: Lemmas about joining and splitting runs over lines that are not refused.
 
@@ -259,408 +142,334 @@ module _ {State : Type 0} (r : Rules State) where
   pub Runs-append : (a b c : State) (ls ls' ys ys' : List (List ℕ)) → Runs r a ls ys b → Runs r b ls' ys' c →
       Runs r a (ls ++ ls') (ys ++ ys') c
   Runs-append a b c [] ls' [] ys' same then = rw same at then
-  Runs-append a b c (line ∷ ls) ls' (y ∷ ys) ys' (mid, good, step, runs) then =
-      (mid, good, step, Runs-append mid b c ls ls' ys ys' runs then)
+  Runs-append a b c (line ∷ ls) ls' (y ∷ ys) ys' (mid, step, runs) then =
+      (mid, step, Runs-append mid b c ls ls' ys ys' runs then)
   Runs-append a b c _ ls' _ ys' none then = absurd none
 
-  -- a run gives as many answers as it reads lines
-  pub Runs-length : (a b : State) (ls ys : List (List ℕ)) → Runs r a ls ys b → length ls ≡ length ys
-  Runs-length a b [] [] runs = refl
-  Runs-length a b (line ∷ ls) (y ∷ ys) (mid, _, _, runs) = cc (Runs-length mid b ls ys runs)
-  Runs-length a b _ _ none = absurd none
-
-  -- a run can be split in two after any number of its answers
-  pub Runs-split : (a c : State) (ls ys ys' : List (List ℕ)) → Runs r a ls (ys ++ ys') c →
-      (front back : List (List ℕ)) × (mid : State) × Runs r a front ys mid × Runs r mid back ys' c × (ls ≡ front ++ back)
-  Runs-split a c ls [] ys' runs = ([], ls, a, refl, runs, refl)
-  Runs-split a c [] (y ∷ ys) ys' none = absurd none
-  Runs-split a c (line ∷ ls) (y ∷ ys) ys' (next, good, step, runs) =
-      let (front, back, mid, first, second, e) = Runs-split next c ls ys ys' runs in
-      (line ∷ front, back, mid, (next, good, step, first), second, cc e)
-
   -- if each step preserves a property of the state, so does the whole run
-  pub Runs-keep : (P : State → Type 0) → ((a b : State) (line answer : List ℕ) → P a → r.Step a line answer b → P b) →
+  pub Runs-keep : (P : State → Type 0) → ((a b : State) (line answer : List ℕ) → P a → answer_to_line r a line ≡ Ok (answer, b) → P b) →
       (a b : State) (ls ys : List (List ℕ)) → P a → Runs r a ls ys b → P b
   Runs-keep P keeps a b [] [] h same = rw same h
-  Runs-keep P keeps a b (line ∷ ls) (y ∷ ys) h (mid, good, step, runs) = Runs-keep P keeps mid b ls ys (keeps a mid line y h step) runs
+  Runs-keep P keeps a b (line ∷ ls) (y ∷ ys) h (mid, step, runs) = Runs-keep P keeps mid b ls ys (keeps a mid line y h step) runs
   Runs-keep P keeps a b _ _ h none = absurd none
 
-  -- ## OutputByLines: The prescribed output for processed lines, built up line by line.
+  -- ## Responding: The response to octets, from the answers to lines that are not refused and what comes after them.
 
-  good_or_bad : (a : State) (line : List ℕ) (fault : LineFault) → IsLineAccepted r a line → IsLineRefused r a line fault → ⊥
-  good_or_bad a line fault good bad = grind arith
+  -- the answers to lines that are not refused come first in the response to these and further lines
+  response_to_lines-after : (a b : State) (n m : ℕ) (ls ys later : List (List ℕ)) (end : InputEnd) → m ≡ length ls + n →
+      Runs r a ls ys b → response_to_lines r a n (ls ++ later) end
+      ≡ ((response_to_lines r b m later end).0, concatenated_text ys ++ (response_to_lines r b m later end).1)
+  response_to_lines-after a b n m [] [] later end e same = let here : m ≡ n = omega arith in rw (same, here) refl
+  response_to_lines-after a b n m (line ∷ ls) (y ∷ ys) later end e (mid, step, runs) =
+      rw (step, response_to_lines-after mid b (n + 1) m ls ys later end (omega arith) runs, append_assoc) refl
+  response_to_lines-after a b n m _ _ later end e none = absurd none
 
-  module _ (det : IsDeterministic r) where
-    IsOutputOfLines-unique : (a : State) (n : ℕ) (judged : List (List ℕ)) (ended : Bool) (s s' : Status) (z z' : List ℕ) →
-        IsOutputOfLines r a n judged ended s z → IsOutputOfLines r a n judged ended s' z' → (s ≡ s') × (z ≡ z')
-    IsOutputOfLines-unique a n [] true s s' z z' h k = grind arith
-    IsOutputOfLines-unique a n [] false s s' z z' h k = grind arith
-    IsOutputOfLines-unique a n (line ∷ judged) ended s s' z z' (inl g) (inl g') =
-        let same = det _ _ _ _ _ _ g.step g'.step in
-        let then = IsOutputOfLines-unique g'.state_after_line (n + 1) judged _ _ _ _ _
-        (rw same.1 at g.rest_satisfies_condition) g'.rest_satisfies_condition in
-        (then.0, g.output ∙ (cc) ∙ sym g'.output)
-    IsOutputOfLines-unique a n (line ∷ judged) ended s s' z z' (inl g) (inr stop) =
-        absurd (good_or_bad _ _ _ g.line_accepted stop.refused)
-    IsOutputOfLines-unique a n (line ∷ judged) ended s s' z z' (inr stop) (inl g) =
-        absurd (good_or_bad _ _ _ g.line_accepted stop.refused)
-    IsOutputOfLines-unique a n (line ∷ judged) ended s s' z z' (inr stop) (inr stop') = grind arith
+  module _ (a b : State) (lines answers : List (List ℕ)) (runs : Runs r a lines answers b) (plain : All IsLine lines) where
+    abbrev next_number : ℕ
+    next_number = length lines + 1
 
-    -- the prescribed output begins with the answers to the first lines
-    pub IsOutputOfLines-front : (a b : State) (n : ℕ) (ls ys judged : List (List ℕ)) (ended : Bool) (s : Status) (z : List ℕ) →
-        Runs r a ls ys b → IsOutputOfLines r a n (ls ++ judged) ended s z → IsPrefixOf (concatenated_text ys) z
-    IsOutputOfLines-front a b n [] [] judged ended s z same g = (z, refl)
-    IsOutputOfLines-front a b n (line ∷ ls) (y ∷ ys) judged ended s z (mid, good, step, runs) (inl g) =
-        let same = det _ _ _ _ _ _ g.step step in
-        let (more, split) = IsOutputOfLines-front mid b (n + 1) ls _ judged _ _ _ runs (rw same.1 at g.rest_satisfies_condition) in
-        (more, rw append_assoc (cc (g.output, same.0, split)))
-    IsOutputOfLines-front a b n (line ∷ ls) (y ∷ ys) judged ended s z (mid, good, step, runs) (inr stop) =
-        absurd (good_or_bad _ _ _ good stop.refused)
-    IsOutputOfLines-front a b n _ _ judged ended s z none g = absurd none
+    -- the response to octets whose first lines are these
+    respond_to : (x : List ℕ) (ended : Bool) (end : InputEnd) (later : List (List ℕ)) → input_end x ended ≡ end →
+        lines_to_process (take input_limit x) end ≡ lines ++ later →
+        response r a x ended ≡ (
+          (response_to_lines r b next_number later end).0,
+          concatenated_text answers ++ (response_to_lines r b next_number later end).1,
+        )
+    unfolding response
+    respond_to x ended end later end_is is =
+        subst (λ e. response_to_lines r a 1 (lines_to_process (take input_limit x) e) e
+        ≡ ((response_to_lines r b next_number later end).0, concatenated_text answers ++ (response_to_lines r b next_number later end).1))
+        (sym end_is)
+        (ap (λ l. response_to_lines r a 1 l end) is
+        ∙ response_to_lines-after a b 1 next_number lines answers later end refl runs)
 
-  -- the answers to lines that are not refused, followed by the output for the lines after them, are the output for all of them
-  IsOutputOfLines-after : (a b : State) (n m : ℕ) (ls ys judged : List (List ℕ)) (ended : Bool) (s : Status) (z : List ℕ) →
-      m ≡ length ls + n → Runs r a ls ys b → IsOutputOfLines r b m judged ended s z →
-      IsOutputOfLines r a n (ls ++ judged) ended s (concatenated_text ys ++ z)
-  IsOutputOfLines-after a b n m [] [] judged ended s z e same h = let here : m ≡ n = omega arith in rw (same, here) at h
-  IsOutputOfLines-after a b n m (line ∷ ls) (y ∷ ys) judged ended s z e (mid, good, step, runs) h = inl (record {
-    answer = y;
-    later_output = concatenated_text ys ++ z;
-    state_after_line = mid;
-    line_accepted = good;
-    step = step;
-    rest_satisfies_condition = IsOutputOfLines-after mid b (n + 1) m ls ys judged ended s z (omega arith) runs h;
-    output = append_assoc y (concatenated_text ys) z;
-  })
-  IsOutputOfLines-after a b n m _ _ judged ended s z e none h = absurd none
+    -- the octets within the limit that come after these lines
+    within_limit : (x more : List ℕ) → x ≡ text_of_lines lines ++ more → length (text_of_lines lines) ≤ input_limit →
+        take input_limit x ≡ text_of_lines lines ++ take (input_limit - length (text_of_lines lines)) more
+    within_limit x more split within =
+        let n = length (text_of_lines lines) in
+        let whole : n + (input_limit - n) ≡ input_limit = omega arith in
+        ap (take input_limit) split ∙ ap (λ k. take k (text_of_lines lines ++ more)) (sym whole)
+        ∙ take-append-add (text_of_lines lines) more (input_limit - n)
 
-  -- ## OutputLemmas: The output for an input, from the lines that are not refused and the way in which the input ends.
+    respond_after : (x more : List ℕ) (ended : Bool) (end : InputEnd) (front : List ℕ) (later : List (List ℕ)) →
+        x ≡ text_of_lines lines ++ more → length (text_of_lines lines) ≤ input_limit → input_end x ended ≡ end →
+        take (input_limit - length (text_of_lines lines)) more ≡ front → lines_to_process front end ≡ later →
+        response r a x ended ≡ (
+          (response_to_lines r b next_number later end).0,
+          concatenated_text answers ++ (response_to_lines r b next_number later end).1,
+        )
+    respond_after x more ended end front later split within end_is front_is is = respond_to x ended end later end_is
+        (ap (λ o. lines_to_process o end) (within_limit x more split within ∙ ap (λ o. text_of_lines lines ++ o) front_is)
+        ∙ lines_to_process-after lines front end plain ∙ ap (λ l. lines ++ l) is)
 
-  -- an input has at most one output
-  pub output_unique : OutputIsUnique r
-  output_unique det a x s s' z z' (judged, ended, j, g) (judged', ended', j', g') =
-      let (end_is, same) = AreProcessedLines-unique _ _ _ _ _ j j' in
-      IsOutputOfLines-unique det a 1 judged' ended' s s' z z' (rw (end_is, same) at g) g'
+    -- ---- the next line is refused
 
-  -- if one line that is too long is refused, every other line that is too long is refused
-  IsLineRefused-next : (b : State) (line next : List ℕ) (fault : LineFault) →
-      (next ≡ line) ⊎ ((line_limit < length line) × (line_limit < length next)) → IsLineRefused r b line fault →
-      IsLineRefused r b next fault
-  IsLineRefused-next b line next fault same bad = grind arith
+    pub respond_line : (x line after : List ℕ) (ended : Bool) (fault : LineFault) → x ≡ text_of_lines lines ++ (line ++ 10 ∷ after) →
+        IsLine line → length (text_of_lines lines ++ line) < input_limit → answer_to_line r b line ≡ Err fault →
+        response r a x ended ≡ (Some BadInput, concatenated_text answers ++ refused_text next_number fault)
+    respond_line x line after ended fault split p below bad =
+        let n = length (text_of_lines lines) in
+        let both : length (text_of_lines lines ++ line) ≡ n + length line = length-append (text_of_lines lines) line in
+        let j = input_limit - n - length line - 1 in
+        let many : input_limit - n ≡ length line + (j + 1) = omega arith in
+        let front : take (input_limit - n) (line ++ 10 ∷ after) ≡ line ++ take (j + 1) (10 ∷ after) =
+        ap (λ k. take k (line ++ 10 ∷ after)) many ∙ take-append-add line (10 ∷ after) (j + 1) in
+        respond_after x (line ++ 10 ∷ after) ended (input_end x ended) (line ++ take (j + 1) (10 ∷ after))
+        (line ∷ lines_to_process (take j after) (input_end x ended)) split (omega arith) refl front
+        (rw (add-one j, divided-line line (take j after) p) refl) ∙ rw bad refl
 
-  module _ (a b : State) (lines answers : List (List ℕ)) (runs : Runs r a lines answers b) where
-    -- the answers to lines that are not refused, followed by the output for the rest, are the output for the input
-    output_of : {x : List ℕ} (judged : List (List ℕ)) (ended : Bool) (s : Status) (text : List ℕ) →
-        AreProcessedLines x (lines ++ judged) ended →
-        IsOutputOfLines r b (length lines + 1) judged ended s text → IsOutput r a x s (concatenated_text answers ++ text)
-    output_of judged ended s text j g =
-        (lines ++ judged, ended, j, IsOutputOfLines-after _ _ 1 (length lines + 1) _ _ _ _ _ _ refl runs g)
+    pub respond_long : (x line after : List ℕ) (ended : Bool) → x ≡ text_of_lines lines ++ (line ++ after) →
+        IsLine line → length (text_of_lines lines ++ line) ≤ input_limit → line_limit < length line →
+        response r a x ended ≡ (Some BadInput, concatenated_text answers ++ refused_text next_number Long)
+    respond_long x line after ended split p below long =
+        let n = length (text_of_lines lines) in
+        let both : length (text_of_lines lines ++ line) ≡ n + length line = length-append (text_of_lines lines) line in
+        let j = input_limit - n - length line in
+        let many : input_limit - n ≡ length line + j = omega arith in
+        let front : take (input_limit - n) (line ++ after) ≡ line ++ take j after =
+        ap (λ k. take k (line ++ after)) many ∙ take-append-add line after j in
+        let (next, later, far, is) = long_first line (take j after) (input_end x ended) p long in
+        respond_after x (line ++ after) ended (input_end x ended) (line ++ take j after) (next ∷ later) split (omega arith) refl front is
+        ∙ rw (lt-ltb line_limit (length next) far) refl
 
-    -- if `InputJustifiesStatus` holds for a status and a text, the answers and this text are the prescribed output for the input
-    pub ends_output : (q rest : List ℕ) (s : Status) (text : List ℕ) → (s ≡ ReadFault → ⊥) →
-        InputJustifiesStatus r s q rest lines b text →
-        IsOutput r a (q ++ rest) s (concatenated_text answers ++ text)
-    ends_output q rest Done text _ (whole, good, none) = output_of [] true Done text (lines_read whole) (inl (good, refl, none))
-    ends_output q rest BadInput text _ (fault, inl (line, n, bad), text_is) =
-        let (next, judged, ended, j, same) = lines_next n in
-        output_of (next ∷ judged) ended BadInput text j
-        (inr (record { fault = fault; refused = IsLineRefused-next _ _ _ _ same bad; is_bad_input = refl; output = text_is }))
-    ends_output q rest BadInput text _ (fault, inr (whole, reason), text_is) = output_of [] true BadInput text (lines_read whole)
-        (inr (record { fault = fault; refused = reason; is_bad_input = refl; output = text_is }))
-    ends_output q rest TooLong text _ ((counted, past, line, is_over, part), none) = output_of [] false TooLong text (record {
-      octets = counted;
-      lines = lines;
-      last = line;
-      in_limit = (
-        past ++ rest,
-        record {
-          octets_split = rw (is_over.octets_split, append_assoc);
-          count = is_over.count;
-          nonempty = omega (arith, is_over.nonempty, length-append past rest);
-        },
-      );
-      begins = part.begins;
-      no_line_feed = part.no_line_feed;
-      last_line_processed_or_not = inl (append-nil lines, part.in_limit);
-    }) (refl, none)
-    ends_output q rest ReadFault text unlike _ = absurd (unlike refl)
-    ends_output q rest s text _ none = absurd none
+    -- ---- the octets after these lines have no line feed
 
-  -- ## OutputExists: If every line that is not refused has an answer, every input has an output. The proof is by induction over the
-  -- processed lines.
+    respond_rest : (x last : List ℕ) (ended : Bool) (end : InputEnd) → x ≡ text_of_lines lines ++ last → IsLine last →
+        length x ≤ input_limit → input_end x ended ≡ end →
+        response r a x ended ≡ (
+          (response_to_lines r b next_number (last_line last end) end).0,
+          concatenated_text answers ++ (response_to_lines r b next_number (last_line last end) end).1,
+        )
+    respond_rest x last ended end split p within end_is =
+        let size : length x ≡ length (text_of_lines lines) + length last = ap length split ∙ length-append (text_of_lines lines) last in
+        respond_after x last ended end last (last_line last end) split (omega arith) end_is
+        (take_all (input_limit - length (text_of_lines lines)) last (omega arith)) (lines_to_process-last last end p)
 
-  option_cases : {A : Type 0} (o : Option A) → (o ≡ None) ⊎ ((v : A) × (o ≡ Some v))
-  option_cases None = inl refl
-  option_cases (Some v) = inr (v, refl)
+    pub respond_last : (x line : List ℕ) (fault : LineFault) → x ≡ text_of_lines lines ++ line → IsLine line → 0 < length line →
+        length x ≤ input_limit → answer_to_line r b line ≡ Err fault →
+        response r a x true ≡ (Some BadInput, concatenated_text answers ++ refused_text next_number fault)
+    respond_last x [] fault split p some within bad = absurd (omega arith)
+    respond_last x (o ∷ line) fault split p some within bad =
+        respond_rest x (o ∷ line) true Ended split p within (rw (le-ltb input_limit (length x) within) refl) ∙ rw bad refl
 
-  -- every list of processed lines has an output
-  gives_some : (a : State) → AnswersEveryAcceptedLine r a → (n : ℕ) (judged : List (List ℕ)) (ended : Bool) →
-      All IsLine judged →
-      (s : Status) × (z : List ℕ) × IsOutputOfLines r a n judged ended s z
-  gives_some a total n [] true plain = elim (option_cases (r.end_fault a)) [
-    | inl none ↦ (Done, [], inl (none, refl, refl))
-    | inr (fault, e) ↦ (BadInput, _, inr (record { fault = fault; refused = e; is_bad_input = refl; output = refl }))
+    pub respond_open : (x held : List ℕ) → x ≡ text_of_lines lines ++ held → IsLine held → length held ≤ line_limit →
+        length x ≤ input_limit → response r a x false ≡ (None, concatenated_text answers)
+    respond_open x held split p short within =
+        respond_rest x held false Open split p within (rw (le-ltb input_limit (length x) within) refl)
+        ∙ rw (short_last held short, append-nil) refl
+
+    pub respond_over : (x held excess : List ℕ) (ended : Bool) → x ≡ text_of_lines lines ++ (held ++ excess) → IsLine held →
+        length held ≤ line_limit → length (text_of_lines lines ++ held) ≡ input_limit → 0 < length excess →
+        response r a x ended ≡ (Some TooLong, concatenated_text answers)
+    respond_over x held excess ended split p short full some =
+        let n = length (text_of_lines lines) in
+        let both : length (text_of_lines lines ++ held) ≡ n + length held = length-append (text_of_lines lines) held in
+        let size : length x ≡ n + length (held ++ excess) = ap length split ∙ length-append (text_of_lines lines) (held ++ excess) in
+        let over : input_limit < length x = omega (arith, length-append held excess) in
+        respond_after x (held ++ excess) ended Exceeded held [] split (omega arith) (rw (lt-ltb input_limit (length x) over) refl)
+        (take_at held excess (input_limit - n) (omega arith))
+        (lines_to_process-last held Exceeded p ∙ short_last_exceeded held short) ∙ rw append-nil refl
+
+    -- ---- these lines are the whole input
+
+    whole_input : (x : List ℕ) → IsDividedIntoLines x lines → length x ≤ input_limit →
+        lines_to_process (take input_limit x) Ended ≡ lines ++ []
+    whole_input x all within =
+        ap (λ o. lines_to_process o Ended) (take_all input_limit x within) ∙ elim all.octets_split [
+          | inl whole ↦ ap (λ o. lines_to_process o Ended) (whole ∙ sym (append-nil (text_of_lines lines)))
+              ∙ lines_to_process-after lines [] Ended plain
+          | inr cut ↦
+              let (front_plain, last_plain) = All-front lines cut.front cut.last plain cut.lines_split in
+              ap (λ o. lines_to_process o Ended) cut.octets_split ∙ lines_to_process-after cut.front cut.last Ended front_plain
+              ∙ ap (λ l. cut.front ++ l) (lines_to_process-last cut.last Ended last_plain ∙ some_last cut.last cut.nonempty)
+              ∙ sym cut.lines_split ∙ sym (append-nil lines)
+        ]
+
+    pub respond_end : (x : List ℕ) → IsDividedIntoLines x lines → length x ≤ input_limit →
+        response r a x true ≡ (
+          (response_at_end next_number (r.end_fault b) Ended).0,
+          concatenated_text answers ++ (response_at_end next_number (r.end_fault b) Ended).1,
+        )
+    respond_end x all within = respond_to x true Ended [] (rw (le-ltb input_limit (length x) within) refl)
+        (whole_input x all within)
+
+    -- ---- the lines that the response answers begin with these
+
+    pub first_processed : (x more : List ℕ) (ended : Bool) → x ≡ text_of_lines lines ++ more → length (text_of_lines lines) ≤ input_limit →
+        (later : List (List ℕ)) × (processed_lines x ended ≡ lines ++ later)
+    unfolding processed_lines
+    first_processed x more ended split within =
+        let rest = take (input_limit - length (text_of_lines lines)) more in (
+          lines_to_process rest (input_end x ended),
+          ap (λ o. lines_to_process o (input_end x ended)) (within_limit x more split within)
+              ∙ lines_to_process-after lines rest (input_end x ended) plain,
+        )
+
+    pub all_processed : (x : List ℕ) → IsDividedIntoLines x lines → length x ≤ input_limit →
+        (later : List (List ℕ)) × (processed_lines x true ≡ lines ++ later)
+    unfolding processed_lines
+    all_processed x all within =
+        let end_is : input_end x true ≡ Ended = rw (le-ltb input_limit (length x) within) refl in
+        ([], ap (λ e. lines_to_process (take input_limit x) e) end_is ∙ whole_input x all within)
+
+    -- the response begins with the answers to the first lines
+    pub begins_with_answers : (x more : List ℕ) (ended : Bool) → x ≡ text_of_lines lines ++ more →
+        length (text_of_lines lines) ≤ input_limit → IsPrefixOf (concatenated_text answers) (response r a x ended).1
+    begins_with_answers x more ended split within =
+        (_, ap (λ (z : Option Status × List ℕ). z.1) (respond_after x more ended (input_end x ended) _ _ split within refl refl refl))
+
+    pub begins_with_all_answers : (x : List ℕ) → IsDividedIntoLines x lines → length x ≤ input_limit →
+        IsPrefixOf (concatenated_text answers) (response r a x true).1
+    begins_with_all_answers x all within = (_, ap (λ (z : Option Status × List ℕ). z.1) (respond_end x all within))
+
+  -- ## Extending: The response to octets does not change when more octets come; it is only continued.
+
+  continued : (a : State) (n : ℕ) (lines : List (List ℕ)) (last more : List ℕ) (end : InputEnd) → IsLine last →
+      Continues (response_to_lines r a n (lines ++ last_line last Open) Open)
+      (response_to_lines r a n (lines ++ lines_to_process (last ++ more) end) end)
+  continued a n [] last more end plain = elim (cases_lt line_limit (length last)) [
+    | inl long ↦
+        let (next, later, far, is) = long_first last more end plain long in
+        rw (long_last last Open long, is, lt-ltb line_limit (length last) long, lt-ltb line_limit (length next) far) refl
+    | inr short ↦ rw (short_last last short) (_, refl)
   ]
-  gives_some a total n [] false plain = (TooLong, [], (refl, refl))
-  gives_some a total n (line ∷ judged) ended plain = elim (cases_lt line_limit (length line)) [
-    | inl long ↦ stops Long (inl (long, refl))
-    | inr short ↦ elim (option_cases (r.fault a line)) [
-      | inl none ↦
-          let good : IsLineAccepted r a line = record { in_limit = short; no_fault = none } in
-          let (answer, mid, step) = total [] [] a refl line (All-head IsLine line judged plain) good in
-          let (s, z, g) = gives_some mid (λ lines answers c runs. total (line ∷ lines) (answer ∷ answers) c (mid, good, step, runs))
-          (n + 1) judged ended (All-tail IsLine line judged plain) in (
-            s,
-            answer ++ z,
-            inl (record {
-              answer = answer;
-              later_output = z;
-              state_after_line = mid;
-              line_accepted = good;
-              step = step;
-              rest_satisfies_condition = g;
-              output = refl;
-            }),
-          )
-      | inr (fault, e) ↦ stops fault (inr (short, e))
-    ]
-  ]
+  continued a n (line ∷ lines) last more end plain =
+      go (λ b. continued b (n + 1) lines last more end plain) (answer_to_line r a line)
     where
-      stops : (fault : LineFault) → IsLineRefused r a line fault →
-          (s : Status) × (z : List ℕ) × IsOutputOfLines r a n (line ∷ judged) ended s z
-      stops fault bad = (BadInput, _, inr (record { fault = fault; refused = bad; is_bad_input = refl; output = refl }))
+      go : ((b : State) → Continues (response_to_lines r b (n + 1) (lines ++ last_line last Open) Open)
+          (response_to_lines r b (n + 1) (lines ++ lines_to_process (last ++ more) end) end)) → (answer : Result (List ℕ × State) LineFault) →
+          Continues (response_from_answer n (λ b. response_to_lines r b (n + 1) (lines ++ last_line last Open) Open) answer)
+          (response_from_answer n (λ b. response_to_lines r b (n + 1) (lines ++ lines_to_process (last ++ more) end) end) answer)
+      go later (Ok next) = Continues-answer next.0 _ _ (later next.1)
+      go later (Err fault) = refl
 
-  pub law_command_output_exists : OutputExists r
-  law_command_output_exists a x total =
-      let (judged, ended, j) = lines_after {lines = []} x (begins_with (All-nil IsLine) refl) (omega arith) in
-      let (status, z, g) = gives_some a total 1 judged ended (processed_are_lines _ _ _ j) in
-      (status, z, (judged, ended, j, g))
+  same_when_over : (a : State) (o o' : List ℕ) (e e' : InputEnd) → o' ≡ o → e ≡ Exceeded → e' ≡ Exceeded →
+      Continues (response_to_lines r a 1 (lines_to_process o e) e) (response_to_lines r a 1 (lines_to_process o' e') e')
+  same_when_over a o o' e e' same is is' =
+      rw (same, is, is') (Continues-refl (response_to_lines r a 1 (lines_to_process o Exceeded) Exceeded))
 
-  -- if a command has exactly one answer to every line that it does not refuse, every input has exactly one output
-  pub has_one_output : (a : State) → AnswersEveryAcceptedLine r a → IsDeterministic r → HasOneOutput r a
-  has_one_output a total det = record {
-    output_exists = λ x. law_command_output_exists a x total;
-    output_is_unique = output_unique det a;
-  }
+  pub response-continues : (a : State) (x more : List ℕ) (ended : Bool) →
+      Continues (response r a x false) (response r a (x ++ more) ended)
+  unfolding response
+  response-continues a x more ended = elim (cases_lt input_limit (length x)) [
+    | inl over ↦
+        let over' : input_limit < length (x ++ more) = omega (arith, length-append x more) in
+        same_when_over a (take input_limit x) (take input_limit (x ++ more)) _ _ (take-append-le input_limit x more (omega arith))
+        (over_end x false over) (over_end (x ++ more) ended over')
+    | inr short ↦
+        let (ls, last, all, p, x_is) = divide x in
+        let j = input_limit - length x in
+        let many : input_limit ≡ length x + j = omega arith in
+        let more_is : take input_limit (x ++ more) ≡ x ++ take j more =
+        ap (λ k. take k (x ++ more)) many ∙ take-append-add x more j in
+        let end = input_end (x ++ more) ended in
+        let now : lines_to_process (take input_limit x) Open ≡ ls ++ last_line last Open =
+        ap (λ o. lines_to_process o Open) (take_all input_limit x short ∙ x_is)
+        ∙ lines_to_process-after ls last Open all ∙ ap (λ l. ls ++ l) (lines_to_process-last last Open p) in
+        let later : lines_to_process (take input_limit (x ++ more)) end ≡ ls ++ lines_to_process (last ++ take j more) end =
+        ap (λ o. lines_to_process o end) (more_is ∙ ap (λ o. o ++ take j more) x_is ∙ append_assoc (text_of_lines ls) last (take j more))
+        ∙ lines_to_process-after ls (last ++ take j more) end all in
+        subst (λ e. Continues (response_to_lines r a 1 (lines_to_process (take input_limit x) e) e)
+        (response_to_lines r a 1 (lines_to_process (take input_limit (x ++ more)) end) end))
+        (sym (open_end x short))
+        (subst (λ l. Continues (response_to_lines r a 1 (lines_to_process (take input_limit x) Open) Open) (response_to_lines r a 1 l end))
+        (sym later) (subst (λ l. Continues (response_to_lines r a 1 l Open) (response_to_lines r a 1 (ls ++ lines_to_process
+        (last ++ take j more) end) end)) (sym now) (continued a 1 ls last (take j more) end p)))
+  ]
 
--- ## GoodInputs: If no line of an input is refused and it may end, its output consists of the answers to all its lines.
+-- a line that is answered is answered by the step of the rules
+pub step_of_answer : {State : Type 0} (r : Rules State) (a : State) (line : List ℕ) (next : List ℕ × State) →
+    answer_to_line r a line ≡ Ok next → r.step a line ≡ Ok next
+step_of_answer r a line next is = elim (cases_lt line_limit (length line)) [
+  | inl long ↦ absurd (cc (rw (lt-ltb line_limit (length line) long) at is))
+  | inr short ↦ rw (le-ltb line_limit (length line) short) at is
+]
 
--- the input x is within the limit, none of its lines is refused, it may end after the last line, and y is the text of the answers
-pub record IsGoodInput {State : Type 0} (r : Rules State) (a : State) (x y : List ℕ) : Type 0 where
-  pub lines : List (List ℕ)
-  pub answers : List (List ℕ)
-  pub state : State
-  pub all : IsDividedIntoLines x lines
-  pub limit : length x ≤ input_limit
-  pub runs : Runs r a lines answers state
-  pub end_good : r.end_fault state ≡ None
-  pub output : y ≡ concatenated_text answers
+-- an answer that is computed from the meaning of a line has such a meaning
+pub meaning_of_answer : {Meaning Answer : Type 0} (answer : Meaning → Answer) (parsed : Result Meaning LineFault) (given : Answer) →
+    answer_to_meaning answer parsed ≡ Ok given → (meaning : Meaning) × (parsed ≡ Ok meaning) × (given ≡ answer meaning)
+meaning_of_answer answer (Ok meaning) given is = (meaning, refl, grind arith)
+meaning_of_answer answer (Err fault) given is = absurd (cc is)
 
-divided_processed : (x : List ℕ) (judged : List (List ℕ)) → AreProcessedLines x judged true → IsDividedIntoLines x judged
-divided_processed x judged j = record {
-  no_line_feed = processed_are_lines _ _ _ j;
-  octets_split = elim j.last_line_processed_or_not [
-    | inl (e, none) ↦ inl (j.in_limit.0 ∙ j.begins.octets_split ∙ rw (none, append-nil, e))
-    | inr (e, some) ↦ inr (record {
-      front = j.lines;
-      last = j.last;
-      lines_split = e;
-      octets_split = j.in_limit.0 ∙ j.begins.octets_split;
-      nonempty = some;
-    })
-  ];
-}
+-- ## Projecting: Rules whose states are those of other rules with something added give the same answers.
 
-module _ {State : Type 0} (r : Rules State) where
-  -- if the status is `Done`, no processed line is refused
-  all_run : (a : State) (n : ℕ) (judged : List (List ℕ)) (ended : Bool) (z : List ℕ) → IsOutputOfLines r a n judged ended Done z →
-      (answers : List (List ℕ)) × (b : State) × Runs r a judged answers b × (r.end_fault b ≡ None) × (ended ≡ true)
-      × (z ≡ concatenated_text answers)
-  all_run a n [] true z (inl (good, _, none)) = ([], a, refl, good, refl, none)
-  all_run a n [] true z (inr stop) = cc
-  all_run a n [] false z (e, _) = cc e
-  all_run a n (line ∷ judged) ended z (inl g) =
-      let (answers, b, runs, good, e, z_is) = all_run g.state_after_line (n + 1) judged _ _ g.rest_satisfies_condition in
-      (g.answer ∷ answers, b, (g.state_after_line, g.line_accepted, g.step, runs), good, e, cc (g.output, z_is))
-  all_run a n (line ∷ judged) ended z (inr stop) = cc
+abbrev pub projected : {S T : Type 0} (f : S → T) → Result (List ℕ × S) LineFault → Result (List ℕ × T) LineFault
+projected f (Ok next) = Ok (next.0, f next.1)
+projected f (Err fault) = Err fault
 
-  pub good_from_output : (a : State) (x z : List ℕ) → IsOutput r a x Done z → IsGoodInput r a x z
-  good_from_output a x z (judged, ended, j, g) =
-      let (answers, b, runs, good, e, z_is) = all_run a 1 judged ended z g in
-      let k = rw e at j in
-      record {
-        lines = judged;
-        answers = answers;
-        state = b;
-        all = divided_processed x judged k;
-        limit = k.in_limit.1;
-        runs = runs;
-        end_good = good;
-        output = z_is;
-      }
-
-  pub output_from_good : (a : State) (x z : List ℕ) → IsGoodInput r a x z → IsOutput r a x Done z
-  output_from_good a x z h =
-      rw h.output (rw append-nil at (output_of r a _ _ _ h.runs {x = x} [] true Done []
-      (rw append-nil (lines_whole h.all h.limit)) (inl (h.end_good, refl, refl))))
-
--- ## StatelessRules: A command without a state that answers a line according to its meaning has one output for every input, because every
--- line either has one meaning or is refused.
-
-module _ {Meaning : Type 0} (fault : List ℕ → Option LineFault) (Means : List ℕ → Meaning → Type 0)
-    (IsAnswer : Meaning → List ℕ → Type 0) where
-  abbrev rules : Rules (Unit {0})
-  rules = stateless fault (λ line answer. (m : Meaning) × Means line m × IsAnswer m answer)
-
-  module _ (meanings : (line : List ℕ) → HasOneMeaningOrFault (fault line) (Means line))
-      (same_answer : (m : Meaning) (y y' : List ℕ) → IsAnswer m y → IsAnswer m y' → y ≡ y') where
-    pub stateless_is_determined : IsDeterministic rules
-    stateless_is_determined a line y y' b b' (m, means, answer) (m', means', answer') =
-        let same = same_meaning (Means line) (fault line) (meanings line) m m' means means' in
-        (same_answer m' y y' (rw same at answer) answer', refl)
-
-    pub stateless_has_one_output : ((line : List ℕ) (m : Meaning) → Means line m → (answer : List ℕ) × IsAnswer m answer) →
-        HasOneOutput rules tt
-    stateless_has_one_output some_answer = has_one_output rules tt (λ lines answers b runs line plain good.
-        let (m, means) = good_meaning (Means line) (fault line) (meanings line) good.no_fault in
-        let (answer, answer_is) = some_answer line m means in
-        (answer, tt, (m, means, answer_is))) stateless_is_determined
-
--- ## Weaker: A run that follows one set of rules also follows every weaker set of rules.
-
--- the rules r' are weaker than r: `f` maps states of r to states of r', the same lines are refused, and each step of r is a step of r'
-pub record IsWeakerBy {S T : Type 0} (f : S → T) (r : Rules S) (r' : Rules T) : Type 0 where
-  pub fault : (a : S) (line : List ℕ) → r'.fault (f a) line ≡ r.fault a line
+-- `f` maps states of r to states of r', and keeps all answers and faults
+pub record IsProjectedBy {S T : Type 0} (f : S → T) (r : Rules S) (r' : Rules T) : Type 0 where
+  pub step : (a : S) (line : List ℕ) → r'.step (f a) line ≡ projected f (r.step a line)
   pub end_fault : (a : S) → r'.end_fault (f a) ≡ r.end_fault a
-  pub step : (a b : S) (line answer : List ℕ) → r.Step a line answer b → r'.Step (f a) line answer (f b)
 
-module _ {S T : Type 0} (f : S → T) (r : Rules S) (r' : Rules T) (w : IsWeakerBy f r r') where
+module _ {S T : Type 0} (f : S → T) (r : Rules S) (r' : Rules T) (w : IsProjectedBy f r r') where
+  answer_by : (a : S) (line : List ℕ) (answer : Result (List ℕ × S) LineFault) → answer_to_line r a line ≡ answer →
+      answer_to_line r' (f a) line ≡ projected f answer
+  answer_by a line answer e = elim (cases_lt line_limit (length line)) [
+    | inl long ↦ rw (lt-ltb line_limit (length line) long, ← e) (rw (lt-ltb line_limit (length line) long) refl)
+    | inr short ↦ rw (le-ltb line_limit (length line) short, ← e, w.step a line) (rw (le-ltb line_limit (length line) short) refl)
+  ]
+
   pub runs_by : (a b : S) (lines answers : List (List ℕ)) → Runs r a lines answers b → Runs r' (f a) lines answers (f b)
   runs_by a b [] [] h = ap f h
-  runs_by a b (line ∷ lines) (y ∷ ys) (mid, g, step, h) = (
-    f mid,
-    record { in_limit = g.in_limit; no_fault = w.fault a line ∙ g.no_fault },
-    w.step a mid line y step,
-    runs_by mid b lines ys h,
-  )
+  runs_by a b (line ∷ lines) (y ∷ ys) (mid, step, h) = (f mid, answer_by a line _ step, runs_by mid b lines ys h)
   runs_by a b _ _ none = absurd none
 
-  module _ (q rest : List ℕ) (lines : List (List ℕ)) (b : S) where
-    ends : (status : Status) (text : List ℕ) → InputJustifiesStatus r status q rest lines b text →
-        InputJustifiesStatus r' status q rest lines (f b)
-        text
-    ends Done text h = rw w.end_fault h
-    ends BadInput text h = simp (w.fault, w.end_fault) h
-    ends _ text h = h
+  response_by : (a : S) (number : ℕ) (lines : List (List ℕ)) (end : InputEnd) →
+      response_to_lines r' (f a) number lines end ≡ response_to_lines r a number lines end
+  response_by a n [] end = rw (w.end_fault a) refl
+  response_by a n (line ∷ lines) end = go (answer_to_line r a line) refl (λ b. response_by b (n + 1) lines end)
+    where
+      go : (answer : Result (List ℕ × S) LineFault) → answer_to_line r a line ≡ answer →
+          ((b : S) → response_to_lines r' (f b) (n + 1) lines end ≡ response_to_lines r b (n + 1) lines end) →
+          response_to_lines r' (f a) n (line ∷ lines) end ≡ response_to_lines r a n (line ∷ lines) end
+      go (Ok next) e later = rw (answer_by a line (Ok next) e, e, later next.1) refl
+      go (Err fault) e later = rw (answer_by a line (Err fault) e, e) refl
 
-    table_row : (status : Status) (y : List ℕ) (answers further : List (List ℕ)) →
-        RunEndsWithStatus r status q rest y lines answers further b → RunEndsWithStatus r' status q rest y lines answers further (f b)
-    table_row WriteFault y answers further (inl front) = inl front
-    table_row WriteFault y answers further (inr (due, text, part, h, none, front, e)) =
-        inr (due, text, part, ends due text h, none, front, e)
-    table_row NoMemory y answers further h = h
-    table_row BadWords y answers further none = none
-    table_row s y answers further h = (h.0, ends s h.0 h.1, h.2, h.3)
+  whole_response_by : (a : S) (octets : List ℕ) (ended : Bool) → response r' (f a) octets ended ≡ response r a octets ended
+  unfolding response
+  whole_response_by a octets ended =
+      response_by a 1 (lines_to_process (take input_limit octets) (input_end octets ended)) (input_end octets ended)
 
-  module _ (a : S) (Represents : S → Type 0) (Stands' : T → Type 0) (then : (b : S) → Represents b →
-      Stands' (f b)) (status : Status)
-      (left left' taken taken' : Option (List ℕ)) (h : IsRun r a Represents status left left' taken taken') where
-    -- a run that follows the rules r also follows the weaker rules r'; `f` maps its states to states of r'
-    pub weaker_run_by : IsRun r' (f a) Stands' status left left' taken taken'
-    weaker_run_by = record {
-      input_read = h.input_read;
-      unread = h.unread;
-      output = h.output;
-      lines = h.lines;
-      answers = h.answers;
-      state = f h.state;
-      unwritten_lines = h.unwritten_lines;
-      unwritten_answers = h.unwritten_answers;
-      last = f h.last;
-      read = h.read;
-      written = h.written;
-      read_bound = h.read_bound;
-      first_lines = h.first_lines;
-      runs = runs_by _ _ _ _ h.runs;
-      unwritten_lines_answered = runs_by _ _ _ _ h.unwritten_lines_answered;
-      represents = then h.last h.represents;
-      answers_at_least_partly_written = h.answers_at_least_partly_written;
-      reads_little_ahead = h.reads_little_ahead;
-      ends_with_status =
-          table_row _ _ _ _ status _ _ _ h.ends_with_status;
-    }
+  -- a run by the rules r is a run by the rules r'
+  pub run_by : (a : S) (Represents : S → Type 0) (Stands : T → Type 0) →
+      ((b : S) (lines answers : List (List ℕ)) → Runs r a lines answers b → Represents b → Stands (f b)) → (status : Status) →
+      (left left' taken taken' : Option (List ℕ)) → IsRun r a Represents status left left' taken taken' →
+      IsRun r' (f a) Stands status left left' taken taken'
+  run_by a Represents Stands implies status left left' taken taken' h = record {
+    input_read = h.input_read;
+    unread = h.unread;
+    output = h.output;
+    ended = h.ended;
+    read = h.read;
+    nothing_left = h.nothing_left;
+    written = h.written;
+    read_bound = h.read_bound;
+    ends_with_status = rw (whole_response_by a h.input_read h.ended) h.ends_with_status;
+    reads_little_ahead = let ahead = h.reads_little_ahead in record {
+      lines = ahead.lines;
+      answers = ahead.answers;
+      state = f ahead.state;
+      partial_line = ahead.partial_line;
+      runs = runs_by a ahead.state ahead.lines ahead.answers ahead.runs;
+      begins = ahead.begins;
+      is_prefix = ahead.is_prefix;
+      reads_little_ahead = ahead.reads_little_ahead;
+    };
+    lines = h.lines;
+    answers = h.answers;
+    state = f h.state;
+    first_lines = h.first_lines;
+    runs = runs_by a h.state h.lines h.answers h.runs;
+    represents = implies h.state h.lines h.answers h.runs h.represents;
+    refusal = h.refusal;
+    is_refusal = h.is_refusal;
+    answers_begun = h.answers_begun;
+  }
 
-    -- as a run by the weaker rules, the run reaches the state that `f` gives for its original state
-    pub weaker_run_state : weaker_run_by.state ≡ f h.state
-    unfolding weaker_run_by
-    weaker_run_state = refl
-
--- the rules r' are weaker than r and have the same states
-abbrev pub IsWeaker : {State : Type 0} → Rules State → Rules State → Type 0
-IsWeaker {State} r r' = IsWeakerBy (λ (a : State). a) r r'
-
-pub as_weak : {State : Type 0} (r : Rules State) → IsWeaker r r
-as_weak r = record { fault = λ a line. refl; end_fault = λ a. refl; step = λ a b line answer step. step }
-
-pub weaker_run : {State : Type 0} (r r' : Rules State) → IsWeaker r r' → (a : State) (Represents Stands' : State → Type 0) →
-    ((b : State) → Represents b → Stands' b) → (status : Status) (left left' taken taken' : Option (List ℕ)) →
-    IsRun r a Represents status left left' taken taken' → IsRun r' a Stands' status left left' taken taken'
-weaker_run {State} = weaker_run_by (λ (a : State). a)
-
--- ## Reaching: Lemmas about which answers a run has written at least in part.
-
--- a prefix of two joined lists is a prefix of the first, or the first followed by a prefix of the second
-pub prefix_of_joined : (u more c p : List ℕ) → u ++ more ≡ c ++ p →
-    IsPrefixOf u c ⊎ ((w : List ℕ) × IsPrefixOf w p × (u ≡ c ++ w))
-prefix_of_joined [] more c p e = inl (c, refl)
-prefix_of_joined (o ∷ u) more [] p e = inr (o ∷ u, (more, sym e), refl)
-prefix_of_joined (o ∷ u) more (i ∷ c) p e = elim (prefix_of_joined u more c p (cc e)) [
-  | inl (part, c_is) ↦ inl (part, cc (e, c_is))
-  | inr (part, p_is, u_is) ↦ inr (part, p_is, cc (e, u_is))
-]
-
-started_after : (answer y part : List ℕ) → y ≡ answer ++ part → (first_part : List (List ℕ)) →
-    AllAnswersAtLeastPartlyWritten part first_part → IsPrefixOf part (concatenated_text first_part) →
-    AllAnswersAtLeastPartlyWritten y (answer ∷ first_part) × IsPrefixOf y (answer ++ concatenated_text first_part)
-started_after answer y part e first_part (inl (w, f)) (more, front) =
-    (inl (w, rw (e, f, append_assoc)), (more, rw (front, e, append_assoc)))
-started_after answer y part e first_part (inr last) (more, front) = (
-  inr (record {
-    earlier_answers = answer ∷ last.earlier_answers;
-    answer = last.answer;
-    written_part = last.written_part;
-    answers_split = ap (λ l. answer ∷ l) last.answers_split;
-    is_prefix = last.is_prefix;
-    nonempty = last.nonempty;
-    output_split = rw (e, last.output_split, append_assoc);
-  }),
-  (more, rw (front, e, append_assoc)),
-)
-
--- the answers of which y contains at least one octet are a prefix of all answers; y ends within the last of them or directly after it
-pub reach : (answers : List (List ℕ)) (y more : List ℕ) → concatenated_text answers ≡ y ++ more →
-    (first_part second_part : List (List ℕ)) × (answers ≡ first_part ++ second_part) × AllAnswersAtLeastPartlyWritten y first_part
-    × IsPrefixOf y (concatenated_text first_part)
-reach answers [] more e = ([], answers, refl, inl ([], refl), ([], refl))
-reach [] (o ∷ y) more e = absurd (cc e)
-reach (answer ∷ answers) (o ∷ y) more e = elim (prefix_of_joined (o ∷ y) _ answer _ (sym e)) [
-  | inl (part, answer_is) ↦ (
-    answer ∷ [],
-    answers,
-    refl,
-    inr (record {
-      earlier_answers = [];
-      answer = answer;
-      written_part = o ∷ y;
-      answers_split = refl;
-      is_prefix = (part, answer_is);
-      nonempty = omega arith;
-      output_split = refl;
-    }),
-    (part, append-nil answer ∙ answer_is),
-  )
-  | inr (part, (more', rest_is), y_is) ↦
-      let (first_part, second_part, split, reached, front) = reach answers part more' rest_is in
-      let (started, front') = started_after answer _ _ y_is _ reached front in
-      (answer ∷ first_part, second_part, cc split, started, front')
-]
+  -- a run that ends as the rules r prescribe ends as the rules r' prescribe
+  pub prescribed_by : (a : S) (status : Status) (left taken taken' : Option (List ℕ)) → EndsAsPrescribed r a status left taken taken' →
+      EndsAsPrescribed r' (f a) status left taken taken'
+  prescribed_by a status None taken taken' h = tt
+  prescribed_by a status (Some x) taken taken' h = rw (whole_response_by a x true) h

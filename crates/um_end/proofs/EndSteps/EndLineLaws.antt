@@ -1,7 +1,7 @@
 -- The line forms of `end`, derived from those of a script and of `replay`: a line that begins with an endpoint of this side is a line of a
 -- script, and every other line is a burst.
 use Rattle.{
-  std.proofs.{Common.{◌==◌, not, ◌&&◌, ◌||◌, option_map}, lemmas.{Bool.{cases_Bool, le-ltb}, Slice.Eq.bytes_eq-Decides}},
+  std.proofs.{Common.{◌==◌, not, ◌&&◌, ◌||◌, option_map, Ok, Err}, lemmas.{Bool.{cases_Bool, le-ltb}, Slice.Eq.bytes_eq-Decides}},
   std.specs.Str.bytes_eq,
   um_link.specs.Naming.spec_event_of,
   um_lines.{
@@ -17,7 +17,7 @@ use Rattle.{
       Meanings.HasOneMeaningOrFault,
       Reading.LineParsesTo,
     },
-    proofs.FormLaws.{line_means, one_meaning, one_made, line_by_forms, no_fault_if_meant},
+    proofs.FormLaws.{line_means, one_meaning, one_made, line_by_forms, no_fault_if_meant, parsed_meaning, parsed_means},
   },
   um_formats.specs.{declared.burst_lines.BurstLine.BurstLine, BurstLines.{burst_line_of_meaning, burst_line_fault, BurstLineMeans}},
   um_formats.proofs.Lemmas.{one_burst_meaning as one_burst, AreSoft, hard, soft, lost},
@@ -25,7 +25,7 @@ use Rattle.{
   um_end.specs.{
     declared.lines.EndCommandLine.EndCommandLine,
     EndLines.{Nothing, TakesBurst, Calls, meaning_of_parsed_line, TerminalCanCarryOutLine, call_line_forms, meaning_of_burst_line},
-    EndLines.{meaning_of_script_event, meaning_of_end_command_line, end_command_line_fault, names_endpoint_of_side},
+    EndLines.{meaning_of_script_event, meaning_of_end_command_line, end_command_line, end_command_line_fault, names_endpoint_of_side},
     EndLines.{call_line_fault_inside_block, burst_line_fault_in_end_command},
   },
 }
@@ -191,6 +191,28 @@ end_one_meaning Network held line =
     one_made meaning_of_end_command_line _ _
     (one_meaning (end_command_line_forms network_call_line_forms) (is_end_command_line_out_of_order held) line refl)
 
+pub end_command_line_meaning : (role : Role) (held : ℕ) (line : List ℕ) (meaning : EndCommandLineMeaning) →
+    EndCommandLineMeans role held line meaning → end_command_line role held line ≡ Ok meaning
+unfolding end_command_line
+end_command_line_meaning Mobile held line meaning means =
+    parsed_meaning (end_command_line_forms mobile_call_line_forms) (is_end_command_line_out_of_order held) meaning_of_end_command_line line
+    meaning refl means
+end_command_line_meaning Network held line meaning means =
+    parsed_meaning (end_command_line_forms network_call_line_forms) (is_end_command_line_out_of_order held) meaning_of_end_command_line line
+    meaning refl means
+
+pub end_command_line_means : (role : Role) (held : ℕ) (line : List ℕ) (meaning : EndCommandLineMeaning) →
+    end_command_line role held line ≡ Ok meaning → EndCommandLineMeans role held line meaning
+unfolding end_command_line
+end_command_line_means role held line meaning is =
+    parsed_means (end_command_line_forms (call_line_forms role)) (is_end_command_line_out_of_order held) meaning_of_end_command_line line
+    meaning is
+
+pub end_command_line_refused : (role : Role) (held : ℕ) (line : List ℕ) (fault : LineFault) →
+    end_command_line_fault role held line ≡ Some fault → end_command_line role held line ≡ Err fault
+unfolding end_command_line
+end_command_line_refused role held line fault bad = rw bad refl
+
 module _ (role : Role) (held : ℕ) (line : List ℕ) (short : length line ≤ 4096) (kept : is_skipped_line line ≡ false) where
   abbrev own_forms : LineForms EndCommandLineKind
   own_forms = end_command_line_forms (call_line_forms role)
@@ -277,6 +299,11 @@ line-possible Network held line meaning means =
     & (λ count values here none. (refl, tt)) & (λ count values here (m, rest, is, known, none). rw is (refl, known.2))
     & (λ count values here (m, rest, is, known, none). rw is (refl, known.2)) & (λ count values here none. (refl, tt))
     & (λ count values here none. (refl, tt)) & (λ count values here none. (refl, tt)) & tt) line meaning means
+
+pub burst_of_line : (role : Role) (held : ℕ) (line : List ℕ) (soft : List ℤ) → end_command_line role held line ≡ Ok (TakesBurst soft) →
+    length soft ≡ 148
+burst_of_line role held line soft is =
+    (line-possible role held line (TakesBurst soft) (end_command_line_means role held line (TakesBurst soft) is)).0
 
 pub line_is_possible : (role : Role) (held : ℕ) (line : List ℕ) (read : EndCommandLine) →
     EndCommandLineMeans role held line (meaning_of_parsed_line read)

@@ -1,4 +1,4 @@
-use Rattle.{std.proofs.Common.{◌≡◌, fold, take}, fire_code.proofs.Lemmas.shifted}
+use Rattle.{std.proofs.Common.{◌≡◌, fold, take}, fire_code.specs.Crcs.shifted}
 use Rattle.fire_code.proofs.division.remainder.Given as goal
 
 -- the register holds the result of shifting in all bits read so far

@@ -1,7 +1,7 @@
 use Rattle.{
   std.proofs.Common.arith,
   conv_code.proofs.Lemmas.AllBits-coded,
-  um_block.proofs.ReceivedBursts.{one_access_burst, IsEncoderInput-joined},
+  um_block.proofs.ReceivedBursts.{sent_access-only, one_access_burst, IsEncoderInput-joined},
 }
 use Rattle.um_block.proofs.sending.send_access.Goals as goal
 
@@ -33,3 +33,6 @@ returns-clause-sent c =
 
 pub returns-clause-only : goal.returns-clause-only
 returns-clause-only c other h = one_access_burst c.args.info.now c.args.bsic.now other _ h (returns-clause-sent c)
+
+pub returns-clause-value : goal.returns-clause-value
+returns-clause-value c = sent_access-only c.args.info.now c.args.bsic.now _ (returns-clause-sent c)

@@ -2,7 +2,7 @@ use Rattle.{
   std.proofs.Common.{[], List, ℕ, map, take, drop, ap},
   interleave.proofs.Lemmas.some_spread,
   burst_map.specs.NormalBurst.normal_burst,
-  um_block.proofs.ReceivedBursts.{one_sent_block, sent_block_bits, four, coded_block_bits},
+  um_block.proofs.ReceivedBursts.{sent_block-only, one_sent_block, sent_block_bits, four, coded_block_bits},
 }
 use Rattle.um_block.proofs.sending.send_block.Goals as goal
 
@@ -33,3 +33,6 @@ returns-clause-only c other h = one_sent_block c.args.octets.now c.args.tsc othe
 
 pub returns-clause-bits : goal.returns-clause-bits
 returns-clause-bits c b d h = ((sent_block_bits c.args.octets.now c.args.tsc _ (returns-clause-sent c)).1 b d h).each
+
+pub returns-clause-value : goal.returns-clause-value
+returns-clause-value c = sent_block-only c.args.octets.now c.args.tsc _ (returns-clause-sent c)

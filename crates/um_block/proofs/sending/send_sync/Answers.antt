@@ -2,7 +2,7 @@ use Rattle.{
   std.proofs.{Common.arith, lemmas.List.Elements.{All-take, All-drop}},
   bit_blocks.specs.Bits.{IsBit, AllBits},
   conv_code.proofs.Lemmas.AllBits-coded,
-  um_block.proofs.ReceivedBursts.{one_sync_burst, IsEncoderInput-joined},
+  um_block.proofs.ReceivedBursts.{sent_sync-only, one_sync_burst, IsEncoderInput-joined},
 }
 use Rattle.um_block.proofs.sending.send_sync.Goals as goal
 
@@ -38,3 +38,6 @@ returns-clause-sent c = record {
 
 pub returns-clause-only : goal.returns-clause-only
 returns-clause-only c other h = one_sync_burst c.args.info.now other _ h (returns-clause-sent c)
+
+pub returns-clause-value : goal.returns-clause-value
+returns-clause-value c = sent_sync-only c.args.info.now _ (returns-clause-sent c)

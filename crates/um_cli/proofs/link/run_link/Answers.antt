@@ -1,12 +1,11 @@
 use Rattle.{
   std.proofs.Common.{◌≡◌, ap, sym, ◌∙◌},
   um_session.{specs.Courses.RadioCounters, proofs.Lemmas.{IsLinkCommandRun-no_memory, IsLinkCommandRun-equal}},
-  um_cli.proofs.Lemmas.link-most_likely,
 }
 use Rattle.um_cli.proofs.link.run_link.Goals as goal
 
-pub returns-in-Ok-clause-session : goal.returns-in-Ok-clause-session
-returns-in-Ok-clause-session g c =
+pub returns-in-Ok-clause-run : goal.returns-in-Ok-clause-run
+returns-in-Ok-clause-run g c =
     let world_is = c.new-link.ensures.world in
     let represents = c.in-Ok.ensures in
     let left : c.radio-1.given.0 ≡ c.run_link_session.new.link.radio.now =
@@ -17,13 +16,7 @@ returns-in-Ok-clause-session g c =
     (ap (λ r. let t : RadioCounters = record { sent_blocks = g.R.Radio.sent r; received_blocks = g.R.Radio.heard r } in t)
     c.new-link.ensures.radio)
     (ap (λ r. let t : RadioCounters = record { sent_blocks = g.R.Radio.sent r; received_blocks = g.R.Radio.heard r } in t) (sym left))
-    c.run_link_session.ensures.session
+    c.run_link_session.ensures.run
 
-pub returns-in-Err-clause-session : goal.returns-in-Err-clause-session
-returns-in-Err-clause-session g c = IsLinkCommandRun-no_memory c.args.tsc c.args.channel _ _ _
-
-pub returns-in-Ok-clause-link_most_likely : goal.returns-in-Ok-clause-link_most_likely
-returns-in-Ok-clause-link_most_likely g c = link-most_likely _ _ _ _ _ _ _ _ _ (returns-in-Ok-clause-session g c)
-
-pub returns-in-Err-clause-link_most_likely : goal.returns-in-Err-clause-link_most_likely
-returns-in-Err-clause-link_most_likely g c = link-most_likely _ _ _ _ _ _ _ _ _ (returns-in-Err-clause-session g c)
+pub returns-in-Err-clause-run : goal.returns-in-Err-clause-run
+returns-in-Err-clause-run g c = IsLinkCommandRun-no_memory c.args.tsc c.args.channel _ _ _

@@ -1,6 +1,7 @@
 -- A step reports at most one acknowledgement, followed by at most one other notice, so the lines of an answer fit in the output buffer.
 use Rattle.{
-  std.proofs.{Common.{◌*◌, ◌^◌, nat_eq, nat_lt, nat_abs, append-nil}, lemmas.{Bool.Decides.nat_tests, Fmt.length-decimal-le}},
+  std.proofs.{Common.{All, ◌*◌, ◌^◌, nat_eq, nat_lt, nat_abs, append-nil}, lemmas.{Bool.Decides.nat_tests, Fmt.length-decimal-le}},
+  std.proofs.lemmas.List.Elements.{All-head, All-tail},
   std.{proofs.lemmas.{Fmt.length_signed_le, List.length-map}, specs.{Int.Signed.mag, Fmt.{decimal, signed_decimal}, List.join_with_byte}},
   um_lines.{specs.{Hex.encode_lower, LineTexts.octets_word}, proofs.FormLaws.length-encode_lower},
   um_link.{
@@ -24,7 +25,7 @@ use Rattle.{
     specs.AnswerLines.{received_block_line, received_block_lines, spaced_words, answer_lines_text, ReceptionIsInRange},
     proofs.AnswerLaws.{lines_text_append, join-spaced, report_line},
   },
-  um_end.specs.Terminals.step_for_frame,
+  um_end.specs.{CallEvents.{endpoint_call_in_event, sapi_of_call_event}, Terminals.{call_answer_unless, layer3_call_step, step_for_frame}},
 }
 use Rattle.um_link.specs.lapdm_window.declared.Notice.TheVariants as N
 use Rattle.um_link.specs.lapdm_window.declared.Reason.TheVariants as R
@@ -194,12 +195,22 @@ notices_short role sapi (N.Acked k ∷ n ∷ []) h =
     omega (arith, line_short role sapi (N.Acked k) (n ∷ []), acked_short k h.0, line_short role sapi n [], notice_short n h.1)
 notices_short role sapi ns h = absurd h
 
-frames_short : (role : Role) (tsc : ℕ) (frames : List Octets) (blocks : List Block) → AreCodedBlocks tsc frames blocks →
+-- 23 octets, those of a block
+abbrev pub IsBlock : Octets → Type 0
+IsBlock octets = length octets ≡ 23
+
+frames_short : (role : Role) (frames : List Octets) → All IsBlock frames →
     length (answer_lines_text (map (L.Sends (BySide role)) frames)) ≡ 57 * length frames
-frames_short role tsc [] [] h = refl
-frames_short role tsc (f ∷ fs) (b ∷ bs) h =
-    omega (arith, length-append {A = ℕ}, who_three role, length-encode_lower f, h.0.code.count, frames_short role tsc fs bs h.1)
-frames_short role tsc fs bs h = absurd h
+frames_short role [] whole = refl
+frames_short role (f ∷ fs) whole =
+    omega (
+      arith,
+      length-append {A = ℕ},
+      who_three role,
+      length-encode_lower f,
+      All-head IsBlock f fs whole,
+      frames_short role fs (All-tail IsBlock f fs whole),
+    )
 
 mag-nat_abs : (z : ℤ) → mag z ≤ nat_abs z
 mag-nat_abs z = grind arith
@@ -252,12 +263,12 @@ lines_four : (a b c d : List AnswerLine) → length (answer_lines_text (a ++ b +
     ≡ length (answer_lines_text a) + length (answer_lines_text b) + length (answer_lines_text c) + length (answer_lines_text d)
 lines_four a b c d = rw (lines_text_append (a ++ b ++ c) d, lines_text_append (a ++ b) c, lines_text_append a b) (append_four _ _ _ _)
 
-outcome_short : (role : Role) (received : Option Received) (sapi : Sapi) (o : Outcome) (a : SideState) (tsc : ℕ) (blocks : List Block) →
+outcome_short : (role : Role) (received : Option Received) (sapi : Sapi) (o : Outcome) (a : SideState) →
     length o.frames ≤ 2 → IsAtMostAckAndOne o.notices →
     length (answer_lines_text (received_block_lines (BySide role) received)) ≤ 118 →
-    AreCodedBlocks tsc (map (octets_of Sdcch) o.frames) blocks
+    All IsBlock (map (octets_of Sdcch) o.frames)
     → IsShort (Accepts (terminal_step_of role received (endpoint_step sapi o a)))
-outcome_short role received sapi o a tsc blocks few brief arrived coded =
+outcome_short role received sapi o a few brief arrived whole =
     let frames = map (octets_of Sdcch) o.frames in
     let all = lines_four (received_block_lines (BySide role) received) (map (L.Reports (BySide role) sapi) o.notices)
     (map (L.Sends (BySide role)) frames) (L.FinalOk ∷ []) in
@@ -267,27 +278,22 @@ outcome_short role received sapi o a tsc blocks few brief arrived coded =
       few,
       arrived,
       notices_short role sapi o.notices brief,
-      frames_short role tsc frames blocks coded,
+      frames_short role frames whole,
       length-map o.frames (octets_of Sdcch),
     )
 
-asked_short : (role : Role) (a : SideState) (sapi : Sapi) (call : Call) (b : SideState) (answer : Answer) (tsc : ℕ)
-    (blocks : List Block) → EndpointAnswersCall role a sapi call b answer → AreCodedBlocks tsc (frames_in_answer answer) blocks →
-    length (answer_text answer) < 2000 → IsShort answer
-asked_short role a sapi call b (Refuses why) tsc blocks h coded lines = omega (arith, lines)
-asked_short role a sapi call b (Accepts step) tsc blocks h coded lines =
-    let o = call_outcome call (endpoint_with_sapi sapi a) in
-    rw h.2 (outcome_short role None sapi o a tsc blocks (bound-call call _).frames (notices-call call _) (omega arith) (rw h.2 at coded))
+short_unless : (role : Role) (a : SideState) (sapi : Sapi) (call : Call) (refused : Option EventRefusal) →
+    (let answer = (call_answer_unless refused role a (layer3_call_step sapi call a)).1 in
+    All IsBlock (frames_in_answer answer) → length (answer_text answer) < 2000 → IsShort answer)
+short_unless role a sapi call (Some why) whole lines = omega (arith, lines)
+short_unless role a sapi call None whole lines =
+    outcome_short role None sapi (call_outcome call (endpoint_with_sapi sapi a)) a (bound-call call _).frames (notices-call call _)
+    (omega arith) whole
 
 -- the answer to a call has fewer than 2000 octets with its burst lines (`IsShort`), if it has fewer without them
-pub call_short : (role : Role) (a : SideState) (event : Event) (b : SideState) (answer : Answer) (tsc : ℕ) (text : List ℕ) →
-    SideAnswersCall role a event b answer → IsAnswerText tsc answer text → length (answer_text answer) < 2000 → IsShort answer
-call_short role a (Open info) b answer tsc text h t lines = asked_short role a Zero (Opens info) b answer tsc _ h t.coded lines
-call_short role a (OpenBare other) b answer tsc text h t lines =
-    asked_short role a Three OpensWithoutInfo b answer tsc _ h t.coded lines
-call_short role a (Ask other sapi request) b answer tsc text h t lines =
-    asked_short role a sapi (endpoint_call_of request) b answer tsc _ h t.coded lines
-call_short role a event b answer tsc text h t lines = absurd h
+pub call_short : (role : Role) (a : SideState) (event : Event) → (let answer = (answer_to_call role a event).1 in
+    All IsBlock (frames_in_answer answer) → length (answer_text answer) < 2000 → IsShort answer)
+call_short role a event = short_unless role a (sapi_of_call_event event) (endpoint_call_in_event event) _
 
 -- an answer that sends nothing satisfies `IsShort` if its own lines have fewer than 2000 octets
 IsShort-unsent : (step : Step) → step.frames ≡ [] → length (answer_text (Accepts step)) < 2000 → IsShort (Accepts step)
@@ -297,31 +303,31 @@ at_most_251 : (c : Content) → InformationFits Sdcch c → length (information 
 at_most_251 (I ns nr p more info) h = omega (arith, h.1)
 at_most_251 other h = omega (arith, h)
 
-taken_short : (role : Role) (a : SideState) (r : Received) (f : Frame) (octets : Octets) (tsc : ℕ) (blocks : List Block) →
+taken_short : (role : Role) (a : SideState) (r : Received) (f : Frame) (octets : Octets) →
     r.accepted ≡ Some octets → IsFrameCoding Sdcch f octets → r.tsc ≤ 7 → ReceptionIsInRange (reception_quality r) →
-    AreCodedBlocks tsc (terminal_step_of role (Some r) (step_for_frame f a)).frames blocks →
+    All IsBlock (terminal_step_of role (Some r) (step_for_frame f a)).frames →
     length (answer_text (Accepts (terminal_step_of role (Some r) (step_for_frame f a)))) < 2000
     → IsShort (Accepts (terminal_step_of role (Some r) (step_for_frame f a)))
-taken_short role a r f octets tsc blocks is frame known fits =
+taken_short role a r f octets is frame known fits =
     let arrived = arrival_short role r octets is frame.count known fits in
     let room = at_most_251 f.content frame.fits.information in
-    by_sapi f a (λ d. AreCodedBlocks tsc (terminal_step_of role (Some r) d).frames blocks →
+    by_sapi f a (λ d. All IsBlock (terminal_step_of role (Some r) d).frames →
     length (answer_text (Accepts (terminal_step_of role (Some r) d))) < 2000 → IsShort (Accepts (terminal_step_of role (Some r) d)))
-    (λ q coded lines. outcome_short role (Some r) Zero (frame_outcome f a.link0) a tsc blocks (bound-frame f _).frames
-    (notices-frame f _ room) arrived coded)
-    (λ q coded lines. outcome_short role (Some r) Three (frame_outcome f a.link3) a tsc blocks (bound-frame f _).frames
-    (notices-frame f _ room) arrived coded) (λ p q coded lines. IsShort-unsent (terminal_step_of role (Some r) (no_op_step a)) refl lines)
+    (λ q whole lines. outcome_short role (Some r) Zero (frame_outcome f a.link0) a (bound-frame f _).frames
+    (notices-frame f _ room) arrived whole)
+    (λ q whole lines. outcome_short role (Some r) Three (frame_outcome f a.link3) a (bound-frame f _).frames
+    (notices-frame f _ room) arrived whole) (λ p q whole lines. IsShort-unsent (terminal_step_of role (Some r) (no_op_step a)) refl lines)
 
 -- the answer to a block, with its burst lines, has fewer than 2000 octets (`IsShort`)
-pub block_short : (role : Role) (a : SideState) (bursts : List (List ℤ)) (b : SideState) (step : Step) (tsc : ℕ) (text : List ℕ) →
+pub block_short : (role : Role) (a : SideState) (bursts : List (List ℤ)) (b : SideState) (step : Step) →
     ReceivesBursts role a bursts b step → ((r : Received) → step.received ≡ Some r → ReceptionIsInRange (reception_quality r)) →
-    IsAnswerText tsc (Accepts step) text → length (answer_text (Accepts step)) < 2000 → IsShort (Accepts step)
-block_short role a bursts b step tsc text h fits t lines = by_read h.frame h.report.accepted h.reads refl h.step_is_terminal_step
+    All IsBlock step.frames → length (answer_text (Accepts step)) < 2000 → IsShort (Accepts step)
+block_short role a bursts b step h fits whole lines = by_read h.frame h.report.accepted h.reads refl h.step_is_terminal_step
   where
     by_read : (read : Option Frame) (accepted : Option Octets) → ReadsFrame Sdcch accepted read → h.report.accepted ≡ accepted →
         step ≡ terminal_step_of role (Some h.report) (step_for_read_frame read a) → IsShort (Accepts step)
     by_read None accepted reads is same = IsShort-unsent step (ap (λ (s : Step). s.frames) same) lines
     by_read (Some f) None reads is same = absurd reads
     by_read (Some f) (Some octets) reads is same =
-        rw same (taken_short role a h.report f octets tsc t.blocks is reads h.received.tsc.in_range (fits h.report (rw same refl))
-        (rw same at t.coded) (rw same at lines))
+        rw same (taken_short role a h.report f octets is reads h.received.tsc.in_range (fits h.report (rw same refl))
+        (rw same at whole) (rw same at lines))

@@ -1,9 +1,12 @@
 -- Each round of the loop counts one more event and its answer, and the radio counts the same blocks.
 use Rattle.{
-  std.proofs.Common.{◌≡◌, ◌∙◌, ap, ℕ, ◌+◌, arith},
+  std.proofs.Common.{◌≡◌, ◌∙◌, ap, ℕ, ◌+◌, arith, subst, sym},
   um_link.specs.{um_block.Tallies.counter_plus, Naming.result_with_step, Abstraction.{sent_frame_count, blocks_received_in_step}},
-  um_make.{specs.Generated.generated_events, proofs.Lemmas.{progress-step, counters_bound, is_summary_of_events, acked_at_most_received}},
-  um_make.proofs.Lemmas.{raised_by-more, same_frame_count, same_block_count},
+  um_make.{
+    specs.{Generated.generated_events, Runs.AckedAtMostReceived, declared.summary.Summary.Summary},
+    proofs.Lemmas.{progress-start, progress-step, counters_bound, is_generated_summary, acked_at_most_received},
+    proofs.Lemmas.{raised_by-more, same_frame_count, same_block_count},
+  },
 }
 use Rattle.um_make.proofs.run.make.Goals as goal
 
@@ -11,6 +14,16 @@ pub count_step-requires : goal.count_step-requires
 count_step-requires g c =
     counters_bound c.args.tsc c.args.n c.loop-event.script c.loop-event.world c.loop-event.summary c.requires.most
     c.loop-event.invariant.underway
+
+pub loop-event-init : goal.loop-event-init
+loop-event-init g c =
+    let counts = c.new-summary.ensures.counts in
+    record {
+      underway = progress-start c.args.tsc (generated_events c.args.n) c.new-script.result c.in_ok-world.world c.new-summary.result
+          (sym c.new-script.ensures) c.in_ok-world.ensures counts c.new-summary.ensures.counters_bounded;
+      sent = ap (λ (s : Summary). counter_plus s.sent_blocks (g.R.Radio.sent c.args.radio.now)) (sym counts);
+      heard = ap (λ (s : Summary). counter_plus (s.good_blocks + s.bad_blocks) (g.R.Radio.heard c.args.radio.now)) (sym counts);
+    }
 
 pub loop-event-preserved : goal.loop-event-preserved
 loop-event-preserved g c =
@@ -34,10 +47,9 @@ loop-event-preserved g c =
 
 pub returns-clause-run : goal.returns-clause-run
 returns-clause-run g c =
-    is_summary_of_events c.args.tsc (generated_events c.args.n) c.loop-event.script c.loop-event.world c.loop-event.summary
-    c.in_default.ensures.event.0
+    is_generated_summary c.args.tsc c.args.n c.loop-event.script c.loop-event.world c.loop-event.summary c.in_default.ensures.event.0
     c.loop-event.invariant.underway
 
 pub returns-clause-delivered_messages : goal.returns-clause-delivered_messages
 returns-clause-delivered_messages g c =
-    acked_at_most_received c.args.tsc c.args.n c.loop-event.summary (returns-clause-run g c)
+    subst AckedAtMostReceived (sym (returns-clause-run g c)) (acked_at_most_received c.args.tsc c.args.n c.requires.tsc)

@@ -3,10 +3,11 @@ use Rattle.{
   std.proofs.{Common.{ap, rules, w32, FitsSigned, ◌∙◌}, lemmas.Int.to_z-of_z},
   um_block.{proofs.conv_code.Lemmas.IsMostLikely-only, specs.{bit_blocks.SoftValues.likelihood, conv_code.Code.encoding}},
 }
+use Rattle.um_margin.proofs.Lemmas.{compared_words-only}
 use Rattle.um_margin.proofs.comparison.compare_words.Goals as goal
 
-pub returns : goal.returns
-returns g c =
+pub returns-clause-compares : goal.returns-clause-compares
+returns-clause-compares g c =
     let first = c.decode-metric.ensures in
     let both = c.margin-ahead.ensures in
     let margin_fits : FitsSigned w32 c.margin-ahead.result = search rules in
@@ -22,3 +23,6 @@ returns g c =
       metric = to_z-of_z w32 c.decode-metric.result metric_fits ∙ first.value
           ∙ rw is_u (ap (λ w. likelihood c.args.soft.now (encoding w)) (IsMostLikely-only _ _ _ both.best first.best));
     }
+
+pub returns-clause-value : goal.returns-clause-value
+returns-clause-value g c = compared_words-only _ _ _ c.requires.count c.requires.at_least (returns-clause-compares g c)

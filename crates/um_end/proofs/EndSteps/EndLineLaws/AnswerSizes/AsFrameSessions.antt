@@ -104,39 +104,36 @@ module _ {a : TwoTerminals} {fs : Queues Frame} (seen : IsSeen a fs) where
         (endpoint_step event frames_then now seen_then (λ q. rw none (benign q)) (rw none says))
 
   -- a call to a side corresponds to an event of the session
-  asked_call : (side : Role) (sapi : Sapi) (call : Call) (event : Event) (e : E.Event) (links : SideState) (answer : Answer) →
-      refusal e w ≡ as_event_refusal (refusal_of call (endpoint_with_sapi sapi (side_with_role side a.sides))) →
+  asked_call : (side : Role) (sapi : Sapi) (call : Call) (event : Event) (e : E.Event) (refused : Option EventRefusal) →
+      refusal e w ≡ refused →
       (let d : S.SideStep = S.layer3_call_step sapi call (side_with_role side a.sides) in
+      let next = call_answer_unless refused side (side_with_role side a.sides) d in
       (world_after_possible_refusal None e w ≡ record w {
         ends = with_side_replaced side d.new_state a.sides;
         queues =
             with_items_appended side d.frames fs;
       })
       × (answer_log_lines e (answer_unless_refused None (event_step e a.sides)) ≡ event_log_lines event ++ notice_log_lines
-      (BySide side) d.sapi d.notices)) → KnowsBy None (λ r f. FrameFits Sdcch f) e → IsBenignEvent None e w →
-      EndpointAnswersCall side (side_with_role side a.sides) sapi call links answer →
-      IsPlayed a (state_after_step side links (frames_in_answer answer) a.queues a) (Calls side event answer) fs
-  asked_call side sapi call event e links (Refuses why) refused done known benign t = idle (rw t.1 (quiet side)) refl
-  asked_call side sapi call event e links (Accepts step) refused done known benign t =
-      let d : S.SideStep = S.layer3_call_step sapi call (side_with_role side a.sides) in
-      played e side d fs a.queues (refused ∙ t.0) done.0 known seen.written _ _ (rw (t.1, t.2) refl) (λ q. benign)
-      (rw (t.2, done.1) refl)
+      (BySide side) d.sapi d.notices) → KnowsBy None (λ r f. FrameFits Sdcch f) e → IsBenignEvent None e w →
+      IsPlayed a (state_after_step side next.0 (frames_in_answer next.1) a.queues a) (Calls side event next.1) fs)
+  asked_call side sapi call event e (Some why) is done known benign = idle (quiet side) refl
+  asked_call side sapi call event e None is done known benign =
+      played e side (S.layer3_call_step sapi call (side_with_role side a.sides)) fs a.queues is done.0 known seen.written _ _ refl
+      (λ q. benign) (rw done.1 refl)
 
   own : (side r : Role) (sapi : Sapi) (request : Request) → IsCallOfRole side (Ask r sapi request) → r ≡ side
   own side r sapi request h = grind arith
 
-  calls : (side : Role) (event : Event) (answer : Answer) (links : SideState) → IsCallOfRole side event →
-      SideAnswersCall side (side_with_role side a.sides) event links answer →
-      IsPlayed a (state_after_step side links (frames_in_answer answer) a.queues a) (Calls side event answer) fs
-  calls Mobile (Open info) answer links of t = asked_call Mobile Zero (Opens info) (Open info) (Open info) links answer refl (refl, refl) tt
-      tt t
-  calls Network (Open info) answer links of t = absurd (cc of)
-  calls side (OpenBare r) answer links of t =
-      rw of (asked_call side Three OpensWithoutInfo (OpenBare side) (OpenBare side) links answer refl (refl, refl) tt tt t)
-  calls side (Ask r sapi request) answer links of t = rw (own side r sapi request of)
-      (asked_call side sapi (endpoint_call_of request) (Ask side sapi request) (Ask side sapi request) links answer refl (refl, refl) tt
-      tt t)
-  calls side event answer links of t = absurd of
+  calls : (side : Role) (event : Event) → IsCallOfRole side event →
+      (let next = answer_to_call side (side_with_role side a.sides) event in
+      IsPlayed a (state_after_step side next.0 (frames_in_answer next.1) a.queues a) (Calls side event next.1) fs)
+  calls Mobile (Open info) of = asked_call Mobile Zero (Opens info) (Open info) (Open info) _ refl (refl, refl) tt tt
+  calls Network (Open info) of = absurd (cc of)
+  calls side (OpenBare r) of =
+      rw of (asked_call side Three OpensWithoutInfo (OpenBare side) (OpenBare side) _ refl (refl, refl) tt tt)
+  calls side (Ask r sapi request) of = rw (own side r sapi request of)
+      (asked_call side sapi (endpoint_call_of request) (Ask side sapi request) (Ask side sapi request) _ refl (refl, refl) tt tt)
+  calls side event of = absurd of
 
   -- in this module, a side receives four bursts
   module _ (side : Role) (bursts : List (List ℤ)) (step : Step) (links : SideState)
@@ -184,7 +181,7 @@ module _ {a : TwoTerminals} {fs : Queues Frame} (seen : IsSeen a fs) where
       }) (λ q. tt) refl
 
   turn-step : (turn : TerminalStep) (b : TwoTerminals) → IsTerminalStep a turn b → IsPlayed a b turn fs
-  turn-step (Calls side event answer) b t = rw t.3 (calls side event answer t.0 t.1 t.2)
+  turn-step (Calls side event answer) b t = rw (t.2, t.1) (calls side event t.0)
   turn-step (TakesBurst side bursts step) b t = rw t.2 (brought side bursts step t.0 t.1)
   turn-step (Loses sender) b t = rw t (lost sender)
 

@@ -1,0 +1,5 @@
+use Rattle.um_driver.proofs.Runs.{response-continues}
+use Rattle.um_driver.proofs.laws.law_more_octets_continue_response.Goals as goal
+
+pub returns : goal.returns
+returns g c = response-continues g.C.Command.rules
