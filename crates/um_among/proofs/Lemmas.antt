@@ -12,17 +12,16 @@ use Rattle.{
     specs.{List.{All, Contains}, Prelude.{IsNone, IsSome, MatchOption, ◌↔◌}},
   },
   um_among.specs.{
-    ListDecoding.{IsFirstCrcMatch, IsListDecodedAccess, IsListDecodedBlock, IsListDecodedSync, IsListDecoderChoice, NoCrcHolds},
-    ChannelCrcs.{AccessCrcHolds, BlockCrcHolds, SyncCrcHolds},
-    declared.reports.{ListDecodedAccess.ListDecodedAccess, ListDecodedBlock.ListDecodedBlock, ListDecodedSync.ListDecodedSync},
+    ListDecoding.{BlockCrcHolds, IsFirstCrcMatch, IsListDecodedBlock, IsListDecoderChoice, NoCrcHolds},
+    declared.reports.ListDecodedBlock.ListDecodedBlock,
   },
   um_block.{
     proofs.{burst_map.training_seq.Lemmas.one_first_greatest, conv_code.Lemmas.IsMostLikely-only, interleave.Lemmas.same_coded},
     specs.{
-      Received.{IsReceivedAccess, IsReceivedBlock, IsReceivedSync, access_soft_bits, coded_soft_bits, sync_soft_bits, wrong_training_bits},
+      Received.{IsReceivedBlock, coded_soft_bits, wrong_training_bits},
       bit_blocks.{Octets.octets_of, SoftValues.likelihood},
       conv_code.{Code.{IsEncoderInput, encoding}, Likelihood.{IsMostLikely, RanksAfter}},
-      declared.received.{Received.Received, ReceivedAccess.ReceivedAccess, ReceivedSync.ReceivedSync},
+      declared.received.Received.Received,
       interleave.Bursts.IsInterleaved,
     },
   },
@@ -170,16 +169,13 @@ module _ (CrcHolds : List ℕ → Type 0) (s : List ℤ) (most : ℕ) where
   taken_information data_of r u None h = h.1.information
   taken_information data_of r u (Some x) h = (candidate r u h.0).information
 
--- ## UniqueReports: The report is unique. If the word of rank 1 is taken, the report is that of `receive_block`, `receive_access` or
--- `receive_sync`.
+-- ## UniqueReports: The report is unique. If the word of rank 1 is taken, the report is that of `receive_block`.
 
 same_report : {R : Type 0} (make : ℕ → List ℕ → ℤ → ℕ → ℕ → Option (List ℕ) →
     R) {n n' c c' d d' : ℕ} {a a' : List ℕ} {b b' : ℤ}
     {e e' : Option (List ℕ)} → n ≡ n' → a ≡ a' → b ≡ b' → c ≡ c' → d ≡ d' → e ≡ e' →
     make n a b c d e ≡ make n' a' b' c' d' e'
 same_report make rank u metric tsc wrong accepted = cc
-
--- ---- lemmas about blocks: the report is unique, and which word is taken
 
 abbrev pub octets_if_crc_holds : List ℕ → List ℕ
 octets_if_crc_holds u = octets_of (take 184 u)
@@ -232,45 +228,6 @@ module _ (bursts : List (List ℤ)) (most : ℕ) where
       one_block_among r (record { report = alone; rank = 1 }) h (block_at_once alone some received accepted)
 
 -- ---- lemmas about access bursts: the report is unique, and which word is taken
-
-module _ (burst : List ℤ) (bsic : List ℕ) (most : ℕ) where
-  pub one_access_among : (r r' : ListDecodedAccess) → IsListDecodedAccess burst bsic most r → IsListDecodedAccess burst bsic most r' →
-      r ≡ r'
-  one_access_among r r' h g =
-      let soft = access_soft_bits burst in
-      let same = taken_once (AccessCrcHolds bsic) soft most (take 8) r.rank r'.rank r.report.u r'.report.u
-      r.report.accepted r'.report.accepted h.choice g.choice in
-      same_report (λ n a b _ d e. record { report = record { u = a; metric = b; wrong_training = d; accepted = e }; rank = n })
-      same.0 same.1 (h.metric ∙ ap (λ v. likelihood soft (encoding v)) same.1 ∙ sym g.metric)
-      (refl {a = 0}) (h.wrong_training ∙ sym g.wrong_training) same.2
-
-  pub access_at_once : (r : ReceivedAccess) → 1 ≤ most → IsReceivedAccess burst bsic r →
-      IsSome r.accepted → IsListDecodedAccess burst bsic most (record { report = r; rank = 1 })
-  access_at_once r some h accepted = record {
-    choice = taken_at_once _ _ _ (take 8) r.u _ some h.best h.accepted accepted;
-    metric = h.metric;
-    wrong_training = h.wrong_training;
-  }
-
--- ---- lemmas about synchronisation bursts: the report is unique, and which word is taken
-
-module _ (burst : List ℤ) (most : ℕ) where
-  pub one_sync_among : (r r' : ListDecodedSync) → IsListDecodedSync burst most r → IsListDecodedSync burst most r' → r ≡ r'
-  one_sync_among r r' h g =
-      let soft = sync_soft_bits burst in
-      let same = taken_once SyncCrcHolds soft most (take 25) r.rank r'.rank r.report.u r'.report.u
-      r.report.accepted r'.report.accepted h.choice g.choice in
-      same_report (λ n a b _ d e. record { report = record { u = a; metric = b; wrong_training = d; accepted = e }; rank = n })
-      same.0 same.1 (h.metric ∙ ap (λ v. likelihood soft (encoding v)) same.1 ∙ sym g.metric)
-      (refl {a = 0}) (h.wrong_training ∙ sym g.wrong_training) same.2
-
-  pub sync_at_once : (r : ReceivedSync) → 1 ≤ most → IsReceivedSync burst r → IsSome r.accepted →
-      IsListDecodedSync burst most (record { report = r; rank = 1 })
-  sync_at_once r some h accepted = record {
-    choice = taken_at_once _ _ _ (take 25) r.u _ some h.best h.accepted accepted;
-    metric = h.metric;
-    wrong_training = h.wrong_training;
-  }
 
 -- ## FirstWords: The search begins after the most likely word, whose CRC fails.
 

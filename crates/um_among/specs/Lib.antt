@@ -1,4 +1,3 @@
 pub use Rattle.list_decode.specs as list_decode
 -- The definitions that the contracts of this crate cite.
 pub mod ListDecoding
-pub mod ChannelCrcs

@@ -4,18 +4,18 @@ use Rattle.std.specs.Prelude.{ℕ, ◌≡◌, ◌≤◌, ◌+◌, ◌⊎◌, ℤ
 use Rattle.std.specs.Prelude.{Option, MatchOption}
 use Rattle.std.specs.List.{All, Contains}
 use Rattle.um_block.specs.bit_blocks.Octets.{octets_of}
-use Rattle.um_block.specs.bit_blocks.SoftValues.{likelihood, count_wrong_bits}
+use Rattle.um_block.specs.bit_blocks.SoftValues.{likelihood}
+use Rattle.um_block.specs.fire_code.Words.{IsXcchCodeword}
 use Rattle.um_block.specs.conv_code.Code.{encoding}
 use Rattle.um_block.specs.conv_code.Likelihood.{IsMostLikely}
 use Rattle.um_block.specs.interleave.Bursts.{IsInterleaved}
-use Rattle.um_block.specs.burst_map.AccessBurst as access
-use Rattle.um_block.specs.burst_map.SyncBurst as sync
 use Rattle.list_decode.specs.Ranking.{IsCandidate, IsRanked}
-use Rattle.um_block.specs.Received.{coded_soft_bits, access_soft_bits, sync_soft_bits, IsReceivedTsc, wrong_training_bits}
+use Rattle.um_block.specs.Received.{coded_soft_bits, IsReceivedTsc, wrong_training_bits}
 use Rattle.um_among.specs.declared.reports.ListDecodedBlock.{ListDecodedBlock}
-use Rattle.um_among.specs.declared.reports.ListDecodedAccess.{ListDecodedAccess}
-use Rattle.um_among.specs.declared.reports.ListDecodedSync.{ListDecodedSync}
-use Rattle.um_among.specs.ChannelCrcs.{BlockCrcHolds, AccessCrcHolds, SyncCrcHolds}
+
+-- the CRC (the Fire code bits) of a block's encoder input is correct
+abbrev pub BlockCrcHolds : List ℕ → Type 0
+BlockCrcHolds u = IsXcchCodeword (take 224 u)
 
 -- `word` is the first word in the ranking whose CRC is correct; its `rank`, counted from 1, is at most `max_words`
 pub record IsFirstCrcMatch (CrcHolds : List ℕ → Type 0) (soft : List ℤ) (max_words rank : ℕ) (word : List ℕ) : Type 0 where
@@ -54,17 +54,3 @@ pub record IsListDecodedBlock (bursts : List (List ℤ)) (max_words : ℕ) (deco
   pub metric : decoded.report.metric ≡ likelihood soft (encoding decoded.report.u)
   pub tsc : IsReceivedTsc bursts decoded.report.tsc
   pub wrong_training : decoded.report.wrong_training ≡ wrong_training_bits bursts decoded.report.tsc
-
--- `decoded` is the report of an access burst, after a search through its `max_words` most likely words with the BSIC `bsic`
-pub record IsListDecodedAccess (burst : List ℤ) (bsic : List ℕ) (max_words : ℕ) (decoded : ListDecodedAccess) : Type 0 where
-  pub choice : IsListDecoderChoice (AccessCrcHolds bsic) (take 8) (access_soft_bits burst) max_words decoded.rank decoded.report.u
-      decoded.report.accepted
-  pub metric : decoded.report.metric ≡ likelihood (access_soft_bits burst) (encoding decoded.report.u)
-  pub wrong_training : decoded.report.wrong_training ≡ count_wrong_bits (access.training burst) access.access_sequence
-
--- `decoded` is the report of a synchronisation burst, after a search through its `max_words` most likely words
-pub record IsListDecodedSync (burst : List ℤ) (max_words : ℕ) (decoded : ListDecodedSync) : Type 0 where
-  pub choice : IsListDecoderChoice SyncCrcHolds (take 25) (sync_soft_bits burst) max_words decoded.rank decoded.report.u
-      decoded.report.accepted
-  pub metric : decoded.report.metric ≡ likelihood (sync_soft_bits burst) (encoding decoded.report.u)
-  pub wrong_training : decoded.report.wrong_training ≡ count_wrong_bits (sync.training burst) sync.sync_sequence

@@ -6,10 +6,8 @@ ghost use Rattle.um_block.specs.conv_code.Likelihood.{IsMostLikely, RanksAfter, 
 ghost use Rattle.um_block.specs.interleave.Bursts.{IsInterleaved};
 ghost use Rattle.list_decode.specs.Ranking.{IsCandidate};
 ghost use Rattle.um_block.specs.Received.{IsReceivedBlock, coded_soft_bits};
-ghost use Rattle.um_among.specs.ListDecoding.{IsBlockChoice, IsListDecodedBlock, NoCrcHolds};
-ghost use Rattle.um_among.specs.ChannelCrcs.{BlockCrcHolds};
+ghost use Rattle.um_among.specs.ListDecoding.{BlockCrcHolds, IsBlockChoice, IsListDecodedBlock, NoCrcHolds};
 
-use crate::crc::ChannelCrc;
 use crate::reports::ListDecodedBlock;
 use crate::search::first_crc_match;
 use list_decode::MAX_RANK;
@@ -82,7 +80,7 @@ pub fn receive_later_among(
 {
     let mut u = [0; ENCODER_INPUT_BITS];
     u.copy_from_slice(first.u.as_slice());
-    let Some(found) = first_crc_match(&ChannelCrc::Block, soft, first.metric, max_rank, &mut u)
+    let Some(found) = first_crc_match(soft, first.metric, max_rank, &mut u)
     else {
         return ListDecodedBlock {
             report: *first,

@@ -10,8 +10,7 @@ ghost use Rattle.um_block.specs.interleave.Bursts.{IsInterleaved};
 ghost use Rattle.um_among.specs.list_decode.Ranking.{IsCandidate};
 ghost use Rattle.um_block.specs.declared.received.Received.{Received as ReceivedOf};
 ghost use Rattle.um_block.specs.Received.{IsReceivedBlock, coded_soft_bits};
-ghost use Rattle.um_among.specs.ListDecoding.{NoCrcHolds};
-ghost use Rattle.um_among.specs.ChannelCrcs.{BlockCrcHolds};
+ghost use Rattle.um_among.specs.ListDecoding.{BlockCrcHolds, NoCrcHolds};
 ghost use Rattle.um_c.specs.Reports.{IsBlockReport, IsListDecodedReport, ReportsBlock};
 
 use crate::soft::are_soft_bursts;

@@ -1,29 +1,13 @@
-//! Blocks and bursts decoded with a list of words, tested on values computed by hand.
+//! Blocks decoded with a list of words, tested on values computed by hand.
 use crate::blocks::{are_soft, soften_burst};
 use std::process::Abort;
-use um_among::{
-    ListDecodedAccess, ListDecodedBlock, ListDecodedSync, receive_access_among,
-    receive_block_among, receive_sync_among,
-};
-use um_block::{
-    BLOCK_OCTETS, BURST_BITS, Bits, Received, ReceivedAccess, ReceivedSync, send_block,
-};
+use um_among::{ListDecodedBlock, receive_block_among};
+use um_block::{BLOCK_OCTETS, BURST_BITS, Bits, Received, send_block};
 
 fn decode_block(rt: &impl Abort, bursts: &[[i8; BURST_BITS]; 4], most: u32) -> ListDecodedBlock {
     let all_soft = bursts.iter().all(|burst| are_soft(burst));
     assert!(rt; all_soft && most >= 1 && most <= 64);
     receive_block_among(bursts, most)
-}
-
-fn decode_access(rt: &impl Abort, burst: &[i8; 88], bsic: [u8; 6], most: u32) -> ListDecodedAccess {
-    let are_bits = bsic.iter().all(|bit| *bit <= 1);
-    assert!(rt; are_soft(burst) && are_bits && most >= 1 && most <= 64);
-    receive_access_among(burst, &Bits::from_array(bsic), most)
-}
-
-fn decode_sync(rt: &impl Abort, burst: &[i8; BURST_BITS], most: u32) -> ListDecodedSync {
-    assert!(rt; are_soft(burst) && most >= 1 && most <= 64);
-    receive_sync_among(burst, most)
 }
 
 // Checks all of the report of a block sent with training sequence code 7 but its encoder input.
@@ -78,55 +62,4 @@ fn a_lost_block_stays_lost(rt: HostRuntime) {
         accepted: None,
     };
     assert_eq!(rt; lost, ListDecodedBlock { report, rank: 1 });
-}
-
-// Checks the report of an access burst without any received bit.
-fn check_lost_access(
-    rt: &impl Abort,
-    found: ListDecodedAccess,
-    u: Bits<18>,
-    accepted: Option<Bits<8>>,
-    rank: u32,
-) {
-    let report = ReceivedAccess {
-        u,
-        metric: 0,
-        wrong_training: 41,
-        accepted,
-    };
-    assert_eq!(rt; found, ListDecodedAccess { report, rank });
-}
-
-// All words are equally likely, so the first 64 have the information bits 0 and all values of the six CRC bits in ascending order. The CRC
-// of zeros is the inverted BSIC, so the BSIC determines the rank.
-#[test]
-fn a_lost_access_burst_matches_each_bsic(rt: HostRuntime) {
-    for (bsic, rank) in [
-        ([1, 1, 1, 1, 1, 1], 1),
-        ([1, 1, 1, 1, 1, 0], 2),
-        ([1, 1, 1, 1, 0, 0], 4),
-        ([0, 1, 1, 1, 1, 1], 33),
-        ([0, 0, 0, 0, 0, 0], 64),
-    ] {
-        let found = decode_access(&rt, &[0; 88], bsic, 64);
-        let mut u = Bits::zero();
-        for (k, bit) in bsic.iter().enumerate() {
-            u.set(8 + k, 1 - *bit);
-        }
-        check_lost_access(&rt, found, u, Some(Bits::zero()), rank);
-    }
-    let missed = decode_access(&rt, &[0; 88], [0; 6], 63);
-    check_lost_access(&rt, missed, Bits::zero(), None, 1);
-}
-
-#[test]
-fn a_lost_synchronisation_burst_stays_lost(rt: HostRuntime) {
-    let lost = decode_sync(&rt, &[0; BURST_BITS], 64);
-    let report = ReceivedSync {
-        u: Bits::zero(),
-        metric: 0,
-        wrong_training: 64,
-        accepted: None,
-    };
-    assert_eq!(rt; lost, ListDecodedSync { report, rank: 1 });
 }

@@ -1,6 +1,6 @@
 use Rattle.{
   um_among.{
-    specs.ChannelCrcs.BlockCrcHolds,
+    specs.ListDecoding.BlockCrcHolds,
     proofs.Lemmas.{one_block_among, block_best, block_none, block_information, block_first, taken_first, taken_of_one, octets_if_crc_holds},
   },
 }

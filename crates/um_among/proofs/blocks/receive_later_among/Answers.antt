@@ -1,7 +1,7 @@
 use Rattle.{
   std.proofs.{Common.{rules, refl, sym, ◌∙◌, ap, subst, w32, FitsSigned}, lemmas.Int.to_z-of_z},
   um_block.specs.conv_code.{Code.encoding, Likelihood.{IsMostLikely, likelihood}},
-  um_among.{specs.ChannelCrcs.BlockCrcHolds, proofs.Lemmas.{never, octets_if_crc_holds, taken_none, taken_found}},
+  um_among.{specs.ListDecoding.BlockCrcHolds, proofs.Lemmas.{never, octets_if_crc_holds, taken_none, taken_found}},
 }
 use Rattle.um_among.proofs.blocks.receive_later_among.Goals as goal
 

@@ -1,7 +1,7 @@
 use Rattle.{
   std.{proofs.Common.{◌≡◌, length}, specs.List.All},
   list_decode.specs.Ranking.IsRanked,
-  um_among.specs.ChannelCrcs.CrcHolds,
+  um_among.specs.ListDecoding.BlockCrcHolds,
 }
 use Rattle.um_among.proofs.search.first_crc_match.Given as goal
 
@@ -9,4 +9,4 @@ use Rattle.um_among.proofs.search.first_crc_match.Given as goal
 abbrev pub invariant-loop-tried : goal.invariant-loop-tried
 invariant-loop-tried l =
     (l.ranked.soft ≡ l.soft) × (length l.ranked.returned ≡ l.tried) × IsRanked l.soft l.ranked.returned
-    × All (λ v. ¬ CrcHolds l.crc v) l.ranked.returned
+    × All (λ v. ¬ BlockCrcHolds v) l.ranked.returned

@@ -1,4 +1,4 @@
-use Rattle.um_among.specs.ChannelCrcs.{BlockCrcHolds}
+use Rattle.um_among.specs.ListDecoding.{BlockCrcHolds}
 use Rattle.um_among.proofs.Lemmas.{block_first_word, octets_if_crc_holds, taken_information}
 use Rattle.um_erasing.proofs.blocks.receive_later_erasing.Goals as goal
 
