@@ -9,7 +9,8 @@ use Rattle.lapdm_end.specs.lapdm_window.Calls.{Opens, OpensWithoutInfo, Sends, S
 use Rattle.lapdm_link.specs.Queues.{queue_of}
 use Rattle.lapdm_link.specs.Claims.{LogLine, Asked, Notified, Claims}
 use Rattle.lapdm_datalink.specs.Links.{first_frame}
-use Rattle.lapdm_datalink.specs.Runs.{RunState, RunEvent, Calls, Slot, UnitSlot, Arrives, initial_run, after_event, run_log}
+use Rattle.lapdm_datalink.specs.Runs.{RunState, RunEvent, Calls, Slot, UnitSlot, Arrives, initial_run, after_event, IsRun}
+use Rattle.lapdm_datalink.specs.Runs.{run_log}
 
 -- an event, or the arrival of the oldest frame in transit
 data Move : Type 0 where
@@ -43,9 +44,24 @@ opened = Asked Mobile Zero (Opens (1 ∷ [])) ∷ Notified Network Zero (N.Opene
 
 -- ---- the first I frame is lost: T200 of two slots expires, and the frame is repeated
 
-repeated : notified (opening ++ Happens (Calls Mobile Zero (Sends (5 ∷ []))) ∷ Happens (Slot Mobile)
-    ∷ Happens (Arrives Mobile None) ∷ Happens (Slot Mobile) ∷ exchange) ≡ opened ++ Asked Mobile Zero (Sends (5 ∷ []))
-    ∷ Notified Network Zero (N.Got (5 ∷ [])) ∷ Notified Mobile Zero (N.Acked 1) ∷ []
+abbrev losing : List Move
+losing = opening ++ Happens (Calls Mobile Zero (Sends (5 ∷ []))) ∷ Happens (Slot Mobile) ∷ Happens (Arrives Mobile None)
+    ∷ Happens (Slot Mobile) ∷ exchange
+
+is_run : IsRun (played losing start) start
+is_run = (
+  (tt, (refl, refl), refl),
+  (
+    tt,
+    (
+      (refl, refl),
+      (tt, ((refl, refl), ((tt, tt, refl), (tt, ((tt, tt), (tt, (tt, ((refl, refl), (tt, ((refl, refl), tt)))))))))),
+    ),
+  ),
+)
+
+repeated : notified losing ≡ opened ++ Asked Mobile Zero (Sends (5 ∷ [])) ∷ Notified Network Zero (N.Got (5 ∷ []))
+    ∷ Notified Mobile Zero (N.Acked 1) ∷ []
 repeated = refl
 
 -- ---- a UI frame in a free slot
