@@ -1,5 +1,5 @@
 // Tests what um.d.ts allows and forbids, without the library of a browser: compiled by tsc, never run.
-import { End, Frame, load, NOTICES, Refused, REFUSALS, Side, softFromBits, Um } from "um-gsm";
+import { End, Frame, load, NOTICES, Refused, REFUSALS, Side, softFromBits, Um, VERSION } from "um-gsm";
 
 const use = async (): Promise<void> => {
   const um: Um = await load("um.wasm");
@@ -17,7 +17,7 @@ const use = async (): Promise<void> => {
     else if (notice.kind !== "oversize") notice.message.fill(0);
   }
   const { span } = um.repair(new Uint8Array(224)) ?? { span: 0 };
-  const refusal = new Refused("full", `${span} ${end.variables.vs}`);
+  const refusal = new Refused("full", `${span} ${end.variables.vs} ${um.version() === VERSION}`);
   const facts: boolean[] = [refusal.reason === "full", um.endFromBytes(end.toBytes()).timerRuns];
   facts.push(um.receiveSync(new Int8Array(148)).word.length > 0);
   facts.push((await load(new Uint8Array(8))) === um, REFUSALS.includes("notidle"), NOTICES.includes("closed"));
