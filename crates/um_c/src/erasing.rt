@@ -9,10 +9,8 @@ ghost use Rattle.um_c.specs.SlotCalls.{IsErasingReport};
 use crate::blocks::{BlockReport, block_report_of};
 use crate::soft::are_soft_bursts;
 use um_among::MAX_RANK;
-use um_block::{BURST_BITS, CODED_BITS, deinterleave_block};
-use um_erasing::{
-    FirstReport, detect_training, receive_first, receive_later_erasing, without_burst,
-};
+use um_block::{BURST_BITS, CODED_BITS, Received, deinterleave_block};
+use um_erasing::{detect_training, receive_first, receive_later_erasing, without_burst};
 
 /// The index of an erased burst if none was erased.
 const NO_BURST: u8 = 4;
@@ -77,18 +75,19 @@ pub(crate) fn write_erasing_report(
     ensures { IsErasingReport bursts.now most erasures rank.new report.new erasure.new }
 {
     let soft = deinterleave_block(bursts);
-    let first = receive_first(bursts, &soft);
-    match first.report.accepted {
+    let mut wrong_training = [0; 4];
+    let first = receive_first(bursts, &soft, &mut wrong_training);
+    match first.accepted {
         Some(_) => {
-            *report = block_report_of(bursts, &soft, &first.report);
+            *report = block_report_of(bursts, &soft, &first);
             *rank = 1;
             *erasure = Erasure {
                 erased: NO_BURST,
-                wrong_training: first.wrong_training,
+                wrong_training,
             };
         }
         None => {
-            let later = later_report_of(bursts, &soft, &first, most, erasures);
+            let later = later_report_of(bursts, &soft, &first, wrong_training, most, erasures);
             *report = later.report;
             *rank = later.rank;
             *erasure = later.erasure;
@@ -101,23 +100,24 @@ pub(crate) fn write_erasing_report(
 fn later_report_of(
     bursts: &[[i8; BURST_BITS]; 4],
     soft: &[i8; CODED_BITS],
-    first: &FirstReport,
+    first: &Received,
+    wrong_training: [u8; 4],
     most: u32,
     erasures: u8,
 ) -> ErasingReport
     requires bursts { All AllSoftBits bursts.now }
     requires soft { AllSoftBits soft.now }
     requires deinterleaved { IsInterleaved soft.now (map coded_soft_bits bursts.now) }
-    requires first { IsReceivedBlock bursts.now first.now.report }
-    requires refused { first.now.report.accepted ≡ None }
-    requires wrong { first.now.wrong_training ≡ wrong_training_of_bursts bursts.now first.now.report.tsc }
-    requires few { All (λ wrong. wrong ≤ 26) first.now.wrong_training }
+    requires first { IsReceivedBlock bursts.now first.now }
+    requires refused { first.now.accepted ≡ None }
+    requires wrong { wrong_training ≡ wrong_training_of_bursts bursts.now first.now.tsc }
+    requires few { All (λ wrong. wrong ≤ 26) wrong_training }
     requires at_least { 1 ≤ most }
     requires at_most { most ≤ MAX_RANK }
     requires erasures { erasures ≤ 4 }
     ensures { IsErasingReport bursts.now most erasures result.rank result.report result.erasure }
 {
-    let decoded = receive_later_erasing(bursts, soft, first, most, erasures);
+    let decoded = receive_later_erasing(bursts, soft, first, wrong_training, most, erasures);
     match decoded.erased {
         None => ErasingReport {
             report: block_report_of(bursts, soft, &decoded.block.report),

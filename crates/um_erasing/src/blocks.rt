@@ -24,15 +24,6 @@ pub struct ErasingDecodedBlock {
     pub wrong_training: [u8; 4],
 }
 
-/// The report of the most likely word of a block, and how far each burst is to be trusted.
-#[derive(Clone, Copy, PartialEq, Eq, Debug)]
-pub struct FirstReport {
-    /// The report, as `receive_block` returns it.
-    pub report: Received,
-    /// For each burst, the number of soft bits, 0 to 26, that disagree with the training sequence of the block.
-    pub wrong_training: [u8; 4],
-}
-
 /// A block that was accepted with one burst erased.
 #[derive(Clone, Copy)]
 pub(crate) struct ErasedBlock {
@@ -72,38 +63,41 @@ fn receive_deinterleaved_erasing(
     requires at_most { max_rank ≤ MAX_RANK }
     ensures received { IsErasingDecodedBlock bursts.now max_rank erasures result }
 {
-    let first = receive_first(bursts, soft);
-    match first.report.accepted {
+    let mut wrong_training = [0; 4];
+    let first = receive_first(bursts, soft, &mut wrong_training);
+    match first.accepted {
         Some(_) => ErasingDecodedBlock {
             block: ListDecodedBlock {
-                report: first.report,
+                report: first,
                 rank: 1,
             },
             erased: None,
-            wrong_training: first.wrong_training,
+            wrong_training,
         },
-        None => receive_later_erasing(bursts, soft, &first, max_rank, erasures),
+        None => receive_later_erasing(bursts, soft, &first, wrong_training, max_rank, erasures),
     }
 }
 
-/// Decodes a deinterleaved block to its most likely word, and counts the wrong training bits of each burst.
+/// Decodes a deinterleaved block to its most likely word, and writes the number of wrong training bits of each burst.
 #[inline(always)]
-pub fn receive_first(bursts: &[[i8; BURST_BITS]; 4], soft: &[i8; CODED_BITS]) -> FirstReport
+pub fn receive_first(
+    bursts: &[[i8; BURST_BITS]; 4],
+    soft: &[i8; CODED_BITS],
+    wrong_training: &mut [u8; 4],
+) -> Received
     requires soft { AllSoftBits soft.now }
     requires deinterleaved { IsInterleaved soft.now (map coded_soft_bits bursts.now) }
-    ensures received { IsReceivedBlock bursts.now result.report }
-    ensures wrong { result.wrong_training ≡ wrong_training_of_bursts bursts.now result.report.tsc }
-    ensures few { All (λ wrong. wrong ≤ 26) result.wrong_training }
+    ensures received { IsReceivedBlock bursts.now result }
+    ensures wrong { wrong_training.new ≡ wrong_training_of_bursts bursts.now result.tsc }
+    ensures few { All (λ wrong. wrong ≤ 26) wrong_training.new }
 {
     let TrainingErrors { tsc, wrong } = detect_training(bursts);
     let wrong_in_block = u32::from(wrong[0])
         + u32::from(wrong[1])
         + u32::from(wrong[2])
         + u32::from(wrong[3]);
-    FirstReport {
-        report: receive_detected(soft, tsc, wrong_in_block),
-        wrong_training: wrong,
-    }
+    *wrong_training = wrong;
+    receive_detected(soft, tsc, wrong_in_block)
 }
 
 /// Receives a block as `receive_block_erasing` does after `first`, the report of the most likely word, whose CRC is wrong.
@@ -111,25 +105,25 @@ pub fn receive_first(bursts: &[[i8; BURST_BITS]; 4], soft: &[i8; CODED_BITS]) ->
 pub fn receive_later_erasing(
     bursts: &[[i8; BURST_BITS]; 4],
     soft: &[i8; CODED_BITS],
-    first: &FirstReport,
+    first: &Received,
+    wrong_training: [u8; 4],
     max_rank: u32,
     erasures: u8,
 ) -> ErasingDecodedBlock
     requires bursts { All AllSoftBits bursts.now }
     requires soft { AllSoftBits soft.now }
     requires deinterleaved { IsInterleaved soft.now (map coded_soft_bits bursts.now) }
-    requires first { IsReceivedBlock bursts.now first.now.report }
-    requires refused { first.now.report.accepted ≡ None }
-    requires wrong { first.now.wrong_training ≡ wrong_training_of_bursts bursts.now first.now.report.tsc }
-    requires few { All (λ wrong. wrong ≤ 26) first.now.wrong_training }
+    requires first { IsReceivedBlock bursts.now first.now }
+    requires refused { first.now.accepted ≡ None }
+    requires wrong { wrong_training ≡ wrong_training_of_bursts bursts.now first.now.tsc }
+    requires few { All (λ wrong. wrong ≤ 26) wrong_training }
     requires at_least { 1 ≤ max_rank }
     requires at_most { max_rank ≤ MAX_RANK }
     ensures received { IsErasingDecodedBlock bursts.now max_rank erasures result }
     ensures information { IsEncoderInput result.block.report.u }
     ensures erased { IfSome result.erased (λ index. index < 4) }
 {
-    let block = receive_later_among(soft, &first.report, max_rank);
-    let wrong_training = first.wrong_training;
+    let block = receive_later_among(soft, first, max_rank);
     if block.report.accepted.is_some() {
         return ErasingDecodedBlock {
             block,

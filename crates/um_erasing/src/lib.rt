@@ -5,8 +5,7 @@ mod blocks;
 mod training;
 
 pub use blocks::{
-    ErasingDecodedBlock, FirstReport, receive_block_erasing, receive_first, receive_later_erasing,
-    without_burst,
+    ErasingDecodedBlock, receive_block_erasing, receive_first, receive_later_erasing, without_burst,
 };
 pub use training::{TrainingErrors, detect_training};
 pub use um_among::{ListDecodedBlock, MAX_RANK};

@@ -6,14 +6,15 @@ use Rattle.um_c.proofs.erasing.write_erasing_report.Goals as goal
 pub returns-in-Some : goal.returns-in-Some
 returns-in-Some c =
     let first = c.receive_first-first.result in
-    let some : IsSome first.report.accepted = rw c.in-Some.is refl in
+    let wrong = c.receive_first-first.new.wrong_training in
+    let some : IsSome first.accepted = rw c.in-Some.is refl in
     record {
       received = record {
-        block = record { report = first.report; rank = 1 };
+        block = record { report = first; rank = 1 };
         erased = None;
-        wrong_training = first.wrong_training;
+        wrong_training = wrong;
       };
-      is_received = accepted_at_once c.args.bursts.now c.args.most c.args.erasures first.report first.wrong_training
+      is_received = accepted_at_once c.args.bursts.now c.args.most c.args.erasures first wrong
           c.requires.at_least c.receive_first-first.ensures.received c.receive_first-first.ensures.wrong some;
       soft = c.deinterleave_block-soft.result;
       deinterleaved = c.deinterleave_block-soft.ensures.deinterleaved;
