@@ -1,2 +1,4 @@
 mod Lemmas
 mod Answering
+pub mod ProgressSteps
+pub mod Worked

@@ -5,3 +5,5 @@ pub mod Abstraction
 pub mod Sides
 pub mod Parts
 pub mod Slots
+pub mod Channels
+pub mod Progress
