@@ -1,12 +1,13 @@
 -- What one link of SAPI 0 does when a frame arrives, when layer 3 makes a call, and in its slot: its counts, and what its frames say.
 use Rattle.std.specs.Prelude.{◌≡◌, ℕ, ◌+◌, ◌-◌, ◌%◌, ◌≤◌, Bool, true, false, ◌||◌, ◌⊎◌, if◌then◌else◌, nat_eq, length, Option, Some, None}
-use Rattle.std.specs.Prelude.{IfSome, List}
-use Rattle.std.proofs.Common.{inl, inr, arith, refl, length-append}
+use Rattle.std.specs.Prelude.{IfSome, List, [], ◌∷◌}
+use Rattle.std.proofs.Common.{inl, inr, arith, refl, ap, ◌∙◌, length-append}
 use Rattle.lapdm_frame.specs.Content.{Content, I, Frame}
 use Rattle.lapdm_end.specs.lapdm_window.declared.Sapi.TheVariants.{Zero}
 use Rattle.lapdm_end.specs.lapdm_window.declared.State.TheVariants.{Idle, Opening, Open, Closing, Closed}
 use Rattle.lapdm_end.specs.lapdm_window.segmenting.Segments.{Segment}
-use Rattle.lapdm_end.specs.lapdm_window.Ends.{EndpointState, vr, vs, va}
+use Rattle.lapdm_end.specs.lapdm_window.Ends.{EndpointState, Outcome, vr, vs, va, awaits_ack}
+use Rattle.lapdm_end.specs.lapdm_window.Rules.{takes_i_frame}
 use Rattle.lapdm_end.specs.lapdm_window.Tables.{
   Reply,
   Nothing,
@@ -22,7 +23,7 @@ use Rattle.lapdm_end.specs.lapdm_window.Tables.{
   TakesRej,
   outcome_of_reply,
 }
-use Rattle.lapdm_datalink.specs.Links.{LinkState, with_outcome, after_frame, after_slot, after_call, slot_outcome, is_awaiting_kind}
+use Rattle.lapdm_datalink.specs.Links.{LinkState, with_outcome, with_frame, with_frames, after_frame, after_slot, after_call, slot_outcome, is_awaiting_kind}
 use Rattle.lapdm_datalink.specs.Slots.{nr_in, nr_of}
 
 -- ---- counts
@@ -80,26 +81,167 @@ pub record Takes (r : Reply) (l m : LinkState) : Type 0 where
   pub by_ns : (accepted m ≡ accepted l) ⊎ ((ns_taken r ≡ Some (vr l.endpoint)) × (accepted m ≡ accepted l + 1))
   pub owed : IfSome m.answer (IsAnswerOf m)
 
-abbrev taken : (r : Reply) (l : LinkState) → LinkState
+abbrev pub taken : (r : Reply) (l : LinkState) → LinkState
 taken r l = with_outcome (outcome_of_reply r l.endpoint) l
 
+-- a received REJ counts as an RR, so it is never the reply
+abbrev pub is_rej : Reply → Bool
+is_rej (TakesRej nr p) = true
+is_rej other = false
+
+awaits_none : (l : LinkState) → awaits_ack l.endpoint ≡ false → issued l ≡ acked l
+awaits_none l w = grind (arith, w)
+
+aired_low : (l m : LinkState) → issued l ≡ acked l → acked m ≤ issued m → acked l ≤ acked m → aired l ≤ aired m
+aired_low l m a b c = grind arith
+
+aired_acked : (l m : LinkState) → acked m ≡ issued l → acked m ≤ issued m → acked l ≤ issued l → aired l ≤ aired m
+aired_acked l m a b c = grind arith
+
+aired_waits : (l m : LinkState) → m.is_sent ≡ l.is_sent → issued m ≡ issued l → acked l ≤ acked m → acked m ≤ issued m →
+    aired l ≤ aired m
+aired_waits l m a b c d = grind arith
+
+-- ---- the frames that an endpoint returns change only what the link owes and its clock
+
+frames_t200 : (fs : List Frame) (l : LinkState) → (with_frames fs l).t200 ≡ l.t200
+frames_t200 [] l = refl
+frames_t200 (f ∷ fs) l = frames_t200 fs (with_frame f l) ∙ grind arith
+
+frames_endpoint : (fs : List Frame) (l : LinkState) → (with_frames fs l).endpoint ≡ l.endpoint
+frames_endpoint [] l = refl
+frames_endpoint (f ∷ fs) l = frames_endpoint fs (with_frame f l) ∙ grind arith
+
+outcome_t200 : (o : Outcome) (l : LinkState) → (with_outcome o l).t200 ≡ l.t200
+outcome_t200 o l = frames_t200 o.frames (record l { endpoint = o.new_state })
+
+outcome_accepted : (o : Outcome) (l : LinkState) → accepted (with_outcome o l) ≡ length o.new_state.accepted_segments
+outcome_accepted o l = ap (λ e. length e.accepted_segments) (frames_endpoint o.frames (record l { endpoint = o.new_state }))
+
+module _ (e : EndpointState) (ns nr : ℕ) (p : Bool) (s : Segment) where
+  end_accepts : nat_eq ns (vr e) ≡ true →
+      length (takes_i_frame ns nr p s e).new_state.accepted_segments ≡ length e.accepted_segments + 1
+  end_accepts h = grind (arith, length-append, h)
+
+  end_rejects : nat_eq ns (vr e) ≡ false →
+      length (takes_i_frame ns nr p s e).new_state.accepted_segments ≡ length e.accepted_segments
+  end_rejects h = grind (arith, length-append, h)
+
 module _ (l : LinkState) (g : Good l) (none : l.answer ≡ None) where
+  -- a link that awaits an acknowledgement and does not get it goes on waiting
+  pub waits_i : (ns nr : ℕ) (p : Bool) (s : Segment) → awaits_ack l.endpoint ≡ true → nat_eq nr (vs l.endpoint) ≡ false →
+      (taken (TakesIFrame ns nr p s) l).is_sent ≡ l.is_sent
+  waits_i ns nr p s w h = grind (arith, w, h)
+
+  pub waits_i_clock : (ns nr : ℕ) (p : Bool) (s : Segment) → awaits_ack l.endpoint ≡ true → nat_eq nr (vs l.endpoint) ≡ false →
+      (taken (TakesIFrame ns nr p s) l).clock ≡ l.clock
+  waits_i_clock ns nr p s w h = grind (arith, w, h)
+
+  pub waits_rr : (nr : ℕ) (p : Bool) → awaits_ack l.endpoint ≡ true → nat_eq nr (vs l.endpoint) ≡ false →
+      (taken (TakesRr nr p) l).is_sent ≡ l.is_sent
+  waits_rr nr p w h = grind (arith, w, h)
+
+  pub waits_rr_clock : (nr : ℕ) (p : Bool) → awaits_ack l.endpoint ≡ true → nat_eq nr (vs l.endpoint) ≡ false →
+      (taken (TakesRr nr p) l).clock ≡ l.clock
+  waits_rr_clock nr p w h = grind (arith, w, h)
+
+  acked_i : (ns nr : ℕ) (p : Bool) (s : Segment) → acked l ≤ acked (taken (TakesIFrame ns nr p s) l)
+  acked_i ns nr p s = grind (arith, length-append)
+
+  low_i : (ns nr : ℕ) (p : Bool) (s : Segment) →
+      (acked (taken (TakesIFrame ns nr p s) l) ≤ issued (taken (TakesIFrame ns nr p s) l))
+  low_i ns nr p s = grind (arith, length-append)
+
+  pub by_nr_i : (ns nr : ℕ) (p : Bool) (s : Segment) → nat_eq nr (vs l.endpoint) ≡ true → awaits_ack l.endpoint ≡ true →
+      acked (taken (TakesIFrame ns nr p s) l) ≡ issued l
+  by_nr_i ns nr p s h w = grind (arith, h, w)
+
+  pub by_nr_rr : (nr : ℕ) (p : Bool) → nat_eq nr (vs l.endpoint) ≡ true → awaits_ack l.endpoint ≡ true →
+      acked (taken (TakesRr nr p) l) ≡ issued l
+  by_nr_rr nr p h w = grind (arith, h, w)
+
+  pub issued_i : (ns nr : ℕ) (p : Bool) (s : Segment) → awaits_ack l.endpoint ≡ true → nat_eq nr (vs l.endpoint) ≡ false →
+      issued (taken (TakesIFrame ns nr p s) l) ≡ issued l
+  issued_i ns nr p s w h = grind (arith, w, h)
+
+  -- three cases: nothing outstanding, acknowledged, not acknowledged
+  aired_i : (ns nr : ℕ) (p : Bool) (s : Segment) → aired l ≤ aired (taken (TakesIFrame ns nr p s) l)
+  aired_i ns nr p s = by_wait (awaits_ack l.endpoint) refl (nat_eq nr (vs l.endpoint)) refl
+    where
+      m : LinkState
+      m = taken (TakesIFrame ns nr p s) l
+      by_wait : (w : Bool) → awaits_ack l.endpoint ≡ w → (k : Bool) → nat_eq nr (vs l.endpoint) ≡ k → aired l ≤ aired m
+      by_wait false w k h = aired_low l m (awaits_none l w) (low_i ns nr p s) (acked_i ns nr p s)
+      by_wait true w true h = aired_acked l m (by_nr_i ns nr p s h w) (low_i ns nr p s) g.low
+      by_wait true w false h = aired_waits l m (waits_i ns nr p s w h) (issued_i ns nr p s w h) (acked_i ns nr p s) (low_i ns nr p s)
+
   takes_i : (ns nr : ℕ) (p : Bool) (s : Segment) → Takes (TakesIFrame ns nr p s) l (taken (TakesIFrame ns nr p s) l)
-  takes_i ns nr p s = grind (arith, length-append)
+  takes_i ns nr p s = record {
+    moves = record {
+      role = grind (arith, length-append);
+      sapi = grind (arith, length-append);
+      t200 = outcome_t200 (outcome_of_reply (TakesIFrame ns nr p s) l.endpoint) l;
+      acked_up = acked_i ns nr p s;
+      accepted_up = grind (arith, length-append);
+      aired_up = aired_i ns nr p s;
+      low = low_i ns nr p s;
+      window = grind (arith, length-append);
+    };
+    by_nr = grind (arith, length-append);
+    by_ns = by_match (nat_eq ns (vr l.endpoint)) refl;
+    owed = grind (arith, length-append);
+  }
+    where
+      m : LinkState
+      m = taken (TakesIFrame ns nr p s) l
+      by_match : (b : Bool) → nat_eq ns (vr l.endpoint) ≡ b →
+          (accepted m ≡ accepted l) ⊎ ((Some ns ≡ Some (vr l.endpoint)) × (accepted m ≡ accepted l + 1))
+      by_match true h = inr (
+        ap Some (grind (arith, h)),
+        outcome_accepted (outcome_of_reply (TakesIFrame ns nr p s) l.endpoint) l
+          ∙ end_accepts l.endpoint ns nr p s h,
+      )
+      by_match false h =
+          inl (outcome_accepted (outcome_of_reply (TakesIFrame ns nr p s) l.endpoint) l
+          ∙ end_rejects l.endpoint ns nr p s h)
 
   takes_rr : (nr : ℕ) (p : Bool) → Takes (TakesRr nr p) l (taken (TakesRr nr p) l)
-  takes_rr nr p = grind (arith, length-append)
+  takes_rr nr p = record {
+    moves = record {
+      role = grind (arith, length-append);
+      sapi = grind (arith, length-append);
+      t200 = outcome_t200 (outcome_of_reply (TakesRr nr p) l.endpoint) l;
+      acked_up = grind (arith, length-append);
+      accepted_up = grind (arith, length-append);
+      aired_up = grind (arith, length-append);
+      low = grind (arith, length-append);
+      window = grind (arith, length-append);
+    };
+    by_nr = grind (arith, length-append);
+    by_ns = grind (arith, length-append);
+    owed = grind (arith, length-append);
+  }
 
   takes_sabm : (info : List ℕ) → Takes (AcceptsSabm info) l (taken (AcceptsSabm info) l)
-  takes_sabm info = grind (arith, length-append)
+  takes_sabm info = record {
+    moves = record {
+      role = grind (arith, length-append);
+      sapi = grind (arith, length-append);
+      t200 = grind (arith, length-append);
+      acked_up = grind (arith, length-append);
+      accepted_up = grind (arith, length-append);
+      aired_up = grind (arith, length-append);
+      low = grind (arith, length-append);
+      window = grind (arith, length-append);
+    };
+    by_nr = grind (arith, length-append);
+    by_ns = grind (arith, length-append);
+    owed = grind (arith, length-append);
+  }
 
-  moves_i : (ns nr : ℕ) (p : Bool) (s : Segment) → Moves l (taken (TakesIFrame ns nr p s) l)
-  moves_i ns nr p s = grind (arith, length-append)
-
-  moves_sabm : (info : List ℕ) → Moves l (taken (AcceptsSabm info) l)
-  moves_sabm info = grind arith
-
-  nr_i : (ns nr : ℕ) (p : Bool) (s : Segment) →
-      (acked (taken (TakesIFrame ns nr p s) l) ≡ acked l)
-      ⊎ ((Some nr ≡ Some (vs l.endpoint)) × (issued l ≡ acked l + 1) × (acked (taken (TakesIFrame ns nr p s) l) ≡ issued l))
-  nr_i ns nr p s = grind arith
+  pub takes : (r : Reply) → is_rej r ≡ false → Takes r l (taken r l)
+  takes (TakesIFrame ns nr p s) h = takes_i ns nr p s
+  takes (TakesRr nr p) h = takes_rr nr p
+  takes (TakesRej nr p) h = absurd cc
+  takes (AcceptsSabm info) h = takes_sabm info
+  takes other h = grind arith
