@@ -4,3 +4,10 @@ pub mod ProgressSteps
 pub mod Worked
 pub mod ProgressCounts
 pub mod ProgressLink
+pub mod ProgressAnswers
+pub mod ProgressStart
+pub mod ProgressWaits
+pub mod ProgressRuns
+pub mod ProgressPaid
+pub mod ProgressExpiries
+pub mod ProgressAlone

@@ -25,11 +25,11 @@ use Rattle.lapdm_datalink.specs.Links.{
   first_frame,
   is_awaiting_kind,
 }
-use Rattle.lapdm_datalink.specs.Slots.{nr_in, nr_of, took}
+use Rattle.lapdm_datalink.specs.Slots.{nr_in, nr_of, IsStepOfEndpoint}
 use Rattle.lapdm_datalink.specs.Channels.{after_arriving, after_calls, after_call_unless, IsUse}
 use Rattle.lapdm_datalink.proofs.ProgressSteps.{acked, issued, accepted, aired, IsAnswerOf, Good, Moves, Takes, nr_taken, ns_taken}
 use Rattle.lapdm_datalink.proofs.ProgressSteps.{is_rej, taken, takes, by_nr_i, by_nr_rr}
-use Rattle.lapdm_datalink.proofs.Answering.{Says, Carries, carries, says_after_slot, says_took, stays_open}
+use Rattle.lapdm_datalink.proofs.Answering.{step_of_endpoint}
 
 -- the N(S) and the P bit of an I frame
 abbrev pub ns_in : Content → Option ℕ
@@ -50,7 +50,7 @@ module _ (s : ℕ) (cr : Bool) (l : LinkState) where
   abbrev pub reply_with : Content → Reply
   reply_with c = reply_to_frame (record { sapi = s; cr = cr; content = rej_replaced_by_rr c }) l.endpoint
 
-  not_rej : (c : Content) → is_rej (reply_with c) ≡ false
+  pub not_rej : (c : Content) → is_rej (reply_with c) ≡ false
   not_rej (I ns nr p more info) = grind arith
   not_rej other = grind arith
 
@@ -62,15 +62,15 @@ module _ (s : ℕ) (cr : Bool) (l : LinkState) where
   ns_reply (I ns nr p more info) k h = grind arith
   ns_reply other k h = grind arith
 
-  is_i : (ns nr : ℕ) (p more : Bool) (info : List ℕ) → s ≡ 0 → l.endpoint.sapi ≡ Zero → l.endpoint.state ≡ Open →
+  pub is_i : (ns nr : ℕ) (p more : Bool) (info : List ℕ) → s ≡ 0 → l.endpoint.sapi ≡ Zero → l.endpoint.state ≡ Open →
       cr ≢ command_cr l.endpoint.role → reply_with (I ns nr p more info) ≡ TakesIFrame ns nr p (info, more)
   is_i ns nr p more info a b c d = grind (arith, a, b, c, d)
 
-  is_rr : (nr : ℕ) (p : Bool) → s ≡ 0 → l.endpoint.sapi ≡ Zero → l.endpoint.state ≡ Open →
+  pub is_rr : (nr : ℕ) (p : Bool) → s ≡ 0 → l.endpoint.sapi ≡ Zero → l.endpoint.state ≡ Open →
       (q : Bool) × (reply_with (Rr nr p) ≡ TakesRr nr q)
   is_rr nr p a b c = (is_command l.endpoint (record { sapi = s; cr = cr; content = Rr nr p }) && p, grind (arith, a, b, c))
 
-frame_taken : (f : Frame) (l : LinkState) → l.endpoint.sapi ≡ Zero →
+pub frame_taken : (f : Frame) (l : LinkState) → l.endpoint.sapi ≡ Zero →
     (after_frame f l ≡ l) ⊎ (after_frame f l ≡ taken (reply_with f.sapi f.cr l f.content) l)
 frame_taken f l z = by_ignored (ignores f l) refl
   where
@@ -133,7 +133,7 @@ pub record Called (l m : LinkState) : Type 0 where
   pub accepted_same : accepted m ≡ accepted l
   pub answer_same : m.answer ≡ l.answer
 
-then_moves : {l m k : LinkState} → Moves l m → Moves m k → Moves l k
+pub then_moves : {l m k : LinkState} → Moves l m → Moves m k → Moves l k
 then_moves a b = record {
   role = b.role ∙ a.role;
   sapi = b.sapi ∙ a.sapi;
@@ -145,7 +145,7 @@ then_moves a b = record {
   window = b.window;
 }
 
-then_called : {l m k : LinkState} → Called l m → Called m k → Called l k
+pub then_called : {l m k : LinkState} → Called l m → Called m k → Called l k
 then_called a b = record {
   moves = then_moves a.moves b.moves;
   acked_same = b.acked_same ∙ a.acked_same;
@@ -156,7 +156,7 @@ then_called a b = record {
 module _ (l : LinkState) (z : l.endpoint.sapi ≡ Zero) (low : acked l ≤ issued l) (window : issued l ≤ acked l + 1)
     (idle : is_idle l.endpoint.state ≡ true → issued l ≡ acked l)
   where
-    called_nothing : Called l l
+    pub called_nothing : Called l l
     called_nothing = record {
       moves = stays l (record { sapi = z; low = low; window = window });
       acked_same = refl;
@@ -164,7 +164,7 @@ module _ (l : LinkState) (z : l.endpoint.sapi ≡ Zero) (low : acked l ≤ issue
       answer_same = refl;
     }
 
-    called_sends : (m : List ℕ) → refusal_of (Sends m) l.endpoint ≡ None → Called l (after_call (Sends m) l)
+    pub called_sends : (m : List ℕ) → refusal_of (Sends m) l.endpoint ≡ None → Called l (after_call (Sends m) l)
     called_sends m ok = record {
       moves = record {
         role = grind arith;
@@ -181,7 +181,7 @@ module _ (l : LinkState) (z : l.endpoint.sapi ≡ Zero) (low : acked l ≤ issue
       answer_same = grind arith;
     }
 
-    called_opens : (info : List ℕ) → refusal_of (Opens info) l.endpoint ≡ None → Called l (after_call (Opens info) l)
+    pub called_opens : (info : List ℕ) → refusal_of (Opens info) l.endpoint ≡ None → Called l (after_call (Opens info) l)
     called_opens info ok = record {
       moves = record {
         role = grind arith;
@@ -198,22 +198,22 @@ module _ (l : LinkState) (z : l.endpoint.sapi ≡ Zero) (low : acked l ≤ issue
       answer_same = grind arith;
     }
 
-    passes_slot : Called l (after_slot l)
-    passes_slot = record {
-      moves = record {
-        role = refl;
-        sapi = refl;
-        t200 = refl;
-        acked_up = omega arith;
-        accepted_up = omega arith;
-        aired_up = omega arith;
-        low = low;
-        window = window;
-      };
-      acked_same = refl;
-      accepted_same = refl;
-      answer_same = refl;
-    }
+pub passes_slot : (l : LinkState) → acked l ≤ issued l → issued l ≤ acked l + 1 → Called l (after_slot l)
+passes_slot l low window = record {
+  moves = record {
+    role = refl;
+    sapi = refl;
+    t200 = refl;
+    acked_up = omega arith;
+    accepted_up = omega arith;
+    aired_up = omega arith;
+    low = low;
+    window = window;
+  };
+  acked_same = refl;
+  accepted_same = refl;
+  answer_same = refl;
+}
 
 -- ---- the slot
 
@@ -259,23 +259,23 @@ module _ (l : LinkState) where
   same_t200 (Some f) n true e false g true kept = grind (arith, n, kept f refl, e, g)
   same_t200 (Some f) n true e true g true kept = grind (arith, n, kept f refl, e, g)
 
-  slot_acked : acked (slot_outcome l).link ≡ acked l
+  pub slot_acked : acked (slot_outcome l).link ≡ acked l
   slot_acked = grind arith
 
-  slot_issued : issued (slot_outcome l).link ≡ issued l
+  pub slot_issued : issued (slot_outcome l).link ≡ issued l
   slot_issued = grind arith
 
-  slot_accepted : accepted (slot_outcome l).link ≡ accepted l
+  pub slot_accepted : accepted (slot_outcome l).link ≡ accepted l
   slot_accepted = grind arith
 
-  kept_back : (a : Option Frame) → (k : Bool) × ((f : Frame) → a ≡ Some f → keeps_back f l ≡ k)
+  pub kept_back : (a : Option Frame) → (k : Bool) × ((f : Frame) → a ≡ Some f → keeps_back f l ≡ k)
   kept_back None = (false, λ f e. absurd cc)
   kept_back (Some g) = (keeps_back g l, λ f e. same f e)
     where
       same : (f : Frame) → Some g ≡ Some f → keeps_back f l ≡ keeps_back g l
       same f e = cc
 
-  slot_from : From l (slot_outcome l)
+  pub slot_from : From l (slot_outcome l)
   slot_from = let k = kept_back l.answer in from l.answer refl (is_due l) refl l.is_sent refl k.0 k.1
 
   slot_flags : ((slot_outcome l).link.is_sent ≡ l.is_sent) ⊎ ((slot_outcome l).link.is_sent ≡ true)
@@ -289,10 +289,33 @@ aired_on : (l m : LinkState) → acked m ≡ acked l → issued m ≡ issued l �
 aired_on l m a i low (inl e) = grind arith
 aired_on l m a i low (inr e) = grind arith
 
+expiry_role : (e : EndpointState) → (t200_expiry e).new_state.role ≡ e.role
+expiry_role e = grind arith
+
+expiry_sapi : (e : EndpointState) → (t200_expiry e).new_state.sapi ≡ e.sapi
+expiry_sapi e = grind arith
+
+module _ (l : LinkState) where
+  slot_role : (slot_outcome l).link.endpoint.role ≡ l.endpoint.role
+  slot_role = by_step (step_of_endpoint l)
+    where
+      by_step : IsStepOfEndpoint l (slot_outcome l) → (slot_outcome l).link.endpoint.role ≡ l.endpoint.role
+      by_step (inl x) = ap (λ e. e.role) x.endpoint
+      by_step (inr (inl x)) = ap (λ e. e.role) x.repeats
+      by_step (inr (inr x)) = ap (λ e. e.role) x.expires ∙ expiry_role l.endpoint
+
+  slot_sapi : (slot_outcome l).link.endpoint.sapi ≡ l.endpoint.sapi
+  slot_sapi = by_step (step_of_endpoint l)
+    where
+      by_step : IsStepOfEndpoint l (slot_outcome l) → (slot_outcome l).link.endpoint.sapi ≡ l.endpoint.sapi
+      by_step (inl x) = ap (λ e. e.sapi) x.endpoint
+      by_step (inr (inl x)) = ap (λ e. e.sapi) x.repeats
+      by_step (inr (inr x)) = ap (λ e. e.sapi) x.expires ∙ expiry_sapi l.endpoint
+
 slot_moves : (l : LinkState) → acked l ≤ issued l → issued l ≤ acked l + 1 → Moves l (slot_outcome l).link
 slot_moves l low window = record {
-  role = grind arith;
-  sapi = grind arith;
+  role = slot_role l;
+  sapi = slot_sapi l;
   t200 = slot_t200 l;
   acked_up = omega (arith, slot_acked l);
   accepted_up = omega (arith, slot_accepted l);
@@ -377,19 +400,20 @@ pub record Slotted (o : Option Frame) (l l' : LinkState) (frame : Option Frame) 
       (ns ≡ acked l' % 8) × (aired l' ≡ acked l' + 1) × (f.cr ≡ command_cr l.endpoint.role)
   pub first : (f : Frame) → frame ≡ Some f → (ns : ℕ) → ns_in f.content ≡ Some ns → poll_in f.content ≡ false → aired l ≤ acked l'
 
-owed_later : (l m : LinkState) → accepted m ≡ accepted l → m.answer ≡ l.answer → IfSome l.answer (IsAnswerOf l) →
+pub owed_later : (l m : LinkState) → accepted m ≡ accepted l → m.answer ≡ l.answer → IfSome l.answer (IsAnswerOf l) →
     IfSome m.answer (IsAnswerOf m)
-owed_later l m v a h = rw a (by_answer l.answer h)
+owed_later l m v a h = by_answer l.answer m.answer a h
   where
-    by_answer : (x : Option Frame) → IfSome x (IsAnswerOf l) → IfSome x (IsAnswerOf m)
-    by_answer None h = tt
-    by_answer (Some f) h = record { number = λ nr e. h.number nr e ∙ vr_same; kind = h.kind; sapi = h.sapi }
-      where
-        vr_same : vr l.endpoint ≡ vr m.endpoint
-        vr_same = ap (λ n. n % 8) (sym v)
+    vr_same : vr l.endpoint ≡ vr m.endpoint
+    vr_same = ap (λ n. n % 8) (sym v)
+    by_answer : (x y : Option Frame) → y ≡ x → IfSome x (IsAnswerOf l) → IfSome y (IsAnswerOf m)
+    by_answer x None e h = tt
+    by_answer None (Some g) e h = absurd cc
+    by_answer (Some f) (Some g) e h =
+        rw (some_same g f e) (record { number = λ nr q. h.number nr q ∙ vr_same; kind = h.kind; sapi = h.sapi })
 
 module _ (o : Option Frame) (l a m : LinkState) (g : Good l) (x : Arrives o l a) (c : Called a m) where
-  out : LinkState
+  abbrev pub out : LinkState
   out = (slot_outcome m).link
 
   moves_all : Moves l out
@@ -411,7 +435,7 @@ module _ (o : Option Frame) (l a m : LinkState) (g : Good l) (x : Arrives o l a)
   unsent : m.is_sent ≡ false → aired l ≤ acked out
   unsent s = omega (arith, x.moves.aired_up, c.moves.aired_up, aired_unsent m s, slot_acked m)
 
-  slotted : Slotted o l out (slot_outcome m).frame
+  pub slotted : Slotted o l out (slot_outcome m).frame
   slotted = record {
     moves = moves_all;
     by_nr = rw number_of x.by_nr;

@@ -115,6 +115,9 @@ frames_endpoint (f ∷ fs) l = frames_endpoint fs (with_frame f l) ∙ grind ari
 outcome_t200 : (o : Outcome) (l : LinkState) → (with_outcome o l).t200 ≡ l.t200
 outcome_t200 o l = frames_t200 o.frames (record l { endpoint = o.new_state })
 
+pub outcome_endpoint : (o : Outcome) (l : LinkState) → (with_outcome o l).endpoint ≡ o.new_state
+outcome_endpoint o l = frames_endpoint o.frames (record l { endpoint = o.new_state })
+
 outcome_accepted : (o : Outcome) (l : LinkState) → accepted (with_outcome o l) ≡ length o.new_state.accepted_segments
 outcome_accepted o l = ap (λ e. length e.accepted_segments) (frames_endpoint o.frames (record l { endpoint = o.new_state }))
 
@@ -126,6 +129,11 @@ module _ (e : EndpointState) (ns nr : ℕ) (p : Bool) (s : Segment) where
   end_rejects : nat_eq ns (vr e) ≡ false →
       length (takes_i_frame ns nr p s e).new_state.accepted_segments ≡ length e.accepted_segments
   end_rejects h = grind (arith, length-append, h)
+
+pub accepts_taken : (l : LinkState) (ns nr : ℕ) (p : Bool) (s : Segment) → nat_eq ns (vr l.endpoint) ≡ true →
+    accepted (taken (TakesIFrame ns nr p s) l) ≡ accepted l + 1
+accepts_taken l ns nr p s h =
+    outcome_accepted (outcome_of_reply (TakesIFrame ns nr p s) l.endpoint) l ∙ end_accepts l.endpoint ns nr p s h
 
 module _ (l : LinkState) (g : Good l) (none : l.answer ≡ None) where
   -- a link that awaits an acknowledgement and does not get it goes on waiting

@@ -1,12 +1,14 @@
 -- Progress: how long a link of SAPI 0 waits for answers, and what each expiry of T200 costs the channel. These are this project's own
 -- statements; the standard has none.
-use Rattle.std.specs.Prelude.{◌≡◌, ℕ, zero, suc, ◌+◌, ◌*◌, ◌≤◌, Bool, true, false, ◌||◌, List, length, Option, Some, None, All}
-use Rattle.lapdm_frame.specs.Content.{Frame}
+use Rattle.std.specs.Prelude.{◌≡◌, ◌≢◌, ℕ, zero, suc, ◌+◌, ◌*◌, ◌≤◌, Bool, true, false, ◌||◌, ◌⊎◌, List, length, Option, Some, None, All}
+use Rattle.lapdm_frame.specs.Content.{Content, I, Frame}
 use Rattle.lapdm_end.specs.lapdm_window.declared.State.{State}
 use Rattle.lapdm_end.specs.lapdm_window.declared.State.TheVariants.{Idle}
 use Rattle.lapdm_end.specs.lapdm_window.Ends.{Role, Mobile, Network, EndpointState, awaits_answer, segments_of_all_messages}
 use Rattle.lapdm_link.specs.Events.{other}
-use Rattle.lapdm_datalink.specs.Links.{LinkState, SlotOutcome, is_closed, slot_outcome}
+use Rattle.lapdm_end.specs.lapdm_window.Rules.{is_open}
+use Rattle.lapdm_datalink.specs.Links.{LinkState, is_closed, slot_outcome, after_slot, after_frame}
+use Rattle.lapdm_datalink.specs.DataLinks.{DataLinkState, data_link_outcome, after_arrival}
 use Rattle.lapdm_datalink.specs.Channels.{Run, Slot, Turn, channel_at, side_at, turn_of, before_sending, arriving, IsUse}
 
 -- the round trip in slots: a frame, its answer, and the delay of each
@@ -79,3 +81,44 @@ abbrev pub Progresses : Run → Type 0
 Progresses r =
     IsWithoutRelease r → round_trip r.delay ≤ r.t200 → (n : ℕ) → NoneGaveUp r n → (role : Role) →
     waiting_slots r n role ≤ round_trip r.delay * asked_frames (link_at r n role).endpoint + (r.t200 + 1) * lossy_slots r n + 1
+
+-- whether the frame is an I frame, and whether it is one with P = 1, which repeats another because T200 has expired
+abbrev pub is_i_content : Content → Bool
+is_i_content (I ns nr p more info) = true
+is_i_content other = false
+
+abbrev pub is_i_frame : Option Frame → Bool
+is_i_frame None = false
+is_i_frame (Some f) = is_i_content f.content
+
+abbrev pub is_repeated_content : Content → Bool
+is_repeated_content (I ns nr p more info) = p
+is_repeated_content other = false
+
+abbrev pub is_repetition : Option Frame → Bool
+is_repetition None = false
+is_repetition (Some f) = is_repeated_content f.content
+
+-- The expiry of T200 in this slot is paid by a loss: the link sent the I frame T200 slots ago or earlier, and no I frame since; and that
+-- frame was lost, or the block with its answer, which leaves the other side one delay later, was. (The other side answers if it is open.)
+pub record IsPaid (r : Run) (n : ℕ) (role : Role) : Type 0 where
+  pub slot : ℕ
+  pub before : slot + r.t200 ≤ n
+  pub sent : is_i_frame (frame_at r slot role) ≡ true
+  pub last : (k : ℕ) → suc slot ≤ k → suc k ≤ n → is_i_frame (frame_at r k role) ≡ false
+  pub lost : is_open (link_at r (suc slot + r.delay) (other role)).endpoint.state ≡ true →
+      (is_loss_at r slot role ≡ true) ⊎ (is_loss_at r (suc slot + r.delay) (other role) ≡ true)
+
+-- Each expiry of T200 of an open link is paid by a loss of its own: between two of them the link sends the I frame again.
+abbrev pub PaysForExpiries : Run → Type 0
+PaysForExpiries r =
+    IsWithoutRelease r → round_trip r.delay ≤ r.t200 → (n : ℕ) → ((k : ℕ) → k ≤ n → NoneGaveUp r k) → (role : Role) →
+    is_repetition (frame_at r n role) ≡ true → IsPaid r n role
+
+-- The link of SAPI 0 of a data link does what it would do alone: in a slot, and when a frame arrives. If it sends a frame, the data link
+-- does.
+pub record GoesFirst (s : DataLinkState) : Type 0 where
+  pub slot : (data_link_outcome s).new_state.link0 ≡ (slot_outcome (after_slot s.link0)).link
+  pub frame : (f : Frame) → (slot_outcome (after_slot s.link0)).frame ≡ Some f → (data_link_outcome s).frame ≡ Some f
+  pub arrival : (f : Frame) → f.sapi ≡ 0 → (after_arrival f s).link0 ≡ after_frame f s.link0
+  pub other_arrival : (f : Frame) → f.sapi ≢ 0 → (after_arrival f s).link0 ≡ s.link0

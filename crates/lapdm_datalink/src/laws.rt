@@ -6,6 +6,9 @@ ghost use Rattle.lapdm_end.specs.lapdm_window.segmenting.Segments.{Segment};
 ghost use Rattle.lapdm_end.specs.lapdm_window.Ends.{vr};
 ghost use Rattle.lapdm_datalink.specs.Links.{LinkState, after_slot, slot_outcome, sabm_goes_first};
 ghost use Rattle.lapdm_datalink.specs.Slots.{IsStepOfEndpoint, nr_of, took};
+ghost use Rattle.lapdm_datalink.specs.DataLinks.{DataLinkState};
+ghost use Rattle.lapdm_datalink.specs.Channels.{Run};
+ghost use Rattle.lapdm_datalink.specs.Progress.{GoesFirst, PaysForExpiries};
 
 /// Law: in a slot, the endpoint of a link does nothing, repeats the frame that awaits an answer without counting it, or handles the expiry
 /// of
@@ -30,4 +33,17 @@ pub fn law_i_frame_is_answered_in_the_next_slot()
         → (nat_eq ns (vr l.endpoint) || poll) ≡ true
         → (nr_of (slot_outcome (after_slot (took ns nr poll segment l))).frame ≡ Some (vr (took ns nr poll segment l).endpoint))
         ⊎ ((slot_outcome (after_slot (took ns nr poll segment l))).link.endpoint.state ≡ Closed) }
+{}
+
+/// Law: SAPI 0 goes first. What the link of SAPI 0 does in a slot, and when a frame arrives, does not depend on the link of SAPI 3.
+#[tactic(auto, using(crate::proofs::ProgressAlone::sapi_0_goes_first))]
+pub fn law_sapi_0_goes_first()
+    ensures { (s : DataLinkState) → GoesFirst s }
+{}
+
+/// Law: each expiry of T200 of an open link of SAPI 0 is paid by a loss of its own, if both sides have the same T200, and it is at least
+/// the round trip.
+#[tactic(auto, using(crate::proofs::ProgressExpiries::pays_for_expiries))]
+pub fn law_data_links_pay_for_expiries()
+    ensures { (r : Run) → PaysForExpiries r }
 {}
