@@ -58,7 +58,8 @@ module _ (l : LinkState) (h : l.endpoint.state ≡ Open) (g : l.answer ≡ None)
   says_rejected : (ns nr : ℕ) (segment : Segment) → nat_eq ns (vr l.endpoint) ≡ false → Says (took ns nr true segment l)
   says_rejected ns nr segment k = grind arith
 
-  pub says_took : (ns nr : ℕ) (p : Bool) (segment : Segment) → (nat_eq ns (vr l.endpoint) || p) ≡ true → Says (took ns nr p segment l)
+  pub says_took : (ns nr : ℕ) (p : Bool) (segment : Segment) → (nat_eq ns (vr l.endpoint) || p) ≡ true →
+      Says (took ns nr p segment l)
   says_took ns nr true segment k = by_match (nat_eq ns (vr l.endpoint)) refl
     where
       by_match : (b : Bool) → nat_eq ns (vr l.endpoint) ≡ b → Says (took ns nr true segment l)

@@ -1,19 +1,13 @@
 -- The link of SAPI 0 of a data link does what it would do alone.
-use Rattle.std.specs.Prelude.{◌≡◌, ◌≢◌, ℕ, Bool, true, false, nat_eq, Option, Some, None}
-use Rattle.std.proofs.Common.{arith, refl}
-use Rattle.lapdm_frame.specs.Content.{Frame}
-use Rattle.lapdm_datalink.specs.Links.{LinkState, SlotOutcome, slot_outcome, after_slot, after_frame}
-use Rattle.lapdm_datalink.specs.DataLinks.{
-  DataLinkState,
-  data_link_outcome,
-  after_arrival,
-  with_sapi3,
-  with_clocks_moved,
-  sapi_for_frame,
-  taken_by,
-  takes_sapi3,
+use Rattle.{
+  std.{specs.Prelude.{◌≡◌, ◌≢◌, ℕ, Bool, true, false, nat_eq, Option, Some, None}, proofs.Common.{arith, refl}},
+  lapdm_frame.specs.Content.Frame,
+  lapdm_datalink.specs.{
+    Links.{LinkState, SlotOutcome, slot_outcome, after_slot, after_frame},
+    DataLinks.{DataLinkState, data_link_outcome, after_arrival, with_sapi3, with_clocks_moved, sapi_for_frame, taken_by, takes_sapi3},
+    Progress.GoesFirst,
+  },
 }
-use Rattle.lapdm_datalink.specs.Progress.{GoesFirst}
 
 link_first : (o : SlotOutcome) (x : Option Frame) (s : DataLinkState) → (with_sapi3 o x s).new_state.link0 ≡ o.link
 link_first o None s = refl

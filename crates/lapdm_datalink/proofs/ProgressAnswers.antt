@@ -1,21 +1,28 @@
 -- An acknowledgement that arrives ends the wait, and an I frame that arrives is answered in the slot.
-use Rattle.std.specs.Prelude.{◌≡◌, ◌≢◌, ℕ, ◌+◌, ◌%◌, Bool, true, false, ◌||◌, ◌⊎◌, nat_eq, List, [], ◌∷◌, Option, Some, None, All}
-use Rattle.std.proofs.Common.{inl, inr, arith, refl, ap, sym, ◌∙◌}
-use Rattle.std.proofs.lemmas.List.Elements.{All-head, All-tail}
-use Rattle.lapdm_frame.specs.Content.{Content, I, Rr, Rej, Frame}
-use Rattle.lapdm_end.specs.lapdm_window.declared.Sapi.TheVariants.{Zero}
-use Rattle.lapdm_end.specs.lapdm_window.declared.State.TheVariants.{Open, Closed}
-use Rattle.lapdm_end.specs.lapdm_window.declared.Refused.{Refused}
-use Rattle.lapdm_end.specs.lapdm_window.segmenting.Segments.{Segment}
-use Rattle.lapdm_end.specs.lapdm_window.Ends.{EndpointState, Role, vr, vs, awaits_ack, command_cr}
-use Rattle.lapdm_end.specs.lapdm_window.Tables.{Reply, TakesIFrame, TakesRr}
-use Rattle.lapdm_end.specs.lapdm_window.Calls.{Call, Opens, Sends, refusal_of}
-use Rattle.lapdm_datalink.specs.Links.{LinkState, after_frame, after_slot, after_call, slot_outcome, is_unnumbered_answer, is_due}
-use Rattle.lapdm_datalink.specs.Slots.{nr_in, nr_of, took}
-use Rattle.lapdm_datalink.specs.Channels.{after_calls, after_call_unless, IsUse}
-use Rattle.lapdm_datalink.proofs.ProgressSteps.{acked, issued, accepted, Good, taken, by_nr_i, by_nr_rr}
-use Rattle.lapdm_datalink.proofs.ProgressLink.{reply_with, is_i, is_rr, ns_in, poll_in}
-use Rattle.lapdm_datalink.proofs.Answering.{Says, Carries, carries, says_after_slot, says_took, stays_open}
+use Rattle.{
+  std.{
+    specs.Prelude.{◌≡◌, ◌≢◌, ℕ, ◌+◌, ◌%◌, Bool, true, false, ◌||◌, ◌⊎◌, nat_eq, List, [], ◌∷◌},
+    specs.Prelude.{Option, Some, None, All},
+    proofs.{Common.{inl, inr, arith, refl, ap, sym, ◌∙◌}, lemmas.List.Elements.{All-head, All-tail}},
+  },
+  lapdm_frame.specs.Content.{Content, I, Rr, Rej, Frame},
+  lapdm_end.specs.lapdm_window.{
+    declared.{Sapi.TheVariants.Zero, State.TheVariants.{Open, Closed}, Refused.Refused},
+    segmenting.Segments.Segment,
+    Ends.{EndpointState, Role, vr, vs, awaits_ack, command_cr},
+    Tables.{Reply, TakesIFrame, TakesRr},
+    Calls.{Call, Opens, Sends, refusal_of},
+  },
+  lapdm_datalink.{
+    specs.{Links.{LinkState, after_frame, after_slot, after_call, slot_outcome, is_unnumbered_answer, is_due}, Slots.{nr_in, nr_of, took}},
+    specs.Channels.{after_calls, after_call_unless, IsUse},
+    proofs.{
+      ProgressSteps.{acked, issued, accepted, Good, taken, by_nr_i, by_nr_rr},
+      ProgressLink.{reply_with, is_i, is_rr, ns_in, poll_in},
+      Answering.{Says, Carries, carries, says_after_slot, says_took, stays_open},
+    },
+  },
+}
 
 numbered : (c : Content) (k : ℕ) → nr_in c ≡ Some k → is_unnumbered_answer c ≡ false
 numbered (I ns nr p more info) k h = refl
@@ -35,7 +42,8 @@ same_nr nr k h = grind arith
 module _ (s : ℕ) (cr : Bool) (l : LinkState) (g : Good l) (none : l.answer ≡ None) (open_ : l.endpoint.state ≡ Open) (z : s ≡ 0)
     (w : awaits_ack l.endpoint ≡ true)
   where
-    acks : (c : Content) → ((ns : ℕ) → ns_in c ≡ Some ns → cr ≢ command_cr l.endpoint.role) → nr_in c ≡ Some (vs l.endpoint) →
+    acks : (c : Content) → ((ns : ℕ) → ns_in c ≡ Some ns → cr ≢ command_cr l.endpoint.role) →
+        nr_in c ≡ Some (vs l.endpoint) →
         acked (taken (reply_with s cr l c) l) ≡ issued l
     acks (I ns nr p more info) command h =
         rw (is_i s cr l ns nr p more info z g.sapi open_ (command ns refl))

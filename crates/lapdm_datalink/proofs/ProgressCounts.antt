@@ -1,8 +1,12 @@
 -- The sequence invariant of two links, by plain numbers: counts that never go down, and what three bits of them show.
-use Rattle.std.specs.Prelude.{◌≡◌, ℕ, zero, suc, ◌+◌, ◌-◌, ◌%◌, ◌≤◌, ◌⊎◌, Bool, true, false}
-use Rattle.std.proofs.Common.{inl, inr, arith, refl}
-use Rattle.lapdm_end.specs.lapdm_window.Ends.{Role, Mobile, Network}
-use Rattle.lapdm_link.specs.Events.{other}
+use Rattle.{
+  std.{
+    specs.Prelude.{◌≡◌, ℕ, zero, suc, ◌+◌, ◌-◌, ◌%◌, ◌≤◌, ◌⊎◌, Bool, true, false},
+    proofs.Common.{inl, inr, arith, refl},
+  },
+  lapdm_end.specs.lapdm_window.Ends.{Role, Mobile, Network},
+  lapdm_link.specs.Events.other,
+}
 
 -- the counts of both links before each slot: acknowledged, issued, accepted and aired segments
 pub record Counts : Type 0 where
@@ -71,6 +75,7 @@ module _ (d : ℕ) (c : Counts) (h : Run d c) where
     where
       before : c.acked r (suc n + d) ≤ c.accepted (other r) (suc n)
       before = omega (arith, a r, h.accepted_up (other r) n)
+
       within : c.accepted (other r) (suc n) ≤ c.issued r (suc n + d)
       within = omega (
         arith,
@@ -79,6 +84,7 @@ module _ (d : ℕ) (c : Counts) (h : Run d c) where
         later-to (c.aired r) (h.aired_up r) n (suc n + d) (omega arith),
         h.aired_issued r (suc n + d),
       )
+
       by_case : (c.acked r (suc (suc n + d)) ≡ c.acked r (suc n + d))
           ⊎ ((c.acked r (suc (suc n + d)) ≡ c.issued r (suc n + d)) × (c.issued r (suc n + d) ≡ c.acked r (suc n + d) + 1)
           × (c.issued r (suc n + d) % 8 ≡ c.accepted (other r) (suc n) % 8)) →
@@ -103,6 +109,7 @@ module _ (d : ℕ) (c : Counts) (h : Run d c) where
         a r,
         later-to (c.accepted (other r)) (h.accepted_up (other r)) n (suc n + d) (omega arith),
       )
+
       by_case : (c.accepted (other r) (suc (suc n + d)) ≡ c.accepted (other r) (suc n + d))
           ⊎ ((c.accepted (other r) (suc (suc n + d)) ≡ c.accepted (other r) (suc n + d) + 1)
           × (c.accepted (other r) (suc n + d) % 8 ≡ c.acked (other (other r)) (suc n) % 8)

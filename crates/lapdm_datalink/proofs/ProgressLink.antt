@@ -1,35 +1,27 @@
 -- What a link of SAPI 0 does with what arrives, with the calls of layer 3, and in its slot: its counts, and what its frames say.
-use Rattle.std.specs.Prelude.{◌≡◌, ℕ, ◌+◌, ◌%◌, ◌≤◌, Bool, true, false, ◌||◌, ◌&&◌, ◌⊎◌, nat_eq, List, [], ◌∷◌, Option, Some, None}
-use Rattle.std.specs.Prelude.{IfSome, All, ◌≢◌}
-use Rattle.std.proofs.Common.{inl, inr, arith, refl, ap, sym, ◌∙◌, length-append}
-use Rattle.std.proofs.lemmas.List.Elements.{All-head, All-tail}
-use Rattle.lapdm_frame.specs.Content.{Content, I, Rr, Rej, Frame}
-use Rattle.lapdm_end.specs.lapdm_window.declared.Sapi.TheVariants.{Zero}
-use Rattle.lapdm_end.specs.lapdm_window.declared.State.TheVariants.{Open, Closed}
-use Rattle.lapdm_end.specs.lapdm_window.declared.Refused.{Refused}
-use Rattle.lapdm_end.specs.lapdm_window.segmenting.Segments.{Segment}
-use Rattle.lapdm_end.specs.lapdm_window.Ends.{EndpointState, Role, vr, vs, va, awaits_ack, command_cr}
-use Rattle.lapdm_end.specs.lapdm_window.Tables.{Reply, TakesIFrame, TakesRr, reply_to_frame, is_command}
-use Rattle.lapdm_end.specs.lapdm_window.Calls.{Call, Opens, Sends, refusal_of, awaited_frame, t200_expiry, is_idle}
-use Rattle.lapdm_link.specs.Worlds.{rej_replaced_by_rr}
-use Rattle.lapdm_datalink.specs.Links.{
-  LinkState,
-  SlotOutcome,
-  after_frame,
-  after_slot,
-  after_call,
-  slot_outcome,
-  ignores,
-  is_due,
-  keeps_back,
-  first_frame,
-  is_awaiting_kind,
+use Rattle.{
+  std.{
+    specs.Prelude.{◌≡◌, ℕ, ◌+◌, ◌%◌, ◌≤◌, Bool, true, false, ◌||◌, ◌&&◌, ◌⊎◌, nat_eq, List, []},
+    specs.Prelude.{◌∷◌, Option, Some, None, IfSome, All, ◌≢◌},
+    proofs.{Common.{inl, inr, arith, refl, ap, sym, ◌∙◌, length-append}, lemmas.List.Elements.{All-head, All-tail}},
+  },
+  lapdm_frame.specs.Content.{Content, I, Rr, Rej, Frame},
+  lapdm_end.specs.lapdm_window.{
+    declared.{Sapi.TheVariants.Zero, State.TheVariants.{Open, Closed}, Refused.Refused},
+    segmenting.Segments.Segment,
+    Ends.{EndpointState, Role, vr, vs, va, awaits_ack, command_cr},
+    Tables.{Reply, TakesIFrame, TakesRr, reply_to_frame, is_command},
+    Calls.{Call, Opens, Sends, refusal_of, awaited_frame, t200_expiry, is_idle},
+  },
+  lapdm_link.specs.Worlds.rej_replaced_by_rr,
+  lapdm_datalink.{
+    specs.Links.{LinkState, SlotOutcome, after_frame, after_slot, after_call, slot_outcome, ignores, is_due, keeps_back, first_frame},
+    specs.{Links.is_awaiting_kind, Slots.{nr_in, nr_of, IsStepOfEndpoint}, Channels.{after_arriving, after_calls, after_call_unless}},
+    specs.Channels.IsUse,
+    proofs.ProgressSteps.{acked, issued, accepted, aired, IsAnswerOf, Good, Moves, Takes, nr_taken, ns_taken, is_rej, taken, takes},
+    proofs.{ProgressSteps.{by_nr_i, by_nr_rr}, Answering.step_of_endpoint},
+  },
 }
-use Rattle.lapdm_datalink.specs.Slots.{nr_in, nr_of, IsStepOfEndpoint}
-use Rattle.lapdm_datalink.specs.Channels.{after_arriving, after_calls, after_call_unless, IsUse}
-use Rattle.lapdm_datalink.proofs.ProgressSteps.{acked, issued, accepted, aired, IsAnswerOf, Good, Moves, Takes, nr_taken, ns_taken}
-use Rattle.lapdm_datalink.proofs.ProgressSteps.{is_rej, taken, takes, by_nr_i, by_nr_rr}
-use Rattle.lapdm_datalink.proofs.Answering.{step_of_endpoint}
 
 -- the N(S) and the P bit of an I frame
 abbrev pub ns_in : Content → Option ℕ
@@ -109,6 +101,7 @@ of_reply f l m t = record { moves = t.moves; by_nr = nr t.by_nr; by_ns = ns t.by
         (acked m ≡ acked l) ⊎ ((nr_in f.content ≡ Some (vs l.endpoint)) × (issued l ≡ acked l + 1) × (acked m ≡ issued l))
     nr (inl e) = inl e
     nr (inr (e, a, b)) = inr (nr_reply f.sapi f.cr l f.content _ e, a, b)
+
     ns : (accepted m ≡ accepted l) ⊎ ((ns_taken (reply_with f.sapi f.cr l f.content) ≡ Some (vr l.endpoint))
         × (accepted m ≡ accepted l + 1)) →
         (accepted m ≡ accepted l) ⊎ ((ns_in f.content ≡ Some (vr l.endpoint)) × (accepted m ≡ accepted l + 1))
@@ -223,7 +216,8 @@ pub data From (m : LinkState) (o : SlotOutcome) : Type 0 where
   owed : o.frame ≡ m.answer → From m o
   first : o.frame ≡ Some (awaited_frame false m.endpoint.state m.endpoint) → is_due m ≡ true → m.is_sent ≡ false →
       o.link.is_sent ≡ true → From m o
-  again : o.frame ≡ first_frame (t200_expiry m.endpoint).frames → is_due m ≡ true → m.is_sent ≡ true → o.link.is_sent ≡ true →
+  again : o.frame ≡ first_frame (t200_expiry m.endpoint).frames → is_due m ≡ true → m.is_sent ≡ true →
+      o.link.is_sent ≡ true →
       From m o
 
 module _ (l : LinkState) where
@@ -347,7 +341,8 @@ module _ (m : LinkState) (o : SlotOutcome) (z : m.endpoint.sapi ≡ Zero) (low :
       first = λ ns h k. new;
     }
 
-    sent_again : (f : Frame) → first_frame (t200_expiry m.endpoint).frames ≡ Some f → is_due m ≡ true → o.link.is_sent ≡ true →
+    sent_again : (f : Frame) → first_frame (t200_expiry m.endpoint).frames ≡ Some f → is_due m ≡ true →
+        o.link.is_sent ≡ true →
         IsSentBy m o f
     sent_again f e due sent = record {
       sapi = grind arith;
@@ -373,13 +368,15 @@ aired_sent l n s e = rw s (sym e)
 aired_unsent : (l : LinkState) → l.is_sent ≡ false → aired l ≡ acked l
 aired_unsent l s = rw s refl
 
-sent : (m : LinkState) → m.endpoint.sapi ≡ Zero → acked m ≤ issued m → issued m ≤ acked m + 1 → IfSome m.answer (IsAnswerOf m) →
+sent : (m : LinkState) → m.endpoint.sapi ≡ Zero → acked m ≤ issued m → issued m ≤ acked m + 1 →
+    IfSome m.answer (IsAnswerOf m) →
     (f : Frame) → (slot_outcome m).frame ≡ Some f → IsSentBy m (slot_outcome m) f
 sent m z low window owes f h = by_from (slot_from m)
   where
     by_owed : (a : Option Frame) → a ≡ Some f → IfSome a (IsAnswerOf m) → IsAnswerOf m f
     by_owed None e x = absurd cc
     by_owed (Some g) e x = rw (some_same g f e) at x
+
     by_from : From m (slot_outcome m) → IsSentBy m (slot_outcome m) f
     by_from (nowhere e) = absurd cc
     by_from (owed e) = sent_owed m (slot_outcome m) z low window f (by_owed m.answer (sym e ∙ h) owes)
@@ -398,7 +395,8 @@ pub record Slotted (o : Option Frame) (l l' : LinkState) (frame : Option Frame) 
   pub number : (f : Frame) → frame ≡ Some f → (nr : ℕ) → nr_in f.content ≡ Some nr → nr ≡ accepted l' % 8
   pub segment : (f : Frame) → frame ≡ Some f → (ns : ℕ) → ns_in f.content ≡ Some ns →
       (ns ≡ acked l' % 8) × (aired l' ≡ acked l' + 1) × (f.cr ≡ command_cr l.endpoint.role)
-  pub first : (f : Frame) → frame ≡ Some f → (ns : ℕ) → ns_in f.content ≡ Some ns → poll_in f.content ≡ false → aired l ≤ acked l'
+  pub first : (f : Frame) → frame ≡ Some f → (ns : ℕ) → ns_in f.content ≡ Some ns → poll_in f.content ≡ false →
+      aired l ≤ acked l'
 
 pub owed_later : (l m : LinkState) → accepted m ≡ accepted l → m.answer ≡ l.answer → IfSome l.answer (IsAnswerOf l) →
     IfSome m.answer (IsAnswerOf m)
@@ -406,6 +404,7 @@ owed_later l m v a h = by_answer l.answer m.answer a h
   where
     vr_same : vr l.endpoint ≡ vr m.endpoint
     vr_same = ap (λ n. n % 8) (sym v)
+
     by_answer : (x y : Option Frame) → y ≡ x → IfSome x (IsAnswerOf l) → IfSome y (IsAnswerOf m)
     by_answer x None e h = tt
     by_answer None (Some g) e h = absurd cc

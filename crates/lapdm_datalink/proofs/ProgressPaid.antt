@@ -1,23 +1,34 @@
--- An I frame whose slot and whose answer's slot bring no loss is acknowledged within a round trip; so each expiry of T200 is paid by a loss.
-use Rattle.std.specs.Prelude.{◌≡◌, ◌≢◌, ℕ, zero, suc, ◌+◌, ◌*◌, ◌%◌, ◌≤◌, Bool, true, false, not, ◌||◌, ◌⊎◌, nat_eq, nat_le, List, [], ◌∷◌}
-use Rattle.std.specs.Prelude.{Option, Some, None, All}
-use Rattle.std.proofs.Common.{inl, inr, arith, refl, ap, sym, ◌∙◌}
-use Rattle.lapdm_frame.specs.Content.{Content, I, Frame}
-use Rattle.lapdm_end.specs.lapdm_window.declared.Sapi.TheVariants.{Zero}
-use Rattle.lapdm_end.specs.lapdm_window.declared.State.TheVariants.{Open, Closed}
-use Rattle.lapdm_end.specs.lapdm_window.Ends.{Role, Mobile, Network, vr, vs, awaits_ack, command_cr}
-use Rattle.lapdm_end.specs.lapdm_window.Rules.{is_open}
-use Rattle.lapdm_link.specs.Events.{other}
-use Rattle.lapdm_datalink.specs.Links.{LinkState, slot_outcome, after_slot, after_frame, is_closed, is_due}
-use Rattle.lapdm_datalink.specs.Slots.{nr_in, nr_of, took}
-use Rattle.lapdm_datalink.specs.Channels.{Run, carried, after_calls, after_arriving}
-use Rattle.lapdm_datalink.specs.Progress.{link_at, turn_at, arriving_at, ready_at, frame_at, is_loss, is_loss_at, IsWithoutRelease, NoneGaveUp}
-use Rattle.lapdm_datalink.specs.Progress.{round_trip, is_i_frame, is_i_content, is_repetition, is_repeated_content, IsPaid, PaysForExpiries}
-use Rattle.lapdm_datalink.proofs.ProgressSteps.{acked, issued, accepted, aired, Good, accepts_taken}
-use Rattle.lapdm_datalink.proofs.ProgressLink.{Slotted, ns_in, ns_of, poll_in}
-use Rattle.lapdm_datalink.proofs.ProgressStart.{Settled, kept_counts}
-use Rattle.lapdm_datalink.proofs.ProgressAnswers.{gets_ack, i_arrives, answers}
-use Rattle.lapdm_datalink.proofs.ProgressRuns.{Sound, sound, slotted_in, link_step, arrived, counts, counted}
+-- An I frame is acknowledged within a round trip if neither its slot nor that of its answer brings a loss.
+use Rattle.{
+  std.{
+    specs.Prelude.{◌≡◌, ◌≢◌, ℕ, zero, suc, ◌+◌, ◌*◌, ◌%◌, ◌≤◌, Bool, true, false, not, ◌||◌, ◌⊎◌},
+    specs.Prelude.{nat_eq, nat_le, List, [], ◌∷◌, Option, Some, None, All},
+    proofs.Common.{inl, inr, arith, refl, ap, sym, ◌∙◌},
+  },
+  lapdm_frame.specs.Content.{Content, I, Frame},
+  lapdm_end.specs.lapdm_window.{
+    declared.{Sapi.TheVariants.Zero, State.TheVariants.{Open, Closed}},
+    Ends.{Role, Mobile, Network, vr, vs, awaits_ack, command_cr},
+    Rules.is_open,
+  },
+  lapdm_link.specs.Events.other,
+  lapdm_datalink.{
+    specs.{
+      Links.{LinkState, slot_outcome, after_slot, after_frame, is_closed, is_due},
+      Slots.{nr_in, nr_of, took},
+      Channels.{Run, carried, after_calls, after_arriving},
+      Progress.{link_at, turn_at, arriving_at, ready_at, frame_at, is_loss, is_loss_at, IsWithoutRelease, NoneGaveUp, round_trip},
+      Progress.{is_i_frame, is_i_content, is_repetition, is_repeated_content, IsPaid, PaysForExpiries},
+    },
+    proofs.{
+      ProgressSteps.{acked, issued, accepted, aired, Good, accepts_taken},
+      ProgressLink.{Slotted, ns_in, ns_of, poll_in},
+      ProgressStart.{Settled, kept_counts},
+      ProgressAnswers.{gets_ack, i_arrives, answers},
+      ProgressRuns.{Sound, sound, slotted_in, link_step, arrived, counts, counted},
+    },
+  },
+}
 use Rattle.lapdm_datalink.proofs.ProgressCounts as C
 
 arrived_other : (r : Run) (n : ℕ) (role : Role) →
@@ -123,7 +134,8 @@ module _ (r : Run) (u : IsWithoutRelease r) (s : ℕ) (role : Role) (f : Frame) 
     in_sequence : (b : Bool) → nat_eq ns (vr before.endpoint) ≡ b →
         (accepted (link_at r (suc m) o) ≡ a + 1) × ((nat_eq ns (vr before.endpoint) || p) ≡ true)
     in_sequence true e = (
-      kept_there ∙ accepts_taken before ns nr p (info, more) e ∙ ap (λ n. n + 1) (equals a (accepted before) low (omega (arith, up, high)) (rw number at e)),
+      kept_there ∙ accepts_taken before ns nr p (info, more) e
+          ∙ ap (λ n. n + 1) (equals a (accepted before) low (omega (arith, up, high)) (rw number at e)),
       rw e refl,
     )
     in_sequence false e =
@@ -149,14 +161,15 @@ module _ (r : Run) (u : IsWithoutRelease r) (s : ℕ) (role : Role) (f : Frame) 
       where
         x : LinkState
         x = after_slot (after_calls (turn_at r m o).calls (took ns nr p (info, more) before))
+
         by_case : (nr_of (slot_outcome x).frame ≡ Some (vr x.endpoint)) ⊎ ((slot_outcome x).link.endpoint.state ≡ Closed) →
             (g : Frame) × (frame_at r m o ≡ Some g) × (nr_in g.content ≡ Some ((a + 1) % 8))
         by_case (inr e) =
-            absurd (stays_there (ap (λ l. l.endpoint.state) (link_step r m o) ∙ ap (λ l. (slot_outcome l).link.endpoint.state) ready_is ∙ e))
+            absurd (stays_there (ap (λ l. l.endpoint.state) (link_step r m o)
+            ∙ ap (λ l. (slot_outcome l).link.endpoint.state) ready_is ∙ e))
         by_case (inl e) =
             let said = frame_says (frame_at r m o) _ (ap (λ l. nr_of (slot_outcome l).frame) ready_is ∙ e) in
             (said.0, said.1, said.2 ∙ ap Some ((slotted_in r u m o).number said.0 said.1 _ said.2 ∙ ap (λ n. n % 8) accepted_one))
-
 
     pub answered_frame : (g : Frame) × (frame_at r m o ≡ Some g)
     answered_frame = (answered.0, answered.1)

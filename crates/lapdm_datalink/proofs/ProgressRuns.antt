@@ -1,21 +1,18 @@
 -- A run of the links of SAPI 0, slot by slot: what each link is between slots, what arrives, and the counts of both.
-use Rattle.std.specs.Prelude.{◌≡◌, ◌≢◌, ℕ, zero, suc, ◌+◌, ◌%◌, ◌≤◌, Bool, true, false, ◌⊎◌, List, [], ◌∷◌, length, get_or}
-use Rattle.std.specs.Prelude.{Option, Some, None, All}
-use Rattle.std.proofs.Common.{inl, inr, arith, refl, ap, sym, ◌∙◌}
-use Rattle.std.proofs.lemmas.List.{get_or_past}
-use Rattle.lapdm_frame.specs.Content.{Frame}
-use Rattle.lapdm_end.specs.lapdm_window.declared.Sapi.TheVariants.{Zero}
-use Rattle.lapdm_end.specs.lapdm_window.Ends.{Role, Mobile, Network, vr, vs, command_cr}
-use Rattle.lapdm_end.specs.lapdm_window.Calls.{is_idle}
-use Rattle.lapdm_link.specs.Events.{other}
-use Rattle.lapdm_datalink.specs.Links.{LinkState, slot_outcome, after_slot}
-use Rattle.lapdm_datalink.specs.Slots.{nr_in, nr_of}
-use Rattle.lapdm_datalink.specs.Channels.{Run, Side, channel_at, side_at, side_after, carried, after_calls, after_arriving}
-use Rattle.lapdm_datalink.specs.Progress.{link_at, turn_at, arriving_at, ready_at, frame_at, IsWithoutRelease}
-use Rattle.lapdm_datalink.proofs.ProgressSteps.{acked, issued, accepted, aired, Good, Moves}
-use Rattle.lapdm_datalink.proofs.ProgressLink.{Slotted, ns_in, ns_of}
-use Rattle.lapdm_datalink.proofs.ProgressStart.{Settled, settled, slotted_link, idle_from, idle_sends_nothing, idle_network, idle_stays}
-use Rattle.lapdm_datalink.proofs.ProgressStart.{idle_silent}
+use Rattle.{
+  std.specs.Prelude.{◌≡◌, ◌≢◌, ℕ, zero, suc, ◌+◌, ◌%◌, ◌≤◌, Bool, true, false, ◌⊎◌, List, [], ◌∷◌},
+  std.{specs.Prelude.{length, get_or, Option, Some, None, All}, proofs.Common.{inl, inr, arith, refl, ap, sym, ◌∙◌}},
+  std.proofs.lemmas.List.get_or_past,
+  lapdm_frame.specs.Content.Frame,
+  lapdm_end.specs.lapdm_window.{declared.Sapi.TheVariants.Zero, Ends.{Role, Mobile, Network, vr, vs, command_cr}, Calls.is_idle},
+  lapdm_link.specs.Events.other,
+  lapdm_datalink.{
+    specs.{Links.{LinkState, slot_outcome, after_slot}, Slots.{nr_in, nr_of}, Channels.{Run, Side, channel_at, side_at, side_after}},
+    specs.{Channels.{carried, after_calls, after_arriving}, Progress.{link_at, turn_at, arriving_at, ready_at, frame_at, IsWithoutRelease}},
+    proofs.{ProgressSteps.{acked, issued, accepted, aired, Good, Moves}, ProgressLink.{Slotted, ns_in, ns_of}, ProgressStart.Settled},
+    proofs.ProgressStart.{settled, slotted_link, idle_from, idle_sends_nothing, idle_network, idle_stays, idle_silent},
+  },
+}
 use Rattle.lapdm_datalink.proofs.ProgressCounts as C
 
 module _ (r : Run) where
@@ -83,18 +80,24 @@ module _ (r : Run) where
       start_good : (role : Role) → Good (link_at r 0 role)
       start_good Mobile = record { sapi = refl; low = omega arith; window = omega arith }
       start_good Network = record { sapi = refl; low = omega arith; window = omega arith }
-      start_idle : (role : Role) → is_idle (link_at r 0 role).endpoint.state ≡ true → issued (link_at r 0 role) ≡ acked (link_at r 0 role)
+
+      start_idle : (role : Role) → is_idle (link_at r 0 role).endpoint.state ≡ true →
+          issued (link_at r 0 role) ≡ acked (link_at r 0 role)
       start_idle Mobile h = refl
       start_idle Network h = refl
+
       start_settled : (role : Role) → Settled role (link_at r 0 role)
       start_settled Mobile = record { owes = refl; unsent = λ s. refl; opening = λ h. absurd cc }
       start_settled Network = record { owes = refl; unsent = λ s. refl; opening = λ h. absurd cc }
+
       start_roles : (role : Role) → (link_at r 0 role).endpoint.role ≡ role
       start_roles Mobile = refl
       start_roles Network = refl
+
       start_t200 : (role : Role) → (link_at r 0 role).t200 ≡ r.t200
       start_t200 Mobile = refl
       start_t200 Network = refl
+
       start_silent : is_idle (link_at r 0 Mobile).endpoint.state ≡ true → (role : Role) (k : ℕ) →
           get_or (side_at role (channel_at r 0)).sent k None ≡ None
       start_silent h Mobile k = refl
@@ -139,8 +142,10 @@ module _ (r : Run) where
             link_at r n Network
         quiet = rw (nothing_comes n h i Network)
             (idle_network (turn_at r n Network).calls (link_at r n Network) (u n Network) (h.network_idle i))
+
         same : ready_at r n Network ≡ after_slot (link_at r n Network)
         same = ap after_slot quiet
+
         ready_idle : is_idle (ready_at r n Network).endpoint.state ≡ true
         ready_idle = ap (λ m. is_idle m.endpoint.state) same ∙ h.network_idle i
 
@@ -167,13 +172,17 @@ module _ (r : Run) where
         good_after role =
             let x = slotted_at n h role in
             record { sapi = x.moves.sapi ∙ (h.good role).sapi; low = x.moves.low; window = x.moves.window }
+
         quiet : (role : Role) → is_idle (link_at r n role).endpoint.state ≡ true → role ≡ Mobile → arriving_at r n role ≡ None
         quiet Mobile i e = nothing_comes n h i Mobile
         quiet Network i e = absurd cc
-        sent_none : (role : Role) → frame_at r n role ≡ None → ((k : ℕ) → get_or (side_at role (channel_at r n)).sent k None ≡ None) →
+
+        sent_none : (role : Role) → frame_at r n role ≡ None →
+            ((k : ℕ) → get_or (side_at role (channel_at r n)).sent k None ≡ None) →
             (k : ℕ) → get_or (side_at role (channel_at r (suc n))).sent k None ≡ None
         sent_none role f old zero = ap (λ xs. get_or xs 0 None) (sent_step n role) ∙ rw f (carried_none (turn_at r n role).is_lost)
         sent_none role f old (suc k) = ap (λ xs. get_or xs (suc k) None) (sent_step n role) ∙ old k
+
         silent_after : is_idle (link_at r (suc n) Mobile).endpoint.state ≡ true → (role : Role) (k : ℕ) →
             get_or (side_at role (channel_at r (suc n))).sent k None ≡ None
         silent_after i Mobile k = sent_none Mobile (mobile_frame n h i) (h.silent (mobile_idle n h i) Mobile) k
@@ -239,9 +248,11 @@ module _ (r : Run) where
         by_case : let m = suc n + r.delay in
             (acked (link_at r (suc m) role) ≡ acked (link_at r m role))
             ⊎ ((nr_of (arriving_at r m role) ≡ Some (vs (link_at r m role).endpoint))
-            × (issued (link_at r m role) ≡ acked (link_at r m role) + 1) × (acked (link_at r (suc m) role) ≡ issued (link_at r m role))) →
+            × (issued (link_at r m role) ≡ acked (link_at r m role) + 1)
+            × (acked (link_at r (suc m) role) ≡ issued (link_at r m role))) →
             (acked (link_at r (suc m) role) ≡ acked (link_at r m role))
-            ⊎ ((acked (link_at r (suc m) role) ≡ issued (link_at r m role)) × (issued (link_at r m role) ≡ acked (link_at r m role) + 1)
+            ⊎ ((acked (link_at r (suc m) role) ≡ issued (link_at r m role))
+            × (issued (link_at r m role) ≡ acked (link_at r m role) + 1)
             × (issued (link_at r m role) % 8 ≡ accepted (link_at r (suc n) (other role)) % 8))
         by_case (inl e) = inl e
         by_case (inr (e, one, got)) = inr (got, one, number_arrived n role _ e)
@@ -275,7 +286,8 @@ module _ (r : Run) where
       where
         by_case : (acked (link_at r (suc k) role) ≡ acked (link_at r k role))
             ⊎ ((nr_of (arriving_at r k role) ≡ Some (vs (link_at r k role).endpoint))
-            × (issued (link_at r k role) ≡ acked (link_at r k role) + 1) × (acked (link_at r (suc k) role) ≡ issued (link_at r k role))) →
+            × (issued (link_at r k role) ≡ acked (link_at r k role) + 1)
+            × (acked (link_at r (suc k) role) ≡ issued (link_at r k role))) →
             acked (link_at r k role) ≡ 0 → acked (link_at r (suc k) role) ≡ 0
         by_case (inl e) before = e ∙ before
         by_case (inr x) before = absurd (no_number _ (ap nr_of (sym (nothing_arrives k role (omega (arith, h)))) ∙ x.0))

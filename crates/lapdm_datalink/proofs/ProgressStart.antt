@@ -1,24 +1,30 @@
 -- What holds of a link of SAPI 0 between slots: it owes nothing, and before it opens it has counted nothing.
-use Rattle.std.specs.Prelude.{◌≡◌, ℕ, ◌+◌, ◌-◌, ◌≤◌, Bool, true, false, ◌&&◌, ◌⊎◌, List, [], ◌∷◌, Option, Some, None, All, IfSome}
-use Rattle.std.proofs.Common.{inl, inr, arith, refl, ap, sym, ◌∙◌}
-use Rattle.std.proofs.lemmas.List.Elements.{All-head, All-tail}
-use Rattle.lapdm_frame.specs.Content.{Content, I, Rr, Rej, Frame}
-use Rattle.lapdm_end.specs.lapdm_window.declared.Sapi.TheVariants.{Zero}
-use Rattle.lapdm_end.specs.lapdm_window.declared.State.{State}
-use Rattle.lapdm_end.specs.lapdm_window.declared.State.TheVariants.{Idle, Opening, Open}
-use Rattle.lapdm_end.specs.lapdm_window.declared.Refused.{Refused}
-use Rattle.lapdm_end.specs.lapdm_window.Ends.{EndpointState, Outcome, Role, Mobile, Network}
-use Rattle.lapdm_end.specs.lapdm_window.Tables.{Reply, Nothing, SendsDm, TakesIFrame, TakesRr, outcome_of_reply, is_command}
-use Rattle.lapdm_end.specs.lapdm_window.Rules.{takes_i_frame, takes_rr}
-use Rattle.lapdm_end.specs.lapdm_window.segmenting.Segments.{Segment}
-use Rattle.lapdm_end.specs.lapdm_window.Calls.{Call, Opens, Sends, refusal_of, is_idle}
-use Rattle.lapdm_datalink.specs.Links.{LinkState, after_frame, after_slot, after_call, slot_outcome, is_opening, sabm_goes_first}
-use Rattle.lapdm_datalink.specs.Links.{with_outcome, with_frame, with_frames, is_awaiting_kind}
-use Rattle.lapdm_datalink.specs.Channels.{after_calls, after_call_unless, after_arriving, IsUse}
-use Rattle.lapdm_datalink.proofs.ProgressSteps.{acked, issued, accepted, IsAnswerOf, Good, taken, outcome_endpoint}
-use Rattle.lapdm_datalink.proofs.ProgressLink.{reply_with, frame_taken, Arrives, arrives, Called, then_called, Slotted, slotted}
-use Rattle.lapdm_datalink.proofs.ProgressLink.{called_nothing, called_sends, called_opens, passes_slot, slot_acked, slot_issued, slot_accepted, owed_later}
-use Rattle.lapdm_datalink.proofs.Answering.{owes_nothing}
+use Rattle.{
+  std.{
+    specs.Prelude.{◌≡◌, ℕ, ◌+◌, ◌-◌, ◌≤◌, Bool, true, false, ◌&&◌, ◌⊎◌, List, [], ◌∷◌, Option, Some},
+    specs.Prelude.{None, All, IfSome},
+    proofs.{Common.{inl, inr, arith, refl, ap, sym, ◌∙◌}, lemmas.List.Elements.{All-head, All-tail}},
+  },
+  lapdm_frame.specs.Content.{Content, I, Rr, Rej, Frame},
+  lapdm_end.specs.lapdm_window.{
+    declared.{Sapi.TheVariants.Zero, State.{State, TheVariants.{Idle, Opening, Open}}, Refused.Refused},
+    Ends.{EndpointState, Outcome, Role, Mobile, Network},
+    Tables.{Reply, Nothing, SendsDm, TakesIFrame, TakesRr, outcome_of_reply, is_command},
+    Rules.{takes_i_frame, takes_rr},
+    segmenting.Segments.Segment,
+    Calls.{Call, Opens, Sends, refusal_of, is_idle},
+  },
+  lapdm_datalink.{
+    specs.Links.{LinkState, after_frame, after_slot, after_call, slot_outcome, is_opening, sabm_goes_first, with_outcome, with_frame},
+    specs.{Links.{with_frames, is_awaiting_kind}, Channels.{after_calls, after_call_unless, after_arriving, IsUse}},
+    proofs.{
+      ProgressSteps.{acked, issued, accepted, IsAnswerOf, Good, taken, outcome_endpoint},
+      ProgressLink.{reply_with, frame_taken, Arrives, arrives, Called, then_called, Slotted, slotted, called_nothing, called_sends},
+      ProgressLink.{called_opens, passes_slot, slot_acked, slot_issued, slot_accepted, owed_later},
+      Answering.owes_nothing,
+    },
+  },
+}
 
 true_false : true ≡ false → ⊥
 true_false h = cc
@@ -49,6 +55,7 @@ module _ (s : ℕ) (cr : Bool) (l : LinkState) where
     where
       r : Reply
       r = reply_with s cr l (I ns nr p more info)
+
       by_reply : ((reply_with s cr l (I ns nr p more info) ≡ TakesIFrame ns nr p (info, more)) × (l.endpoint.state ≡ Open))
           ⊎ (reply_with s cr l (I ns nr p more info) ≡ Nothing) ⊎ (reply_with s cr l (I ns nr p more info) ≡ SendsDm) →
           (is_opening l.endpoint.state ≡ true) × ((taken (reply_with s cr l (I ns nr p more info)) l).is_sent ≡ l.is_sent)
@@ -121,7 +128,8 @@ idle_network_call (Sends m) l u i None e = absurd (grind (arith, e, i))
 idle_network_call (Opens info) l u i None e = absurd (network_no_mobile u)
 idle_network_call other l u i None e = absurd u
 
-pub idle_network : (cs : List Call) (l : LinkState) → All (IsUse Network) cs → is_idle l.endpoint.state ≡ true → after_calls cs l ≡ l
+pub idle_network : (cs : List Call) (l : LinkState) → All (IsUse Network) cs → is_idle l.endpoint.state ≡ true →
+    after_calls cs l ≡ l
 idle_network [] l u i = refl
 idle_network (c ∷ cs) l u i =
     let one = idle_network_call c l (All-head (IsUse Network) c cs u) i _ refl in
@@ -224,7 +232,8 @@ module _ (l : LinkState) where
   goes_first : sabm_goes_first l ≡ true → (is_opening l.endpoint.state ≡ true) × (l.is_sent ≡ false)
   goes_first h = (grind (arith, h), grind (arith, h))
 
-none_calls : (role : Role) (cs : List Call) (l : LinkState) → All (IsUse role) cs → l.answer ≡ None → (after_calls cs l).answer ≡ None
+none_calls : (role : Role) (cs : List Call) (l : LinkState) → All (IsUse role) cs → l.answer ≡ None →
+    (after_calls cs l).answer ≡ None
 none_calls role [] l u h = h
 none_calls role (c ∷ cs) l u h =
     let r = refusal_of c l.endpoint in
@@ -249,16 +258,20 @@ settled role o cs l z u quiet h = record {
   where
     m : LinkState
     m = after_slot (after_calls cs (after_arriving o l))
+
     ready_due : UnsentIsDue m
     ready_due s = due_after_slot (after_calls cs (after_arriving o l))
         (due_calls role cs (after_arriving o l) u (due_arriving o l z h.unsent) s)
+
     nothing : o ≡ None → m.answer ≡ None
     nothing e = rw e (none_calls role cs l u h.owes)
+
     by_from : UnsentFrom role (after_arriving o l) → m.answer ≡ None
     by_from (inl (i, r)) =
         nothing (quiet (ap (λ e. is_idle e.state) (sym (idle_frame o l z i)) ∙ i) r)
     by_from (inr (op, n)) =
         let x = opening_frame o l z op in absurd (true_false (sym (h.opening x.0) ∙ sym x.1 ∙ n))
+
     by_first : (b : Bool) → sabm_goes_first m ≡ b → (slot_outcome m).link.answer ≡ None
     by_first false e = owes_nothing m e
     by_first true e =
@@ -269,8 +282,8 @@ settled role o cs l z u quiet h = record {
 
 module _ (role : Role) where
   called_one : (c : Call) (l : LinkState) → l.endpoint.sapi ≡ Zero → acked l ≤ issued l → issued l ≤ acked l + 1 →
-      (is_idle l.endpoint.state ≡ true → issued l ≡ acked l) → IsUse role c → (r : Option Refused) → refusal_of c l.endpoint ≡ r →
-      Called l (after_call_unless r c l)
+      (is_idle l.endpoint.state ≡ true → issued l ≡ acked l) → IsUse role c → (r : Option Refused) →
+      refusal_of c l.endpoint ≡ r → Called l (after_call_unless r c l)
   called_one c l z low window idle u (Some why) e = called_nothing l z low window idle
   called_one (Sends m) l z low window idle u None e = called_sends l z low window idle m e
   called_one (Opens info) l z low window idle u None e = called_opens l z low window idle info e
@@ -334,8 +347,9 @@ slotted_link role o cs l g n idle u =
     let a = after_arriving o l in
     let x : Arrives o l a = arrives o l g n in
     let c : Called a (after_calls cs a) = called role cs a (x.moves.sapi ∙ g.sapi) x.moves.low x.moves.window
-        (λ i. (let same : a.endpoint ≡ l.endpoint = idle_frame o l g.sapi i in
-            ap (λ k. k.sent_segments) same ∙ idle (ap (λ k. is_idle k.state) (sym same) ∙ i) ∙ sym (ap (λ k. k.acked_segments) same))) u in
+    (λ i. (let same : a.endpoint ≡ l.endpoint = idle_frame o l g.sapi i in
+    ap (λ k. k.sent_segments) same ∙ idle (ap (λ k. is_idle k.state) (sym same) ∙ i)
+    ∙ sym (ap (λ k. k.acked_segments) same))) u in
     slotted o l a (after_slot (after_calls cs a)) g x
     (then_called c (passes_slot (after_calls cs a) c.moves.low c.moves.window))
 
@@ -348,7 +362,8 @@ is_young other = false
 
 -- a link that has not opened had not opened before, and its counts are the same; an open one was open, or had not opened
 pub record Ages (l m : LinkState) : Type 0 where
-  pub young : is_young m.endpoint.state ≡ true → (is_young l.endpoint.state ≡ true) × (issued m ≡ issued l) × (acked m ≡ acked l)
+  pub young : is_young m.endpoint.state ≡ true → (is_young l.endpoint.state ≡ true)
+      × (issued m ≡ issued l) × (acked m ≡ acked l)
   pub opened : m.endpoint.state ≡ Open → (l.endpoint.state ≡ Open) ⊎ (is_young l.endpoint.state ≡ true)
 
 ages_same : (l : LinkState) → Ages l l
@@ -380,7 +395,8 @@ module _ (s : ℕ) (cr : Bool) (l : LinkState) where
       (is_young l.endpoint.state ≡ true) × (e.sent_segments ≡ issued l) × (e.acked_segments ≡ acked l)
   young_rr nr p h = by_reply (rr_reply nr p)
     where
-      by_reply : ((reply_with s cr l (Rr nr p) ≡ TakesRr nr (is_command l.endpoint (record { sapi = s; cr = cr; content = Rr nr p }) && p))
+      by_reply : ((reply_with s cr l (Rr nr p) ≡
+          TakesRr nr (is_command l.endpoint (record { sapi = s; cr = cr; content = Rr nr p }) && p))
           × (l.endpoint.state ≡ Open))
           ⊎ (reply_with s cr l (Rr nr p) ≡ Nothing) ⊎ (reply_with s cr l (Rr nr p) ≡ SendsDm) →
           let e = (outcome_of_reply (reply_with s cr l (Rr nr p)) l.endpoint).new_state in
@@ -479,8 +495,9 @@ kept_counts role o cs l g n idle u =
     let a = after_arriving o l in
     let x : Arrives o l a = arrives o l g n in
     let c : Called a (after_calls cs a) = called role cs a (x.moves.sapi ∙ g.sapi) x.moves.low x.moves.window
-        (λ i. (let same : a.endpoint ≡ l.endpoint = idle_frame o l g.sapi i in
-            ap (λ k. k.sent_segments) same ∙ idle (ap (λ k. is_idle k.state) (sym same) ∙ i) ∙ sym (ap (λ k. k.acked_segments) same))) u in
+    (λ i. (let same : a.endpoint ≡ l.endpoint = idle_frame o l g.sapi i in
+    ap (λ k. k.sent_segments) same ∙ idle (ap (λ k. is_idle k.state) (sym same) ∙ i)
+    ∙ sym (ap (λ k. k.acked_segments) same))) u in
     (slot_acked (after_slot (after_calls cs a)) ∙ c.acked_same, slot_accepted (after_slot (after_calls cs a)) ∙ c.accepted_same)
 
 -- what the link owes before it sends, and its T200
@@ -492,8 +509,9 @@ module _ (role : Role) (o : Option Frame) (cs : List Call) (l : LinkState) (g : 
         let a = after_arriving o l in
         let x : Arrives o l a = arrives o l g n in
         called role cs a (x.moves.sapi ∙ g.sapi) x.moves.low x.moves.window
-            (λ i. (let same : a.endpoint ≡ l.endpoint = idle_frame o l g.sapi i in
-            ap (λ k. k.sent_segments) same ∙ idle (ap (λ k. is_idle k.state) (sym same) ∙ i) ∙ sym (ap (λ k. k.acked_segments) same))) u
+        (λ i. (let same : a.endpoint ≡ l.endpoint = idle_frame o l g.sapi i in
+        ap (λ k. k.sent_segments) same ∙ idle (ap (λ k. is_idle k.state) (sym same) ∙ i)
+        ∙ sym (ap (λ k. k.acked_segments) same))) u
 
     pub ready_owed : IfSome (after_slot (after_calls cs (after_arriving o l))).answer
         (IsAnswerOf (after_slot (after_calls cs (after_arriving o l))))

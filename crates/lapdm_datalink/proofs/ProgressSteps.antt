@@ -1,30 +1,24 @@
 -- What one link of SAPI 0 does when a frame arrives, when layer 3 makes a call, and in its slot: its counts, and what its frames say.
-use Rattle.std.specs.Prelude.{◌≡◌, ℕ, ◌+◌, ◌-◌, ◌%◌, ◌≤◌, Bool, true, false, ◌||◌, ◌⊎◌, if◌then◌else◌, nat_eq, length, Option, Some, None}
-use Rattle.std.specs.Prelude.{IfSome, List, [], ◌∷◌}
-use Rattle.std.proofs.Common.{inl, inr, arith, refl, ap, ◌∙◌, length-append}
-use Rattle.lapdm_frame.specs.Content.{Content, I, Frame}
-use Rattle.lapdm_end.specs.lapdm_window.declared.Sapi.TheVariants.{Zero}
-use Rattle.lapdm_end.specs.lapdm_window.declared.State.TheVariants.{Idle, Opening, Open, Closing, Closed}
-use Rattle.lapdm_end.specs.lapdm_window.segmenting.Segments.{Segment}
-use Rattle.lapdm_end.specs.lapdm_window.Ends.{EndpointState, Outcome, vr, vs, va, awaits_ack}
-use Rattle.lapdm_end.specs.lapdm_window.Rules.{takes_i_frame}
-use Rattle.lapdm_end.specs.lapdm_window.Tables.{
-  Reply,
-  Nothing,
-  SendsDm,
-  SendsUa,
-  AcceptsSabm,
-  ConfirmsEstablishment,
-  ClosesLink,
-  AcceptsDisc,
-  ReportsUiInformation,
-  TakesIFrame,
-  TakesRr,
-  TakesRej,
-  outcome_of_reply,
+use Rattle.{
+  std.{
+    specs.Prelude.{◌≡◌, ℕ, ◌+◌, ◌-◌, ◌%◌, ◌≤◌, Bool, true, false, ◌||◌, ◌⊎◌, if◌then◌else◌},
+    specs.Prelude.{nat_eq, length, Option, Some, None, IfSome, List, [], ◌∷◌},
+    proofs.Common.{inl, inr, arith, refl, ap, ◌∙◌, length-append},
+  },
+  lapdm_frame.specs.Content.{Content, I, Frame},
+  lapdm_end.specs.lapdm_window.{
+    declared.{Sapi.TheVariants.Zero, State.TheVariants.{Idle, Opening, Open, Closing, Closed}},
+    segmenting.Segments.Segment,
+    Ends.{EndpointState, Outcome, vr, vs, va, awaits_ack},
+    Rules.takes_i_frame,
+    Tables.{Reply, Nothing, SendsDm, SendsUa, AcceptsSabm, ConfirmsEstablishment, ClosesLink, AcceptsDisc, ReportsUiInformation},
+    Tables.{TakesIFrame, TakesRr, TakesRej, outcome_of_reply},
+  },
+  lapdm_datalink.specs.{
+    Links.{LinkState, with_outcome, with_frame, with_frames, after_frame, after_slot, after_call, slot_outcome, is_awaiting_kind},
+    Slots.{nr_in, nr_of},
+  },
 }
-use Rattle.lapdm_datalink.specs.Links.{LinkState, with_outcome, with_frame, with_frames, after_frame, after_slot, after_call, slot_outcome, is_awaiting_kind}
-use Rattle.lapdm_datalink.specs.Slots.{nr_in, nr_of}
 
 -- ---- counts
 
@@ -178,6 +172,7 @@ module _ (l : LinkState) (g : Good l) (none : l.answer ≡ None) where
     where
       m : LinkState
       m = taken (TakesIFrame ns nr p s) l
+
       by_wait : (w : Bool) → awaits_ack l.endpoint ≡ w → (k : Bool) → nat_eq nr (vs l.endpoint) ≡ k → aired l ≤ aired m
       by_wait false w k h = aired_low l m (awaits_none l w) (low_i ns nr p s) (acked_i ns nr p s)
       by_wait true w true h = aired_acked l m (by_nr_i ns nr p s h w) (low_i ns nr p s) g.low
@@ -202,12 +197,13 @@ module _ (l : LinkState) (g : Good l) (none : l.answer ≡ None) where
     where
       m : LinkState
       m = taken (TakesIFrame ns nr p s) l
+
       by_match : (b : Bool) → nat_eq ns (vr l.endpoint) ≡ b →
           (accepted m ≡ accepted l) ⊎ ((Some ns ≡ Some (vr l.endpoint)) × (accepted m ≡ accepted l + 1))
       by_match true h = inr (
         ap Some (grind (arith, h)),
         outcome_accepted (outcome_of_reply (TakesIFrame ns nr p s) l.endpoint) l
-          ∙ end_accepts l.endpoint ns nr p s h,
+            ∙ end_accepts l.endpoint ns nr p s h,
       )
       by_match false h =
           inl (outcome_accepted (outcome_of_reply (TakesIFrame ns nr p s) l.endpoint) l

@@ -1,20 +1,26 @@
 -- A link of SAPI 0 whose I frame was sent and is not acknowledged: what of that stays from one slot to the next.
-use Rattle.std.specs.Prelude.{◌≡◌, ℕ, ◌+◌, ◌≤◌, Bool, true, false, ◌⊎◌, nat_eq, List, [], ◌∷◌, Option, Some, None, All}
-use Rattle.std.proofs.Common.{inl, inr, arith, refl, ap, sym, ◌∙◌}
-use Rattle.std.proofs.lemmas.List.Elements.{All-head, All-tail}
-use Rattle.lapdm_frame.specs.Content.{Frame}
-use Rattle.lapdm_end.specs.lapdm_window.declared.Sapi.TheVariants.{Zero}
-use Rattle.lapdm_end.specs.lapdm_window.declared.State.TheVariants.{Open}
-use Rattle.lapdm_end.specs.lapdm_window.declared.Refused.{Refused}
-use Rattle.lapdm_end.specs.lapdm_window.segmenting.Segments.{Segment}
-use Rattle.lapdm_end.specs.lapdm_window.Ends.{EndpointState, Role, vr, vs, awaits_ack, first_unacked_segment}
-use Rattle.lapdm_end.specs.lapdm_window.Tables.{Reply, TakesIFrame, TakesRr, TakesRej}
-use Rattle.lapdm_end.specs.lapdm_window.Calls.{Call, Opens, Sends, refusal_of}
-use Rattle.lapdm_datalink.specs.Links.{LinkState, after_frame, after_slot, after_call, slot_outcome, is_due, keeps_back}
-use Rattle.lapdm_datalink.specs.Channels.{after_calls, after_call_unless, after_arriving, IsUse}
-use Rattle.lapdm_datalink.proofs.ProgressSteps.{acked, issued, Good, taken, is_rej, waits_i, waits_i_clock, waits_rr, waits_rr_clock}
-use Rattle.lapdm_datalink.proofs.ProgressLink.{reply_with, frame_taken, not_rej, arrives, kept_back}
-use Rattle.lapdm_datalink.specs.Progress.{is_i_frame}
+use Rattle.{
+  std.{
+    specs.Prelude.{◌≡◌, ℕ, ◌+◌, ◌≤◌, Bool, true, false, ◌⊎◌, nat_eq, List, [], ◌∷◌, Option, Some, None, All},
+    proofs.{Common.{inl, inr, arith, refl, ap, sym, ◌∙◌}, lemmas.List.Elements.{All-head, All-tail}},
+  },
+  lapdm_frame.specs.Content.Frame,
+  lapdm_end.specs.lapdm_window.{
+    declared.{Sapi.TheVariants.Zero, State.TheVariants.Open, Refused.Refused},
+    segmenting.Segments.Segment,
+    Ends.{EndpointState, Role, vr, vs, awaits_ack, first_unacked_segment},
+    Tables.{Reply, TakesIFrame, TakesRr, TakesRej},
+    Calls.{Call, Opens, Sends, refusal_of},
+  },
+  lapdm_datalink.{
+    specs.{Links.{LinkState, after_frame, after_slot, after_call, slot_outcome, is_due, keeps_back}, Channels.after_calls},
+    specs.{Channels.{after_call_unless, after_arriving, IsUse}, Progress.is_i_frame},
+    proofs.{
+      ProgressSteps.{acked, issued, Good, taken, is_rej, waits_i, waits_i_clock, waits_rr, waits_rr_clock},
+      ProgressLink.{reply_with, frame_taken, not_rej, arrives, kept_back},
+    },
+  },
+}
 
 -- a link that waits after a step waited before it, for the same frame, and its clock lost at most this number of slots
 abbrev pub WaitsFrom : (slots : ℕ) (before after : LinkState) → Type 0
@@ -139,8 +145,8 @@ waits_calls role (c ∷ cs) l low u =
 waits_slot_passes : (l : LinkState) → WaitsFrom 1 l (after_slot l)
 waits_slot_passes l a s = (a, s, refl, omega arith)
 
-pub waits_ready : (role : Role) (o : Option Frame) (cs : List Call) (l : LinkState) → Good l → l.answer ≡ None → All (IsUse role) cs →
-    WaitsFrom 1 l (after_slot (after_calls cs (after_arriving o l)))
+pub waits_ready : (role : Role) (o : Option Frame) (cs : List Call) (l : LinkState) → Good l → l.answer ≡ None →
+    All (IsUse role) cs → WaitsFrom 1 l (after_slot (after_calls cs (after_arriving o l)))
 waits_ready role o cs l g none u =
     let a = after_arriving o l in
     let b = after_calls cs a in

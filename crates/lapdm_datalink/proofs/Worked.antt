@@ -1,11 +1,10 @@
 -- Worked runs of the links of SAPI 0: the bound is reached, and it fails where T200 is shorter than the round trip or differs.
-use Rattle.std.specs.Prelude.{◌≡◌, refl, ℕ, zero, suc, true, false, List, [], ◌∷◌, ◌++◌, replicate, get_or}
-use Rattle.lapdm_frame.specs.declared.Channel.TheVariants.{Sdcch}
-use Rattle.lapdm_end.specs.lapdm_window.declared.State.TheVariants.{Open, Closed}
-use Rattle.lapdm_end.specs.lapdm_window.Ends.{Mobile, Network}
-use Rattle.lapdm_end.specs.lapdm_window.Calls.{Call, Opens, Sends}
-use Rattle.lapdm_datalink.specs.Channels.{Run, Slot}
-use Rattle.lapdm_datalink.specs.Progress.{link_at, waiting_slots, lossy_slots, asked_frames}
+use Rattle.{
+  std.specs.Prelude.{◌≡◌, refl, ℕ, zero, suc, true, false, List, [], ◌∷◌, ◌++◌, replicate, get_or},
+  lapdm_frame.specs.declared.Channel.TheVariants.Sdcch,
+  lapdm_end.specs.lapdm_window.{declared.State.TheVariants.{Open, Closed}, Ends.{Mobile, Network}, Calls.{Call, Opens, Sends}},
+  lapdm_datalink.specs.{Channels.{Run, Slot}, Progress.{link_at, waiting_slots, lossy_slots, asked_frames}},
+}
 
 -- slots without a call: nothing is lost, the mobile's block is lost, or the network's
 abbrev plain : Slot
@@ -41,7 +40,8 @@ quiet_asked = refl
 -- the first I frame is lost, and then the answer to its repetition: each loss costs T200, and no more slots are waited than the bound says
 abbrev lossy : Run
 lossy = run_of 2
-    (mobile_asks (Opens (1 ∷ [])) plain ∷ plain ∷ mobile_asks (Sends (replicate 21 9)) loses_up ∷ plain ∷ plain ∷ loses_down ∷ [])
+    (mobile_asks (Opens (1 ∷ [])) plain ∷ plain ∷ mobile_asks (Sends (replicate 21 9)) loses_up ∷ plain ∷ plain ∷ loses_down
+    ∷ [])
 
 lossy_waits : waiting_slots lossy 14 Mobile ≡ 10
 lossy_waits = refl
