@@ -1,12 +1,15 @@
-// The view Link: a mobile and a network, the radio path between them, a clock that runs T200, the chart, and the claims about the session.
+// The view Link: a mobile and a network, the radio path between them, a clock, the chart, and the claims about the session. Data links run
+// it slot by slot, or endpoints by hand.
 import { Chart } from "./chart.mjs";
 import { randomOf } from "./coding.mjs";
 import { $, announce, complain, copyText, h, hex, octetsOf, onWhole, plural, save, write } from "./dom.mjs";
 import { Session } from "./session.mjs";
+import { Slots } from "./slots.mjs";
 
 const NAMES = { mob: "the mobile", net: "the network", mob3: "the mobile (SAPI 3)", net3: "the network (SAPI 3)", rival: "another mobile" };
 const CALLS = { open: "open", send: "send", unit: "send unacknowledged", close: "release", tick: "T200 expires", idle: "fill frame" };
 const TO = { up: "to the network", down: "to the mobile" };
+const START = { true: { t200: 4, delay: 1 }, false: { t200: 10, delay: 3 } }; // with data links or without
 const URL_MOST = 12000; // characters; longer sessions are saved as a file
 
 const short = (octets) => (octets.length > 8 ? `${hex(octets.slice(0, 6))}.. (${octets.length} octets)` : hex(octets) || "no octets");
@@ -29,7 +32,8 @@ const variableWords = ({ variables: { vs, va, vr } }) => `V(S)=${vs} V(A)=${va} 
 
 export class LinkView {
   constructor(um, changed, lookAt) {
-    Object.assign(this, { um, changed, tsc: 0, channel: "sdcch", t200: 10, delay: 3, arrives: true, random: randomOf(1), quiet: false });
+    const state = { tsc: 0, channel: "sdcch", loop: true, ...START.true, arrives: true };
+    Object.assign(this, { um, changed, ...state, random: randomOf(1), quiet: false });
     this.chart = new Chart($("l-chart"), (event, open) => this.#look(event, open));
     this.lookAt = lookAt;
     for (const side of ["mob", "net"]) this.#buildEnd(side);
@@ -122,10 +126,15 @@ export class LinkView {
         this.play(this.session.lines);
       });
     }
+    $("l-loop").addEventListener("change", ({ target: { value } }) => {
+      this.#setLoop(value === "1");
+      this.play([]);
+    });
     for (const name of ["t200", "delay"]) {
-      onWhole($(`l-${name}`), 1, 999, (value) => {
+      onWhole($(`l-${name}`), 1, 250, (value) => {
         this[name] = value;
-        this.#draw();
+        if (this.loop) this.play(this.session.lines);
+        else this.#draw();
       });
     }
     $("l-arrives").addEventListener("change", ({ target: { checked } }) => (this.arrives = checked));
@@ -135,6 +144,16 @@ export class LinkView {
       clearTimeout(resized);
       resized = setTimeout(() => $("link").hidden || this.play(this.session.lines), 300);
     });
+  }
+
+  #setLoop(loop, { t200, delay } = START[loop]) {
+    Object.assign(this, { loop, t200, delay });
+    for (const name of ["t200", "delay"]) $(`l-${name}`).value = this[name];
+    $("l-loop").value = loop ? "1" : "0";
+    for (const name of ["mob-tick", "mob3-tick", "net-tick", "net3-tick", "mob-idle"]) $(`l-${name}`).hidden = loop;
+    $("l-net-idle").closest("section").hidden = loop;
+    write($("l-lines-title"), loop ? "The session as lines" : "The session as lines of um link");
+    write($("l-answers-title"), loop ? "Answers" : "Answers, as the program prints them");
   }
 
   // runs a line from a button; an invalid line is explained beside its input
@@ -152,19 +171,20 @@ export class LinkView {
 
   /** Runs one line, and draws what came of it. */
   run(line) {
-    const event = this.session.run(line);
-    const sentence = this.#add(event);
+    const events = [this.session.run(line)].flat();
+    this.now = this.session.slots ?? this.now;
+    const sentences = events.map((event) => this.#add(event));
     if (!this.quiet) {
-      announce(sentence);
+      announce(sentences.join(" "));
       this.chart.done();
       this.#draw();
     }
-    return event;
   }
 
   /** Plays lines from the start of a new session; those before a bad line stand. */
   play(lines) {
-    this.session = new Session(this.um, { tsc: this.tsc, channel: this.channel });
+    const { tsc, channel, t200, delay } = this;
+    this.session = this.loop ? new Slots(this.um, { tsc, channel, t200, delay }) : new Session(this.um, { tsc, channel });
     this.started = {};
     this.sentAt = new Map();
     this.now = 0;
@@ -188,12 +208,12 @@ export class LinkView {
   }
 
   #add(event) {
-    const { who, block, notices, sent, refused, why, report, lost } = event;
+    const { who, call, block, notices, sent, refused, why, report, lost } = event;
     const notes = [];
     const changes = new Map();
     const note = (end, words, kind) => notes.push({ side: end.replace("3", ""), words, kind });
     if (block && !lost && !report.accepted) note(event.to, "CRC fails: the block is discarded", "bad");
-    if (!block && !refused) note(who, callWords(event), "call");
+    if (!block && !refused && call !== "slot") note(who, callWords(event), "call");
     if (refused && NAMES[who]) note(who, `${callWords(event)}: refused, ${why}`, "bad");
     for (const { who: end, notice } of notices) {
       note(end, noticeWords(notice) + sapi3(end), notice.kind === "closed" && notice.reason !== "released" ? "bad" : "good");
@@ -221,6 +241,7 @@ export class LinkView {
   #say({ who, call, octets, block, lost, report, refused, why, notices, sent, line, places = [] }) {
     const parts = [];
     if (refused) parts.push(`${line.slice(0, 60)} is refused: ${why}`);
+    else if (call === "slot") parts.push(`slot ${this.now}`);
     else if (!block) parts.push(`${NAMES[who]}: ${callWords({ who: "", call, octets })}`);
     else if (lost) parts.push(`${block.label} ${TO[who]} is lost`);
     else {
@@ -247,7 +268,7 @@ export class LinkView {
   #draw() {
     for (const who of Object.keys(this.session.ends)) this.#drawEnd(who);
     for (const way of ["up", "down"]) this.#drawWay(way);
-    write($("l-time"), `time ${this.now}`);
+    write($("l-time"), `${this.loop ? "slot" : "time"} ${this.now}`);
     this.#drawClaims();
     clearTimeout(this.later);
     this.later = setTimeout(() => this.#drawLines(), 100);
@@ -266,7 +287,8 @@ export class LinkView {
     const { held, retries } = end.variables;
     const runs = end.timerRuns;
     const since = this.now - (this.started[who] ?? this.now);
-    const timer = runs ? `T200 at ${since} of ${this.t200}${retries ? `, expired ${plural(retries, "time")}` : ""}` : "T200 stopped";
+    const at = this.loop ? "T200 runs" : `T200 at ${since} of ${this.t200}`;
+    const timer = runs ? `${at}${retries ? `, expired ${plural(retries, "time")}` : ""}` : "T200 stopped";
     write($(`l-${who}-state`), `${end.state} · ${variableWords(end)} · ${held} held · ${timer}`);
     $(`l-${who}-tick`).disabled = !runs;
   }
@@ -292,7 +314,9 @@ export class LinkView {
     }));
     write($("l-air"), this.session.altered
       ? `${plural(this.session.altered, "block")} passed the CRC with wrong octets. The claims do not cover such a radio path.`
-      : "Every block was lost, discarded, or accepted as it was sent. It is proved that the claims hold in every such session.");
+      : `Every block was lost, discarded, or accepted as it was sent. ${this.loop
+        ? "Each call of a data link is proved; that the claims hold for two of them is tested."
+        : "It is proved that the claims hold in every such session."}`);
   }
 
   // -- the clock --
@@ -303,8 +327,9 @@ export class LinkView {
     write($("l-clock"), on ? "Stop the clock" : "Start the clock");
   }
 
-  // one step of time: blocks whose delay is over arrive, and then T200 expires where it is due
+  // one step of time: blocks whose delay is over arrive, and then T200 expires where it is due; a data link counts it itself
   #step() {
+    if (this.loop) return this.run(this.arrives ? "slot" : "slot hold");
     this.now++;
     for (const way of this.arrives ? ["up", "down"] : []) {
       const first = this.session.air[way][0];
@@ -325,9 +350,10 @@ export class LinkView {
   set(params) {
     this.tsc = Number(params.get("tsc") ?? 0) & 7;
     this.channel = params.get("channel") === "sacch" ? "sacch" : "sdcch";
-    this.t200 = Math.max(1, Number(params.get("t200") ?? 10) || 10);
-    this.delay = Math.max(1, Number(params.get("delay") ?? 3) || 3);
-    for (const name of ["tsc", "channel", "t200", "delay"]) $(`l-${name}`).value = this[name];
+    const loop = params.has("loop") ? params.get("loop") === "1" : !params.has("lines");
+    const whole = (name) => Math.min(250, Math.max(1, Number(params.get(name)) || START[loop][name]));
+    this.#setLoop(loop, { t200: whole("t200"), delay: whole("delay") });
+    for (const name of ["tsc", "channel"]) $(`l-${name}`).value = this[name];
     for (const name of ["t200", "delay"]) complain($(`l-${name}`));
     const lines = params.get("lines") ?? "";
     if (lines.length > URL_MOST) {
@@ -342,8 +368,9 @@ export class LinkView {
     return {
       ...(this.tsc && { tsc: this.tsc }),
       ...(this.channel === "sacch" && { channel: "sacch" }),
-      ...(this.t200 !== 10 && { t200: this.t200 }),
-      ...(this.delay !== 3 && { delay: this.delay }),
+      ...(this.loop !== !lines && { loop: this.loop ? 1 : 0 }),
+      ...(this.t200 !== START[this.loop].t200 && { t200: this.t200 }),
+      ...(this.delay !== START[this.loop].delay && { delay: this.delay }),
       ...(lines && lines.length <= URL_MOST && { lines }),
     };
   }

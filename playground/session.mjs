@@ -59,8 +59,9 @@ export class Session {
     const asked = readLine(line);
     const event = { line, ...asked, notices: [], sent: [], answers: [] };
     try {
-      if (asked.who === "up" || asked.who === "down") this.#arrive(event);
-      else this.#call(event);
+      if (asked.who === "up" || asked.who === "down") this.arrive(event);
+      else if (asked.who === "rival") this.#rival(event);
+      else this.invoke(event);
       event.answers.push("ok");
     } catch (error) {
       if (!(error instanceof Refused)) throw error;
@@ -71,14 +72,14 @@ export class Session {
     return event;
   }
 
-  #wantRoom(way) {
+  wantRoom(way) {
     if (this.air[way].length > ROOM - 2) throw new Refused("airfull", `${this.air[way].length} blocks are on the air there already`);
   }
 
-  #call(event) {
+  // a call at an end
+  invoke(event) {
     const { who, call, octets } = event;
-    this.#wantRoom(wayFrom(who));
-    if (who === "rival") return this.#rival(event);
+    this.wantRoom(wayFrom(who));
     const end = this.ends[who];
     const asked = call === "tick" ? "timer" : call === "open" && !octets ? "openBare" : call;
     this.#effects(event, who, end[asked](octets));
@@ -88,17 +89,18 @@ export class Session {
   #rival(event) {
     const most = this.channel === "sacch" ? 18 : 20;
     const { octets } = event;
+    this.wantRoom("up");
     if (octets.length === 0) throw new Refused("empty", "a SABM that opens the link of SAPI 0 carries information");
     if (octets.length > most) throw new Refused("toolong", `${octets.length} octets; a SABM here carries at most ${most}`);
     this.#effects(event, "rival", { notices: [], frames: [this.um.writeFrame({ kind: "sabm", pf: 1, info: octets }, this.channel)] });
   }
 
   // the first block of one direction is lost, or arrives with some of its bits inverted
-  #arrive(event) {
+  arrive(event) {
     const { who: way, call, places = [] } = event;
     const queue = this.air[way];
     if (queue.length === 0) throw new Refused("nothing", "no block is on the air there");
-    if (call !== "lose") this.#wantRoom("down" === way ? "up" : "down");
+    if (call !== "lose") this.wantRoom("down" === way ? "up" : "down");
     event.block = queue.shift();
     event.lost = call === "lose";
     if (event.lost) return;
@@ -119,26 +121,39 @@ export class Session {
     event.answers.push(`${side} takes ${hex(accepted)} ${heard}`);
     if (!same(accepted, event.block.octets)) this.altered++;
     const { unread, sapi } = this.um.readFrame(accepted, this.channel);
-    if (unread || (sapi !== 0 && sapi !== 3)) return;
-    const who = sapi === 3 ? `${side}3` : side;
-    this.#effects(event, who, this.ends[who].take(accepted));
+    if (!unread && (sapi === 0 || sapi === 3)) this.take(event, side, sapi === 3 ? `${side}3` : side, accepted);
+  }
+
+  // a frame for an end of a side
+  take(event, side, who, octets) {
+    this.#effects(event, who, this.ends[who].take(octets));
   }
 
   #effects(event, who, { notices, frames }) {
-    for (const notice of notices) {
-      event.notices.push({ who, notice });
-      event.answers.push(noticeLine(who, notice));
-      if (notice.kind === "got") this.claims[otherEnd(who)].handed.push(notice.message);
-      if (notice.kind === "acked") this.claims[who].acked = notice.number;
+    for (const notice of notices) this.note(event, who, notice);
+    for (const octets of frames) this.put(event, who, octets);
+  }
+
+  // an end reports something; when it opens, its messages begin
+  note(event, who, notice) {
+    event.notices.push({ who, notice });
+    event.answers.push(noticeLine(who, notice));
+    if (notice.kind === "got") this.claims[otherEnd(who)].handed.push(notice.message);
+    if (notice.kind === "acked") this.claims[who].acked = notice.number;
+    if (notice.kind === "opened") {
+      Object.assign(this.claims[who], { taken: [], acked: 0n });
+      this.claims[otherEnd(who)].handed = [];
     }
+  }
+
+  // a block goes on the air
+  put(event, who, octets) {
     const from = who === "rival" ? who : who.slice(0, 3);
-    for (const octets of frames) {
-      const frame = this.um.readFrame(octets, this.channel);
-      const block = { id: ++this.blocks, from, who, octets, frame, label: frameLabel(frame) };
-      event.sent.push(block);
-      event.answers.push(`${from} sends ${hex(octets)}`);
-      this.air[wayFrom(who)].push(block);
-    }
+    const frame = this.um.readFrame(octets, this.channel);
+    const block = { id: ++this.blocks, from, who, octets, frame, label: frameLabel(frame), slot: this.slots };
+    event.sent.push(block);
+    event.answers.push(`${from} sends ${hex(octets)}`);
+    this.air[wayFrom(who)].push(block);
   }
 
   /** How many messages an end accepted, and of them were delivered and acknowledged; whether delivered is a prefix, each once. */

@@ -1,10 +1,10 @@
 /* The cost of a T200 that expires before the answer can arrive: blocks sent for eight messages of twelve segments.
  *
- *   early PAIR EXPIRIES DELAY [rr]
+ *   early PAIR EXPIRIES DELAY [rr | SLOTS]
  *
  * PAIR as in sessions.c; the mobile sends. Nothing is lost; a block is DELAY slots in transit. EXPIRIES times, every seventh slot, the
- * mobile's T200 expires although an answer is in transit; it expires at no other time. With `rr` each REJ is passed to the mobile as an RR
- * with the same N(R), to measure what that saves. */
+ * mobile's T200 expires although an answer is in transit; at other times only if T200 is SLOTS, of both sides. With `rr` each REJ is passed
+ * to the mobile as an RR with the same N(R), to measure what that saves. */
 #include "side.h"
 #include <stdio.h>
 #include <stdlib.h>
@@ -64,10 +64,11 @@ int main(int count_of_words, char **words)
 	um_message m = { .count = OCTETS, .octets = { 1 } }, info = { .count = 1, .octets = { 1 } };
 	int sent = 0, slot;
 	if (count_of_words < 4) {
-		fprintf(stderr, "early PAIR EXPIRIES DELAY [rr]\n");
+		fprintf(stderr, "early PAIR EXPIRIES DELAY [rr | SLOTS]\n");
 		return 2;
 	}
-	int expiries = atoi(words[2]), delay = atoi(words[3]);
+	int expiries = atoi(words[2]), delay = atoi(words[3]), slots = count_of_words > 4 ? atoi(words[4]) : 0;
+	bool rr = count_of_words > 4 && !slots;
 	delay = delay < 1 ? 1 : delay > LONGEST ? LONGEST : delay;
 	quiet_osmo();
 	for (int r = 0; r < 2; r++) {
@@ -75,21 +76,27 @@ int main(int count_of_words, char **words)
 		sides[r].player = player_of(words[1][r]);
 		sides[r].role = r ? UM_NETWORK : UM_MOBILE;
 		sides[r].on = UM_SDCCH;
-		sides[r].t200 = T200;
+		sides[r].t200 = slots ? 51 * slots : T200;
 		sides[r].report = report;
 		sides[r].player->begin(&sides[r]);
 	}
 	sides[0].player->open(&sides[0], LINK0, &info);
 	for (slot = 0; slot < SLOTS && got < MESSAGES; slot++) {
+		if (slots)
+			now += 51;
+		for (int r = 0; slots && r < 2; r++)
+			sides[r].player->timers(&sides[r]);
 		while (opened == 2 && sent < MESSAGES && sides[0].player->send(&sides[0], LINK0, &m))
 			sent++;
 		if (slot > 20 && slot % 7 == 0 && expiries-- > 0) {
 			now += T200 + 1;
 			sides[0].player->timers(&sides[0]);
 		}
-		move(slot, delay, count_of_words > 4);
+		move(slot, delay, rr);
 	}
-	printf("%s, %s expiries, delay %d%s: %d slots, %d messages, up %d (I %d), down %d (REJ %d)\n", words[1], words[2], delay,
-		count_of_words > 4 ? ", REJ as RR" : "", slot, got, up, i_frames, down, rejects);
+	printf("%s, %s expiries, delay %d%s", words[1], words[2], delay, rr ? ", REJ as RR" : "");
+	if (slots)
+		printf(", T200 of %d", slots);
+	printf(": %d slots, %d messages, up %d (I %d), down %d (REJ %d)\n", slot, got, up, i_frames, down, rejects);
 	return 0;
 }

@@ -38,5 +38,11 @@ for delay in 1 2; do
     "$work/early" pp $expiries $delay rr
   done
 done
+for delay in 1 2 3; do
+  for pair in uu uo; do
+    "$work/early" $pair 0 $delay $((2 * delay - 1))
+    "$work/early" $pair 0 $delay $((2 * delay))
+  done
+done
 "$work/scenes" <bench/interop/scenes.txt
 "$work/codec" 40000 1

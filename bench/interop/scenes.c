@@ -12,7 +12,7 @@
 #include <stdlib.h>
 #include <string.h>
 
-enum { T200 = 204, LINE = 1400 };
+enum { T200 = 2040, LINE = 1400 }; /* 40 slots, since each frame that is fetched takes one */
 static struct side sides[2];
 static char told[2][LINE], done[2][LINE];
 static bool running, held, verbose;

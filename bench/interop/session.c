@@ -9,8 +9,9 @@
 enum { SLOTS = 12000, QUIET = 300, SETTLED = 12, AFTER_END = 40 };
 
 struct link_state {
-	bool asked_open[2], asked_close;
-	int opened[2], closed[2], why[2], error[2];
+	bool asked_open[2], asked_close, again; /* again: the closer's link opened again, and is to be closed again */
+	int opened[2], closed[2], why[2];
+	unsigned errors[2];           /* the causes reported, a bit each */
 	int given[2], got[2];         /* messages taken by the side; messages that the side got */
 	long next_at[2], settled;
 };
@@ -48,12 +49,14 @@ static bool began_anew(int link)
 	return false;
 }
 
+/* A closed link of um opens again on SAPI 3, if the other side's SABM comes after its release. */
 static void opened(int role, int link, const uint8_t *octets, int count)
 {
 	struct link_state *k = &links[link];
 	const um_message *info = &plan->links[link].info;
-	if (is_um(role) && k->opened[role])
+	if (is_um(role) && (k->opened[role] > k->closed[role] || (k->opened[role] && link == LINK0)))
 		say_fault("opened twice", role, link);
+	k->again = k->again || (is_um(role) && k->opened[role] && role == plan->closer);
 	if (link == LINK0 && role == NETWORK && !k->opened[role] && (count != info->count || memcmp(octets, info->octets, (size_t)count)))
 		say_fault("opened by other information", role, link);
 	if (!k->opened[role]++)
@@ -96,7 +99,7 @@ static void report(struct side *s, int link, enum event event, const uint8_t *oc
 			k->why[role] = number;
 		break;
 	case ERROR:
-		k->error[role] = number;
+		k->errors[role] |= 1u << number;
 		if (is_um(role))
 			say_fault("a frame of the other side was refused", role, link);
 	}
@@ -137,9 +140,11 @@ static void close_in_time(int link)
 	int closer = plan->closer;
 	bool early = plan->early && slot > plan->early_at, last = link == LINK3 || !plan->links[LINK3].wanted || links[LINK3].closed[closer];
 	k->settled += is_whole(link);
-	if (k->asked_close || !k->opened[closer] || k->closed[closer] || !(early || (last && k->settled > SETTLED)))
+	bool open = k->opened[closer] && !k->closed[closer] && !k->asked_close && (early || k->settled > SETTLED);
+	if (!last || !(open || k->again))
 		return;
 	k->asked_close = true;
+	k->again = false;
 	sides[closer].player->close(&sides[closer], link);
 }
 
@@ -227,9 +232,14 @@ static bool air(void)
 	return real[0] || real[1];
 }
 
+static bool is_over(int role, const struct link_state *k)
+{
+	return k->closed[role] && (!is_um(role) || k->closed[role] >= k->opened[role]);
+}
+
 static bool gave_up(int role, const struct link_state *k)
 {
-	return (k->closed[role] && k->why[role] != BY_RELEASE) || k->error[role] == 1 || (k->closed[role] && !k->asked_close);
+	return (k->closed[role] && k->why[role] != BY_RELEASE) || k->errors[role] & 1u << 1 || (k->closed[role] && !k->asked_close);
 }
 
 /* Why a session did not end well, by what a side reported; 1 is the error of libosmogsm for a timer that expired N200 times. */
@@ -243,10 +253,12 @@ static void find_cause(void)
 				what = k->asked_close ? "takes a SABM for a new one after its DISC" : "takes a repeated SABM for a new one and drops what it has sent";
 			else if (k->why[r] == BY_REFUSAL && k->closed[r])
 				what = "is refused by DM";
-			else if (!is_um(r) && k->error[r] == 14)
+			else if (!is_um(r) && k->errors[r] & 1u << 14)
 				what = "answers a repeated SABM by DM";
 			else if (gave_up(r, k))
 				what = !k->opened[r] ? "gives up its SABM" : k->asked_close && r == plan->closer ? "gives up its DISC" : "gives up its I frame";
+			else if (!is_um(r) && k->errors[r] & 1u << 7)
+				what = "reports a sequence error and drops a message";
 			if (what) {
 				snprintf(result.cause, sizeof result.cause, "%s %s", name, what);
 				return;
@@ -284,6 +296,7 @@ static void begin(const struct player *const players[2])
 		s->player = players[r];
 		s->role = r == MOBILE ? UM_MOBILE : UM_NETWORK;
 		s->on = plan->on;
+		s->alone = !plan->links[LINK0].wanted;
 		s->polled = plan->polled;
 		s->t200 = plan->t200[r];
 		s->report = report;
@@ -312,7 +325,7 @@ struct result run_session(const struct plan *planned, const struct player *const
 		over = true;
 		for (int l = 0; l < LINK_COUNT; l++)
 			if (plan->links[l].wanted) {
-				over = over && links[l].closed[0] && links[l].closed[1];
+				over = over && is_over(0, &links[l]) && is_over(1, &links[l]);
 				gone = gone || gave_up(0, &links[l]) || gave_up(1, &links[l]);
 			}
 		left -= gone;

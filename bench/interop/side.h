@@ -22,13 +22,14 @@ struct player {
 	void (*timers)(struct side *);
 	void (*end)(struct side *);
 };
-extern const struct player um_player;    /* um's endpoints, run as in bindings/c/examples/event_loop.c */
+extern const struct player um_player;    /* um's data link */
 extern const struct player plain_player; /* um's endpoints with one queue and T200 counted from the call, which um.h warns against */
 extern const struct player osmo_player;  /* libosmogsm's entities */
 
 struct side {
 	const struct player *player;
 	uint8_t role, on;  /* um_role, um_channel */
+	bool alone;        /* SAPI 0 is not of the session: it is established */
 	bool polled;       /* libosmogsm hands out a frame when the air has room, as in osmo-bts; else as soon as it has one */
 	long t200;         /* TDMA frames */
 	/* octets of OPENED, GOT and UNIT, else none; the number of ACKED, of CLOSED (enum closed) or of ERROR (its cause) */

@@ -1,4 +1,5 @@
-/* Block loss over a noisy channel: libosmocoding, um by the most likely word, and um by list decoding with 4, 16 and 64 words.
+/* Block loss over a noisy channel: libosmocoding, um by the most likely word, um by list decoding with 4, 16 and 64 words, by one and by 64
+ * words with four erasures, and by a time slot with 64 words and four erasures.
  *
  *   reach [BLOCKS]       20,000 blocks at each noise
  *
@@ -13,10 +14,12 @@
 #include <string.h>
 #include <time.h>
 
-enum { OSMO, ALONE, AMONG, RECEIVERS = AMONG + 3 };
-static const uint32_t tried[] = { 4, 16, 64 };
+enum { OSMO, ALONE, AMONG, ERASING = AMONG + 3, SLOT = ERASING + 2, RECEIVERS };
+static const uint8_t tried[SLOT] = { [AMONG] = 4, 16, 64, [ERASING] = 1, 64 };
 static const double noises[] = { 1.07, 0.24, -0.51, -1.21, -2.16 };
-static const char *const names[RECEIVERS] = { "libosmocoding", "um", "among 4", "among 16", "among 64" };
+static const char *const names[RECEIVERS] = {
+	"libosmocoding", "um", "among 4", "among 16", "among 64", "erasing 1", "erasing 64", "slot 64"
+};
 
 typedef int8_t block_soft[4][148];
 typedef const int8_t (*bursts)[148];
@@ -56,22 +59,51 @@ static void transmit(const uint8_t octets[23], uint8_t tsc, double deviation, bl
 	}
 }
 
+static bool receives_osmo(block_soft soft, uint8_t octets[23])
+{
+	sbit_t coded[464];
+	int errors, bits;
+	for (int b = 0; b < 4; b++) {
+		memcpy(coded + 116 * b, soft[b] + 3, 58);
+		memcpy(coded + 116 * b + 58, soft[b] + 87, 58);
+	}
+	return gsm0503_xcch_decode(octets, coded, &errors, &bits) == 0;
+}
+
+/* A block is decoded with its fourth burst. */
+static bool decodes_slot(block_soft soft, um_block_report *report)
+{
+	um_slot slot;
+	um_slot_block block;
+	if (!um_slot_new(&slot, UM_SDCCH8, UM_DOWNLINK, 0, 64, 4))
+		return false;
+	for (uint32_t frame = 0; frame < 4; frame++)
+		if (um_slot_take(&slot, frame, soft[frame], &block) != (frame == 3 ? UM_SLOT_BLOCK : UM_SLOT_TAKEN))
+			return false;
+	*report = block.report;
+	return true;
+}
+
+static bool decodes(int receiver, block_soft soft, um_block_report *report)
+{
+	uint32_t rank;
+	um_erasure erasure;
+	if (receiver == ALONE)
+		return um_receive_block((bursts)soft, report);
+	if (receiver == SLOT)
+		return decodes_slot(soft, report);
+	if (receiver < ERASING)
+		return um_receive_block_among((bursts)soft, tried[receiver], report, &rank);
+	return um_receive_block_erasing((bursts)soft, tried[receiver], 4, report, &rank, &erasure);
+}
+
 /* Whether a receiver accepts a block, and with which octets. */
 static bool receives(int receiver, block_soft soft, uint8_t octets[23])
 {
 	um_block_report report;
-	sbit_t coded[464];
-	uint32_t rank;
-	int errors, bits;
-	if (receiver == OSMO) {
-		for (int b = 0; b < 4; b++) {
-			memcpy(coded + 116 * b, soft[b] + 3, 58);
-			memcpy(coded + 116 * b + 58, soft[b] + 87, 58);
-		}
-		return gsm0503_xcch_decode(octets, coded, &errors, &bits) == 0;
-	}
-	if (receiver == ALONE ? !um_receive_block((bursts)soft, &report)
-			      : !um_receive_block_among((bursts)soft, tried[receiver - AMONG], &report, &rank))
+	if (receiver == OSMO)
+		return receives_osmo(soft, octets);
+	if (!decodes(receiver, soft, &report))
 		abort();
 	memcpy(octets, report.octets, 23);
 	return report.accepted;
@@ -139,8 +171,11 @@ static void marks(void)
 		else if (!receives(AMONG + 2, soft, octets) && fails < POOL)
 			memcpy(failed[fails++], soft, sizeof soft);
 	}
-	double alone = least(ALONE, held, POOL), among = least(AMONG + 2, held, POOL);
-	printf("the first word holds: %.0f ns alone, %.0f among 64, ratio %.2f\n", alone, among, among / alone);
+	double alone = least(ALONE, held, POOL);
+	for (int r = AMONG + 2; r < RECEIVERS; r++) {
+		double other = least(r, held, POOL);
+		printf("the first word holds: %.0f ns alone, %.0f %s, ratio %.2f\n", alone, other, names[r], other / alone);
+	}
 	for (int r = AMONG; r < RECEIVERS; r++)
 		printf("none of 64 holds: %.2f us %s\n", least(r, failed, POOL) / 1000, names[r]);
 }

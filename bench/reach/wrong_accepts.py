@@ -1,5 +1,6 @@
 """How often a block in Gaussian noise is accepted wrongly because of a light codeword, by importance sampling: the noise is drawn around
-the middle between the block sent and the other one, and each acceptance of the other one weighs its likelihood ratio.
+the middle between the block sent and the other one, and each acceptance of the other one weighs its likelihood ratio. With one word and
+with 64, each with and without four erasures (E).
 
 usage: wrong_accepts.py light.json SAMPLES SIGMA..
 
@@ -22,15 +23,30 @@ def sent(data):
     return 1 - 2.0 * um.send_blocks(np.packbits(data, axis=1, bitorder="little"), 0)
 
 
+def received(soft):
+    """The octets of each block, and whether they are accepted: by 1 and 64 words, and with erasures, 1E and 64E."""
+    out = {}
+    for most in (1, 64):
+        r = um.receive_blocks_among(soft, most)
+        octets, accepted = r["octets"].copy(), r["accepted"].astype(bool)
+        out[str(most)] = octets, accepted
+        octets, accepted = octets.copy(), accepted.copy()
+        for i in np.flatnonzero(~accepted):
+            report = um.receive_block_erasing(soft[i], most, 4)[0]
+            if report.accepted:
+                octets[i], accepted[i] = np.frombuffer(report.accepted, np.uint8), True
+        out[f"{most}E"] = octets, accepted
+    return out
+
+
 for sigma in map(float, sys.argv[3:]):
     o = rng.integers(0, 2, (20000, 184), dtype=np.uint8)
     q = np.clip(np.rint(32 * (sent(o) + sigma * rng.standard_normal((20000, 4, 148)))), -127, 127).astype(np.int8)
-    un1 = 1 - um.receive_blocks(q)["accepted"].mean(); un = 1 - um.receive_blocks_among(q, 64)["accepted"].mean()
-    total = {1: 0.0, 64: 0.0}
-    parts = []
+    lost = {name: 1 - accepted.mean() for name, (_, accepted) in received(q).items()}
+    total, spread = dict.fromkeys(lost, 0.0), dict.fromkeys(lost, 0.0)
     for w in map(int, os.environ.get("WEIGHTS", "26 30 32 34 36").split()):
         words = kinds.get(w, [])
-        p = {1: [], 64: []}
+        p = {name: [] for name in lost}
         for _ in range(N // 4000):
             n = 4000
             o = rng.integers(0, 2, (n, 184), dtype=np.uint8)
@@ -45,14 +61,12 @@ for sigma in map(float, sys.argv[3:]):
             ll = np.where(d, -(x - a) ** 2 + (x - mean) ** 2, 0).sum(axis=(1, 2)) / (2 * sigma ** 2)
             q = np.clip(np.rint(32 * x), -127, 127).astype(np.int8)
             other = np.packbits(o2, axis=1, bitorder="little")
-            for most in p:
-                r = um.receive_blocks_among(q, most)
-                hit = r["accepted"] & (r["octets"] == other).all(axis=1)
-                p[most].append(np.where(hit, np.exp(ll), 0))
-        for most in p:
-            v = np.concatenate(p[most]) * len(words)
-            total[most] += v.mean()
-            if most == 64: parts.append(f"{w}: {v.mean():.1e} +- {v.std() / math.sqrt(len(v)):.0e}")
-    print(f"sigma {sigma} (Es/N0 {10 * math.log10(0.5 / sigma ** 2):.2f} dB): not accepted {un1:.4f} of one word, {un:.5f} of 64; "
-          f"accepted wrongly {total[1]:.1e} of one, {total[64]:.1e} of 64 a block, "
-          f"1 in {un / total[64] if total[64] else 0:.1e} of those not saved; by weight {', '.join(parts)}", flush=True)
+            for name, (octets, accepted) in received(q).items():
+                p[name].append(np.where(accepted & (octets == other).all(axis=1), np.exp(ll), 0))
+        for name in p:
+            v = np.concatenate(p[name]) * len(words)
+            total[name] += v.mean()
+            spread[name] += v.var() / len(v)
+    print(f"sigma {sigma} (Es/N0 {10 * math.log10(0.5 / sigma ** 2):.2f} dB): " + "; ".join(
+        f"{name}: not accepted {lost[name]:.5f}, accepted wrongly {total[name]:.1e} +- {math.sqrt(spread[name]):.0e}, "
+        f"1 in {lost[name] / total[name] if total[name] else 0:.1e} of those not accepted" for name in lost), flush=True)

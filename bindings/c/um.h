@@ -26,6 +26,7 @@
 #define UM_VERSION_MAJOR 0
 #define UM_VERSION_MINOR 2
 #define UM_VERSION_PATCH 0
+#define UM_VERSION_NUMBER (1000000 * UM_VERSION_MAJOR + 1000 * UM_VERSION_MINOR + UM_VERSION_PATCH)
 
 /* UM_CALL marks a call whose answer must not be ignored: what it writes is not written if it refuses. In gcc and clang an enum that a
  * call returns has one octet, so that -Wswitch and debuggers know the answer; elsewhere the answer is a uint8_t. */
@@ -44,6 +45,10 @@
 #ifdef __cplusplus
 extern "C" {
 #endif
+
+/* Returns the version of the library as one number, 1000000 * major + 1000 * minor + patch; that of this header is UM_VERSION_NUMBER. They
+ * differ if the program runs with another shared library than it was compiled for. */
+uint32_t um_version(void);
 
 /* Blocks: SACCH, SDCCH, BCCH, PCH and AGCH use the same coding (3GPP TS 45.003, 4.1). */
 
@@ -503,7 +508,7 @@ typedef struct um_timed_end {
 typedef struct um_datalink {
 	um_timed_end link0; /* SAPI 0 */
 	um_timed_end link3; /* SAPI 3 */
-	uint8_t heard0;     /* whether the last frame taken since um_datalink_next was of SAPI 0 and not UI; any value but 0 means yes */
+	uint8_t heard0;     /* whether a frame of SAPI 0 other than UI was taken since um_datalink_next; any value but 0 means yes */
 	uint8_t main;       /* what um_datalink_main said last; any value but 0 means yes */
 } um_datalink;
 

@@ -65,6 +65,9 @@ private:
 	const T *at;
 };
 
+// The version of the library, as um.h says; that of the headers is UM_VERSION_NUMBER.
+inline std::uint32_t version() { return um_version(); }
+
 using block = std::array<std::uint8_t, 23>; // the 23 octets of a block
 using block_bits = std::array<std::uint8_t, 592>;
 using block_soft = std::array<std::int8_t, 592>;

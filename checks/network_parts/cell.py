@@ -6,11 +6,11 @@ import time
 import um
 from air import SOFT, Air
 from rsl import Rsl
-from tdma import HYPERFRAME, LOST, UPLINK, Blocks, dedicated_place, sync_fields
 from trx import Transceiver
 from watched import BSIC, TSC, Watched
 
 FRAME = 60 / 13000  # seconds
+COMBINATIONS = ("bcch_ccch_sdcch4", *["sdcch8"] * 7)  # of the time slots, as in osmo-bsc.cfg
 LAG = 15  # frames from a burst's time to when it is heard, so that the base station may be late; its answer leaves 28 frames after a block
 
 
@@ -18,7 +18,9 @@ class Cell:
     def __init__(self, options):
         self.options, self.fn, self.zero, self.trace = options, 0, time.monotonic(), open("trace.log", "w")
         self.wrong, self.outcomes, self.counts, self.begun = [], collections.Counter(), collections.Counter(), 0
-        self.rsl, self.texts, self.recent, self.uplink, self.verdicts = Rsl(self.log), set(), {}, collections.defaultdict(Blocks), {}
+        self.rsl, self.texts, self.verdicts = Rsl(self.log), set(), {}
+        self.downlink, self.uplink = ([um.Slot(each, way, tn) for tn, each in enumerate(COMBINATIONS)] for way in um.DIRECTIONS)
+        self.sent_bursts = self.sent_blocks = ()  # of each time slot, in this frame: what the base station sent, and the block that it ends
         self.air = Air(options.block, options.burst, options.bit, options.noise)
         self.last_busy, self.radio, self.station = 0, Transceiver(self.rsl), None
         self.mobiles = [Watched(self, index) for index in range(options.mobiles)]
@@ -38,15 +40,16 @@ class Cell:
     def frame(self, fn):
         self.fn = fn
         if fn % 51 == 0:
-            self.radio.tell_time(self.now() % HYPERFRAME)
+            self.radio.tell_time(self.now() % um.FRAMES)
             self.begin_sessions()
             for late in [place for place in self.radio.bursts if place[1] < fn]:
                 self.counts["bursts that came too late"] += 1
                 del self.radio.bursts[late]
-        for tn in range(8):
-            self.recent[tn, fn % 8] = self.radio.bursts.pop((tn, fn), None)
-        if fn % 51 % 10 == 1 and self.recent[0, fn % 8]:
-            self.hear_sync(self.recent[0, fn % 8], fn)
+        self.sent_bursts = [self.radio.bursts.pop((tn, fn), None) for tn in range(8)]
+        self.sent_blocks = [slot.take(fn, sent and sent.translate(SOFT)) for slot, sent in zip(self.downlink, self.sent_bursts)]
+        place = um.place_frame(COMBINATIONS[0], "downlink", 0, fn)
+        if self.sent_bursts[0] and place and place.channel == um.Channel.SCH:
+            self.hear_sync(self.sent_bursts[0], fn)
         up = [[] for _ in range(8)]
         for mobile in self.mobiles:
             mobile.frame(fn)
@@ -56,34 +59,30 @@ class Cell:
         for tn in range(8):
             self.send_up(tn, fn, up[tn])
 
-    def sent_block(self, tn, fn):
-        """The block whose last burst the base station sent in this frame, without loss."""
-        bursts = [self.recent[tn, (fn - back) % 8] for back in (3, 2, 1, 0)]
-        return um.receive_block(b"".join(burst.translate(SOFT) if burst else LOST for burst in bursts)).accepted
-
     def hear_sync(self, burst, fn):
         """SCH over the air. Ten bits of CRC do not detect all errors, so an accepted burst may be another than was sent."""
-        report = um.receive_sync(self.air.carry(burst, "sch", fn) or LOST)
+        report = um.receive_sync(self.air.carry(burst, "sch", fn) or bytes(148))
         if report.accepted and report.accepted != um.receive_sync(burst.translate(SOFT)).accepted:
             self.counts["SCH accepted wrongly"] += 1
             return
         self.counts["SCH accepted" if report.accepted else "SCH rejected"] += 1
-        self.expect(not report.accepted or sync_fields(report.accepted) == (BSIC, fn), f"SCH {report.accepted}")
+        if report.accepted:
+            said = um.read_sch(report.accepted)
+            self.expect(said and (said.bsic, said.frame) == (BSIC, fn), f"SCH {said}")
 
     def send_up(self, tn, fn, said):
         """One of the mobiles that send at once drowns the others for the whole block."""
         if not said:
             return self.radio.give(tn, fn, None, 0)
-        places = [(dedicated_place(mobile.channel, fn - UPLINK) if mobile.channel is not None else ("rach", 0)) for _, mobile in said]
-        name, at = places[0]
-        burst, mobile = random.Random(fn - at).choice(said)
+        place = um.place_frame(COMBINATIONS[tn], "uplink", tn, fn)
+        burst, mobile = random.Random(place.first).choice(said)
         self.counts["collisions"] += len(said) > 1
-        soft = self.air.carry(burst, (tn, name), fn - at)
-        self.radio.give(tn, fn, soft, TSC if name != "rach" else 0)
-        if name != "rach":
-            report = self.uplink[tn, name].take(fn, at, soft or LOST)
-            if report and len(said) == 1 and name in mobile.truth.active:
-                self.verdicts[tn, fn] = report.accepted is not None
+        soft = self.air.carry(burst, (tn, "up"), place.first)
+        is_access = place.channel == um.Channel.RACH
+        self.radio.give(tn, fn, soft, 0 if is_access else TSC)
+        block = None if is_access else self.uplink[tn].take(fn, soft)
+        if block and len(said) == 1 and block.first == place.first and block.channel.name.lower() in mobile.truth.active:
+            self.verdicts[tn, fn] = block.report.accepted is not None
         return None
 
     # -- the run
@@ -126,7 +125,7 @@ class Cell:
             for last in range(last + 1, self.now() - LAG + 1):
                 self.radio.serve(0)
                 if self.radio.on:
-                    self.frame(last % HYPERFRAME)
+                    self.frame(last % um.FRAMES)
         self.trace.close()
         return self.account(last)
 

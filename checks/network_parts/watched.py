@@ -1,8 +1,8 @@
 """The mobile of examples/network, with all that it reports tested, at that time, against what the network says of itself on Abis."""
 import random
 
+import um
 from mobile import Mobile
-from tdma import LOST, common_place, dedicated_place
 
 BSIC, TSC = 13, 5  # as in osmo-bsc.cfg
 
@@ -22,30 +22,31 @@ class Watched(Mobile):
 
     # -- bursts and blocks
 
-    def place(self, fn):
-        return common_place(fn, True) if self.channel is None else dedicated_place(self.channel, fn)
-
     def frame(self, fn):
-        """Hears what the base station sent on timeslot `tn` in this frame. The mobile's own count of frames is another."""
+        """Hears what the base station sent on time slot `tn` in this frame. The mobile's own count of frames is another."""
         if self.channel is not None and self.truth is not self.cell.rsl.truths[self.channel]:
             self.ended("channel given to another")
-        name, at = self.place(fn) or (None, 0)
-        burst = self.cell.recent[self.tn, fn % 8]
-        soft = self.cell.air.carry(burst, (self.index, name), fn - at) if burst else None
-        self.hear(fn + self.ahead, soft or LOST)
+        place = um.place_frame(self.slot.combination, "downlink", self.tn, fn)
+        burst = self.cell.sent_bursts[self.tn]
+        self.hear(fn + self.ahead, self.cell.air.carry(burst, self.index, place.first if place else fn) if burst else None)
         self.expect(self.offset is None or (self.fn, self.bsic) == (fn, BSIC), f"frame {self.fn}, BSIC {self.bsic} in frame {fn}")
 
-    def hear_block(self, name, report):
-        self.cell.counts[f"blocks {'accepted' if report.accepted else 'rejected'} on {name}"] += 1
-        if report.accepted:
-            sent = self.cell.sent_block(self.tn, self.fn)
-            if sent is None:  # a channel that begins within a block: the base station sent other bursts before
+    def hear_block(self, block):
+        name, octets = block.channel.name, block.report.accepted
+        self.cell.counts[f"blocks {'accepted' if octets else 'rejected'} on {name}"] += 1
+        if octets:
+            sent = self.cell.sent_blocks[self.tn]
+            if sent is None or not sent.report.accepted:  # a channel that begins within a block: the base station sent other bursts before
                 self.cell.counts["blocks accepted of which not all bursts were sent"] += 1
-            self.expect(sent in (None, report.accepted) and report.tsc == TSC, f"{name}: {report.accepted.hex()}, tsc {report.tsc}")
-            if name == "bcch" or name == "ccch" and report.accepted[2] == 0x3F:
-                known = report.accepted in self.cell.rsl.common or not any(report.accepted)  # zeros until the controller gave a block
-                self.expect(known, f"{name}: {report.accepted.hex()}")
-        super().hear_block(name, report)
+            else:
+                at = block.first, block.channel, block.subchannel
+                same = (sent.report.accepted, sent.first, sent.channel, sent.subchannel) == (octets, *at)
+                self.expect(same, f"{name}: {octets.hex()} at {at}, sent {sent}")
+            self.expect(block.report.tsc == TSC, f"{name}: {octets.hex()}, tsc {block.report.tsc}")
+            if name == "BCCH" or name == "CCCH" and octets[2] == 0x3F:
+                known = octets in self.cell.rsl.common or not any(octets)  # zeros until the controller gave a block
+                self.expect(known, f"{name}: {octets.hex()}")
+        super().hear_block(block)
 
     def heard_slow(self, frame):
         known = any(message[1:].startswith(frame.info) for message in self.cell.rsl.filling)

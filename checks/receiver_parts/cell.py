@@ -12,7 +12,7 @@ DUMMY = (  # 45.002, 5.2.6
 )
 
 
-def um(command, lines):
+def program(command, lines):
     """The lines that the program prints for these."""
     done = subprocess.run([os.path.join(TOP, "um"), command], input="\n".join(lines) + "\n", stdout=subprocess.PIPE, text=True, check=True)
     return done.stdout.splitlines()
@@ -36,9 +36,9 @@ def tables(combination):
     return [slots[combination, "downlink"]] + 7 * [slots["sdcch8", "downlink"]]
 
 
-def cell(combination, bsic, first, count, draw):
-    """`count` frames from frame `first` on (multiples of 102) of a cell with random messages: the bits, frames x slots x 148; the octets of
-    each block in hexadecimal by the slot and frame of its first burst; and the bits of each SCH by its frame."""
+def cell(combination, bsic, first, count, draw, given=()):
+    """`count` frames from frame `first` on (multiples of 102) of a cell: the bits, frames x slots x 148; the octets of each block in
+    hexadecimal by the slot and frame of its first burst; and the bits of each SCH by its frame. Blocks that are not given are random."""
     bits = numpy.empty((count, 8, 148), numpy.uint8)
     bits[:] = row(DUMMY)
     lines, blocks, syncs = [], {}, {}
@@ -51,9 +51,10 @@ def cell(combination, bsic, first, count, draw):
                 syncs[first + frame] = sch_bits(bsic, first + frame)
                 lines.append((slot, frame, "sch " + syncs[first + frame]))
             elif burst.endswith(".0"):
-                blocks[slot, first + frame] = draw.bytes(23).hex()
-                lines.append((slot, frame, f"block {bsic & 7} {blocks[slot, first + frame]}"))
-    answers = iter(um("code", [line for _, _, line in lines]))
+                key = slot, first + frame
+                blocks[key] = given[key] if key in given else draw.bytes(23).hex()
+                lines.append((slot, frame, f"block {bsic & 7} {blocks[key]}"))
+    answers = iter(program("code", [line for _, _, line in lines]))
     for slot, frame, line in lines:
         for later in range(4 if line.startswith("block") else 1):
             bits[frame + later, slot] = row(next(answers)[2:])

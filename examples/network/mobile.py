@@ -1,17 +1,14 @@
 """A mobile of a test set, from the synchronisation burst to a short message: everything below layer 3 is um's.
 
-The caller has the radio: for each TDMA frame it gives `hear` the burst of timeslot `tn` (148 soft bits), then asks `speak` for the burst
-to send. The mobile finds the cell's time on SCH, reads BCCH and CCCH, and is then idle. It answers pages by itself. `update`, `detach`
-and `message` begin a session: access bursts, IMMEDIATE ASSIGNMENT, SABM and UA on SDCCH, layer 3, CHANNEL RELEASE, DISC.
+The caller has the radio: for each TDMA frame it gives `hear` the burst of time slot `tn`, then asks `speak` for the burst to send. The
+mobile finds the cell's time on SCH, reads BCCH and CCCH, and is then idle. It answers pages by itself. `update`, `detach` and `message`
+begin a session: access bursts, IMMEDIATE ASSIGNMENT, SABM and UA on SDCCH, layer 3, CHANNEL RELEASE, DISC.
 
 `checks/network show` runs one against osmo-bts-trx, osmo-bsc and osmo-msc, and prints what it hears and sends."""
 import random
 
 import um
-from datalink import DataLink
-from tdma import (
-    HYPERFRAME, LOST, UPLINK, Blocks, access_burst, common_place, dedicated_place, is_rach, request_reference, sync_fields,
-)
+from um import Channel
 
 CAUSES = {"update": 0x00, "detach": 0x00, "message": 0x10, "page": 0x80}  # of a CHANNEL REQUEST, with four random bits
 ACCESSES = 8  # access bursts until the mobile gives up: 1 + max retrans
@@ -27,6 +24,17 @@ def digits(text):
     return bytes(int(text[at + 1] + text[at], 16) for at in range(0, len(text), 2))
 
 
+def request_reference(ra, fn):
+    """The three octets by which an IMMEDIATE ASSIGNMENT names the access burst with this RA, sent in this frame (44.018, 10.5.2.30)."""
+    t1, t2, t3 = um.time_of_frame(fn)
+    return bytes([ra, t1 % 32 << 3 | t3 >> 3, (t3 & 7) << 5 | t2])
+
+
+def sdcch_of(number):
+    """The combination and the subchannel of an SDCCH by its channel number (44.018, 10.5.2.5)."""
+    return ("bcch_ccch_sdcch4", number >> 3 & 3) if number >> 5 == 1 else ("sdcch8", number >> 3 & 7)
+
+
 def describe(frame):
     """A frame in one line."""
     numbers = {"i": f" nr {frame.nr} ns {frame.ns}", "rr": f" nr {frame.nr}", "rej": f" nr {frame.nr}"}.get(frame.kind, "")
@@ -40,70 +48,79 @@ class Mobile:
     def __init__(self, imsi, say, words=64, t200=(2, 2)):
         self.imsi, self.say, self.words, self.t200 = digits("9" + imsi), say, words, t200
         self.offset = self.candidate = self.fn = self.bsic = self.lai = self.tmsi = None
-        self.combined, self.idle_blocks = True, Blocks(words)
+        self.common = "bcch_ccch_sdcch4"
         self._idle()
 
     def _idle(self):
         """No session: the mobile listens to BCCH and CCCH."""
         self.kind, self.channel, self.tn, self.accesses = None, None, 0, []
+        self._tune(self.common)
+
+    def _tune(self, combination, subchannel=None):
+        """Listens to the SDCCH and SACCH of a subchannel of time slot `tn`, or without one to BCCH and CCCH."""
+        self.subchannel, self.slot = subchannel, um.Slot(combination, "downlink", self.tn, self.words)
+
+    def _place(self, direction):
+        """The place of this frame's burst of time slot `tn`; None if it is on no channel of the mobile."""
+        place = um.place_frame(self.slot.combination, direction, self.tn, self.fn)
+        if place is None or self.subchannel is None:
+            return place if place and place.channel in (Channel.BCCH, Channel.CCCH, Channel.RACH) else None
+        return place if place.channel in (um.SDCCH, um.SACCH) and place.subchannel == self.subchannel else None
 
     # -- bursts and blocks
 
     def hear(self, tick, soft):
-        """The burst of timeslot `tn`: 148 soft bits, zeros if nothing was received. `tick` is the mobile's own count of frames."""
+        """The burst of time slot `tn`: 148 soft bits, None if nothing was received. `tick` is the mobile's own count of frames."""
         if self.offset is None:
             return self._synchronise(tick, soft)
-        self.fn = (tick + self.offset) % HYPERFRAME
-        if self.channel is None:
-            name, at = common_place(self.fn, self.combined) or (None, 0)
-            report = self.idle_blocks.take(self.fn, at, soft) if name in ("bcch", "ccch") else None
-        else:
-            name, at = dedicated_place(self.channel, self.fn) or (None, 0)
-            report = self.blocks[name].take(self.fn, at, soft) if name else None
-        if report:
-            self.hear_block(name, report)
+        self.fn = (tick + self.offset) % um.FRAMES
+        block = self.slot.take(self.fn, soft) if self._place("downlink") else None
+        if block:
+            self.hear_block(block)
 
     def _synchronise(self, tick, soft):
         """SCH: two that agree, with few wrong training bits, since ten bits of CRC hold by chance once in a thousand bursts."""
-        report = um.receive_sync(soft)
-        if not report.accepted or report.wrong_training > 16:
+        report = um.receive_sync(soft) if soft is not None else None
+        said = um.read_sch(report.accepted) if report and report.accepted and report.wrong_training <= 16 else None
+        if not said:
             return
-        bsic, fn = sync_fields(report.accepted)
-        before, self.candidate = self.candidate, (bsic, (fn - tick) % HYPERFRAME)
+        before, self.candidate = self.candidate, (said.bsic, (said.frame - tick) % um.FRAMES)
         if before == self.candidate:
             self.bsic, self.offset = self.candidate
-            self.fn = fn
-            self.say(f"SCH: BSIC {bsic}, frame {fn}")
+            self.fn = said.frame
+            self.say(f"SCH: BSIC {said.bsic}, frame {said.frame}")
 
-    def hear_block(self, name, report):
-        """The report of a block of bcch, ccch, sdcch or sacch."""
-        if name == "sacch":
-            self.patience = min(self.patience + 2, RADIO_LINK_TIMEOUT) if report.accepted else self.patience - 1
-        if report.accepted:
-            {"bcch": self._broadcast, "ccch": self._common, "sdcch": self._signalling, "sacch": self._slow}[name](report.accepted)
+    def hear_block(self, block):
+        """A block of BCCH, CCCH, SDCCH or SACCH from the time slot's receiver."""
+        octets = block.report.accepted
+        if block.channel == um.SACCH:
+            self.patience = min(self.patience + 2, RADIO_LINK_TIMEOUT) if octets else self.patience - 1
+        if octets:
+            take = {Channel.BCCH: self._broadcast, Channel.CCCH: self._common, um.SDCCH: self._signalling, um.SACCH: self._slow}
+            take[block.channel](octets)
 
     def speak(self):
-        """The 148 bits to send on timeslot `tn` in this frame, or None."""
-        if self.kind is None:
+        """The 148 bits to send on time slot `tn` in this frame, or None."""
+        place = self._place("uplink") if self.kind else None
+        if not place:
             return None
-        if self.channel is None:
+        if place.channel == Channel.RACH:
             return self._access()
-        name, at = dedicated_place(self.channel, self.fn - UPLINK) or (None, 0)
-        if name and at == 0:
-            block = self._report() if name == "sacch" else self._next_block()
+        if place.burst == 0:
+            block = self._report() if place.channel == um.SACCH else self._next_block()
             if block is None:
                 return None
-            self.up[name] = um.send_block(block, self.bsic & 7)
-        return self.up[name][at] if name in self.up else None
+            self.up[place.channel] = um.send_block(block, self.bsic & 7)
+        return self.up[place.channel][place.burst] if place.channel in self.up else None
 
     # -- BCCH and CCCH: RR messages after the octet of the pseudo length
 
     def _broadcast(self, block):
-        if block[1:3] == b"\x06\x1b":  # SYSTEM INFORMATION TYPE 3
-            self.combined = block[10] & 7 == 1
-            if self.lai is None:
-                self.lai = block[5:10]
-                self.say(f"SI 3: location area {self.lai.hex()}, {'SDCCH/4 on timeslot 0' if self.combined else 'no SDCCH on timeslot 0'}")
+        if block[1:3] == b"\x06\x1b" and self.lai is None:  # SYSTEM INFORMATION TYPE 3
+            self.lai, combined = block[5:10], block[10] & 7 == 1
+            self.say(f"SI 3: location area {self.lai.hex()}, {'SDCCH/4' if combined else 'no SDCCH'} on time slot 0")
+            self.common = "bcch_ccch_sdcch4" if combined else "bcch_ccch"
+            self._tune(self.common)
 
     def _common(self, block):
         if block[1] != 6:
@@ -140,27 +157,27 @@ class Mobile:
         self.kind, self.first, self.accesses, self.next_access = kind, first, [], self.fn + random.randrange(2, 40)
 
     def _access(self):
-        if self.fn < self.next_access or not is_rach(self.fn, self.combined):
+        if self.fn < self.next_access:
             return None
         if len(self.accesses) == ACCESSES:
             return self.ended("no assignment")
         ra = CAUSES[self.kind] | random.randrange(16)
         self.accesses.append(request_reference(ra, self.fn))
         self.next_access = self.fn + random.randrange(110, 180) + (300 if len(self.accesses) == ACCESSES else 0)
-        return access_burst(ra, self.bsic)
+        return um.send_access(um.write_ra(ra), um.write_bsic(self.bsic)).ljust(148, b"\0")
 
     def _assigned(self, channel):
         self.say(f"assigned channel {channel:02x}")
         self.channel, self.tn, self.since, self.up = channel, channel & 7, self.fn, {}
-        self.blocks = {"sdcch": Blocks(self.words), "sacch": Blocks(self.words)}
-        self.link = DataLink("mobile", self.notice, um.SDCCH, *self.t200)
+        self._tune(*sdcch_of(channel))
+        self.link = um.DataLink("mobile", um.SDCCH, *self.t200)
         self.order, self.reports, self.patience, self.leave, self.closed = b"\0\0", 0, RADIO_LINK_TIMEOUT, None, None
         self.done, self.accepted, self.count = False, False, 0
         self.link.open(self.first)
 
-    def how_over(self, frame):
-        """How the session ended, if it did; `frame` is the one to send now, if there is one."""
-        if self.closed and not frame:
+    def how_over(self, free):
+        """How the session ended, if it did; `free`: no frame is to be sent now."""
+        if self.closed and free:
             return "complete" if self.closed == "released" and self.done else self.closed
         if self.leave and self.fn >= self.leave:
             return "complete" if self.done else "released"
@@ -182,17 +199,22 @@ class Mobile:
             return self.say(f"not a frame: {why}")
         if frame.kind != "ui" or frame.info:
             self.say("hears " + describe(frame))
-        self.link.take(block)
+        self._report_notices(self.link.take(block))
 
     def _next_block(self):
         """The block of SDCCH for this slot; None if the session is over."""
-        frame = self.link.next()
-        how = self.how_over(frame)
+        sent = self.link.next()
+        self._report_notices(sent.notices)
+        how = self.how_over(sent.free)
         if how:
             return self.ended(how)
-        if frame:
-            self.say("sends " + describe(frame))
-        return um.write_frame(frame or um.Frame("ui"))
+        if not sent.free:
+            self.say("sends " + describe(um.read_frame(sent.block)))
+        return sent.block
+
+    def _report_notices(self, notices):
+        for sapi, notice in notices:
+            self.notice(sapi, notice)
 
     def _slow(self, block):
         self.order = block[:2]  # of power and timing advance; they are confirmed in the next block

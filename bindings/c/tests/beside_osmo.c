@@ -1,11 +1,13 @@
 /* Compares um with libosmocoding on noisy blocks, access bursts and synchronisation bursts: both encode the same bits, and if both accept,
- * the octets and the count of bit errors are the same. Both count a soft bit of 0 as a bit error.
+ * the octets and the count of bit errors are the same. Both count a soft bit of 0 as a bit error. And with libosmocore on frame numbers:
+ * their parts, and the synchronisation bursts that say them.
  *
  * If two words are equally likely, the two may choose differently; um takes the lexicographically first. This is rare: at most one in a
  * thousand may be accepted by only one of them. */
 #define UM_OSMO_OWN_NAMES
 #define _DEFAULT_SOURCE
 #include "um_osmo.h"
+#include <osmocom/gsm/gsm_utils.h>
 #include <stdio.h>
 #include <stdlib.h>
 
@@ -81,6 +83,47 @@ static void one_sync(struct tally *tally)
 	count(tally, um, osmo, !memcmp(theirs, ours, 4), true);
 }
 
+/* A synchronisation burst carries the octets of 3GPP TS 44.018, 9.1.30: here as osmo-bts fills them, and as libosmocoding codes them. */
+static bool is_sync_of(const struct gsm_time *time, uint8_t bsic, const uint8_t burst[148])
+{
+	unsigned t3 = (unsigned)(time->t3 - 1) / 10;
+	const uint8_t info[4] = {
+		(uint8_t)(bsic << 2 | time->t1 >> 9), (uint8_t)(time->t1 >> 1), (uint8_t)((time->t1 & 1) << 7 | time->t2 << 2 | (int)t3 >> 1),
+		(uint8_t)(t3 & 1),
+	};
+	ubit_t coded[78];
+	return gsm0503_sch_encode(coded, info) == 0 && !memcmp(coded, burst + 3, 39) && !memcmp(coded + 39, burst + 106, 39);
+}
+
+static bool is_same_frame(uint32_t frame)
+{
+	struct gsm_time theirs;
+	um_time ours;
+	um_sch sch;
+	uint32_t back;
+	uint8_t info[25], burst[148], bsic = (uint8_t)(rand() & 63);
+	gsm_fn2gsmtime(&theirs, frame);
+	if (!um_time_of_frame(frame, &ours) || ours.t1 != theirs.t1 || ours.t2 != theirs.t2 || ours.t3 != theirs.t3)
+		return false;
+	if (!um_frame_of_time(&ours, &back) || back != frame || gsm_gsmtime2fn(&theirs) != frame)
+		return false;
+	if (!um_next_block(UM_BCCH_CCCH, UM_DOWNLINK, 0, UM_SCH, 0, frame, &back))
+		return false;
+	gsm_fn2gsmtime(&theirs, back);
+	return theirs.t3 % 10 == 1 && um_write_sch(bsic, back, info) && um_send_sync(info, burst) && is_sync_of(&theirs, bsic, burst) &&
+	       um_read_sch(info, &sch) && sch.bsic == bsic && sch.frame == back;
+}
+
+static bool are_frames_bad(int number)
+{
+	int other = 0;
+	for (int i = 0; i < number; i++)
+		other += !is_same_frame((uint32_t)(((uint64_t)rand() << 16 ^ (uint64_t)rand()) % GSM_MAX_FN));
+	printf("library: %d random frame numbers compared with libosmocore, with the synchronisation burst after each: different %d\n", number,
+		other);
+	return other != 0;
+}
+
 static bool is_bad(const char *what, int number, const struct tally *t)
 {
 	printf("library: %d noisy %s compared with libosmocoding: encoded differently %d, accepted by both %d, by um only %d, "
@@ -102,5 +145,6 @@ int main(void)
 	bool bad = is_bad("blocks", 20000, &blocks);
 	bad |= is_bad("access bursts", 256 * 64, &access);
 	bad |= is_bad("synchronisation bursts", 10000, &sync);
+	bad |= are_frames_bad(100000);
 	return bad;
 }

@@ -38,6 +38,15 @@ static void soften(const uint8_t *bits, int8_t *soft, int count)
 		soft[i] = bits[i] ? -127 : 127;
 }
 
+static void version(void)
+{
+	unsigned long major, minor, patch;
+
+	check(sscanf(UM_VERSION, "%lu.%lu.%lu", &major, &minor, &patch) == 3
+		&& um_version() == 1000000 * major + 1000 * minor + patch, "the version of the library is that of its header");
+	check(um_version() == UM_VERSION_NUMBER, "the header has the version as the same number");
+}
+
 static void blocks(void)
 {
 	/* the network's fill frame: its CRC is 2c4e540233 */
@@ -286,6 +295,7 @@ int main(int argc, char **argv)
 {
 	int count = argc == 3 ? vectors(argv[1], argv[2]) : 0;
 	check(count >= 0, "the vectors are missing");
+	version();
 	blocks();
 	among();
 	repairs();

@@ -8,6 +8,7 @@
 #include <stdlib.h>
 #include <string.h>
 
+enum { RANDOM_FRAMES = 4600 }; /* of each of the 22 lines of the schedule: more than 100,000 */
 static int failed;
 
 static void check(bool holds, const char *what)
@@ -75,7 +76,27 @@ static void synchronisation(void)
 static const char *const channels[] = { "sdcch", "sacch", "bcch", "ccch", "fcch", "sch", "rach" };
 static const char *const combinations[] = { "bcch_ccch", "bcch_ccch_sdcch4", "sdcch8", "tch_f" };
 
-/* A line of the schedule, over two and a half cycles; blocks of CCCH have no number there. */
+/* Whether a frame carries what a word of the schedule says; blocks of CCCH have no number there. */
+static void one_frame(uint8_t combination, uint8_t direction, uint8_t timeslot, uint32_t frame, const char *want)
+{
+	um_place place;
+	uint32_t first;
+	char made[32] = "-";
+	uint8_t answer = um_place_frame(combination, direction, timeslot, frame, &place);
+
+	if (answer == UM_PLACED)
+		snprintf(made, sizeof(made), place.channel == UM_CCCH ? "%s.*.%d" : "%s.%d.%d", channels[place.channel],
+			place.channel == UM_CCCH ? place.burst : place.subchannel, place.burst);
+	check(answer != UM_NO_PLACE && !strcmp(made, want), "a frame's channel, subchannel and burst are those of osmo-bts");
+	if (answer != UM_PLACED)
+		return;
+	check(place.first == frame - (combination == UM_TCH_F ? 26u : 1u) * place.burst
+		|| frame < 26u * place.burst, "a block begins as many frames before as it has had bursts");
+	check(um_next_block(combination, direction, timeslot, place.channel, place.subchannel, place.first, &first)
+		&& first == place.first, "the next block from its first frame on is the block itself");
+}
+
+/* A line of the schedule, over two and a half cycles and in random frames. */
 static void one_schedule(uint8_t combination, uint8_t direction, uint8_t timeslot, char *words)
 {
 	char *frames_of[104], *word;
@@ -84,22 +105,11 @@ static void one_schedule(uint8_t combination, uint8_t direction, uint8_t timeslo
 	for (word = strtok(words, " \n"); word && count < 104; word = strtok(NULL, " \n"))
 		frames_of[count++] = word;
 	check(count == (combination == UM_TCH_F ? 104u : 102u), "a cycle has 102 frames, or 104");
-	for (uint32_t frame = 0; count && frame < 5 * count / 2; frame++) {
-		um_place place;
-		char made[32] = "-";
-		uint8_t answer = um_place_frame(combination, direction, timeslot, frame, &place);
-		const char *want = frames_of[frame % count];
-		if (answer == UM_PLACED)
-			snprintf(made, sizeof(made), place.channel == UM_CCCH ? "%s.*.%d" : "%s.%d.%d", channels[place.channel],
-				place.channel == UM_CCCH ? place.burst : place.subchannel, place.burst);
-		check(answer != UM_NO_PLACE && !strcmp(made, want), "a frame's channel, subchannel and burst are those of osmo-bts");
-		if (answer == UM_PLACED) {
-			uint32_t first;
-			check(place.first == frame - (combination == UM_TCH_F ? 26u : 1u) * place.burst
-				|| frame < 26u * place.burst, "a block begins as many frames before as it has had bursts");
-			check(um_next_block(combination, direction, timeslot, place.channel, place.subchannel, place.first, &first)
-				&& first == place.first, "the next block from its first frame on is the block itself");
-		}
+	for (uint32_t frame = 0; count && frame < 5 * count / 2; frame++)
+		one_frame(combination, direction, timeslot, frame, frames_of[frame % count]);
+	for (int i = 0; count && i < RANDOM_FRAMES; i++) {
+		uint32_t frame = (uint32_t)(((uint64_t)rand() << 16 ^ (uint64_t)rand()) % UM_FRAMES);
+		one_frame(combination, direction, timeslot, frame, frames_of[frame % count]);
 	}
 }
 

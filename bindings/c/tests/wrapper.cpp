@@ -311,6 +311,7 @@ int main(int count, char **words)
 {
 	check(count == 3, "usage: wrapper CODE.IN CODE.OUT");
 	const int lines = count == 3 ? vectors(words[1], words[2]) : 0;
+	check(um::version() == UM_VERSION_NUMBER, "the version of the library is that of its header");
 	refusals();
 	views();
 	session();

@@ -11,3 +11,4 @@ pub mod ProgressRuns
 pub mod ProgressPaid
 pub mod ProgressExpiries
 pub mod ProgressAlone
+mod RunsWorked

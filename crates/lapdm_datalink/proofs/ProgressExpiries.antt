@@ -1,6 +1,6 @@
 -- Each expiry of T200 of an open link of SAPI 0 is paid by a loss: the last sending of its I frame, followed from slot to slot.
 use Rattle.{
-  std.specs.Prelude.{◌≡◌, ◌≢◌, ℕ, zero, suc, ◌+◌, ◌*◌, ◌≤◌, Bool, true, false, ◌||◌, ◌⊎◌, nat_le},
+  std.specs.Prelude.{◌≡◌, ◌≢◌, ℕ, zero, suc, ◌+◌, ◌-◌, ◌*◌, ◌≤◌, Bool, true, false, ◌||◌, ◌⊎◌, nat_le},
   std.{specs.Prelude.{List, Option, Some, None, IfSome}, proofs.Common.{inl, inr, arith, refl, ap, sym, ◌∙◌}},
   lapdm_frame.specs.Content.{Content, I, Frame},
   lapdm_end.specs.lapdm_window.{
@@ -35,7 +35,7 @@ again_open m h d = (grind (arith, h, d), grind (arith, d), grind (arith, h, d))
 first_no_poll : (m : LinkState) → is_repetition (Some (awaited_frame false m.endpoint.state m.endpoint)) ≡ true → ⊥
 first_no_poll m h = grind (arith, h)
 
-answer_no_i : (m : LinkState) (a : Option Frame) → IfSome a (IsAnswerOf m) → is_i_frame a ≡ false
+pub answer_no_i : (m : LinkState) (a : Option Frame) → IfSome a (IsAnswerOf m) → is_i_frame a ≡ false
 answer_no_i m None h = refl
 answer_no_i m (Some f) h = one f.content h.kind
   where
@@ -51,7 +51,7 @@ poll_is_i (Some f) h = one f.content h
     one (I ns nr p more info) e = refl
     one other e = cc
 
-true-false : true ≡ false → ⊥
+pub true-false : true ≡ false → ⊥
 true-false h = cc
 
 -- the link that repeats its I frame had sent it, and its clock is over
@@ -92,7 +92,7 @@ module _ (r : Run) (u : IsWithoutRelease r) (role : Role) where
       let x = a.young h in
       x.1 ∙ old_enough n x.0 ∙ sym x.2
 
-  awaits_differs : (l : LinkState) → awaits_ack l.endpoint ≡ true → issued l ≡ acked l → ⊥
+  pub awaits_differs : (l : LinkState) → awaits_ack l.endpoint ≡ true → issued l ≡ acked l → ⊥
   awaits_differs l w e = grind (arith, w, e)
 
   -- a link that waits before a slot is open if the link is open after what arrives and the calls
@@ -108,15 +108,15 @@ module _ (r : Run) (u : IsWithoutRelease r) (role : Role) where
       by_age (inl e) = e
       by_age (inr y) = absurd (awaits_differs (link_at r n role) w (old_enough n y))
 
-  owes_ready : (n : ℕ) → IfSome (ready_at r n role).answer (IsAnswerOf (ready_at r n role))
+  pub owes_ready : (n : ℕ) → IfSome (ready_at r n role).answer (IsAnswerOf (ready_at r n role))
   owes_ready n = ready_owed role (arriving_at r n role) (turn_at r n role).calls (link_at r n role) ((sound r u n).good role)
       ((sound r u n).settled role).owes ((sound r u n).idle role) (u n role)
 
-  waits_at : (n : ℕ) → WaitsFrom 1 (link_at r n role) (ready_at r n role)
+  pub waits_at : (n : ℕ) → WaitsFrom 1 (link_at r n role) (ready_at r n role)
   waits_at n = waits_ready role (arriving_at r n role) (turn_at r n role).calls (link_at r n role) ((sound r u n).good role)
       ((sound r u n).settled role).owes (u n role)
 
-  awaits_same : (l k : LinkState) → acked k ≡ acked l → issued k ≡ issued l → awaits_ack k.endpoint ≡ true →
+  pub awaits_same : (l k : LinkState) → acked k ≡ acked l → issued k ≡ issued l → awaits_ack k.endpoint ≡ true →
       awaits_ack l.endpoint ≡ true
   awaits_same l k a i w = rw (a, i) at w
 
@@ -216,7 +216,7 @@ not_open l h = grind (arith, h)
 not_closed : (l : LinkState) → is_closed l.endpoint.state ≡ false → l.endpoint.state ≡ Closed → ⊥
 not_closed l h e = true-false (ap is_closed (sym e) ∙ h)
 
-i_parts : (x : Option Frame) → is_i_frame x ≡ true → (f : Frame) × (x ≡ Some f) × (ns : ℕ) × (nr : ℕ)
+pub i_parts : (x : Option Frame) → is_i_frame x ≡ true → (f : Frame) × (x ≡ Some f) × (ns : ℕ) × (nr : ℕ)
     × (p : Bool) × (more : Bool) × (info : List ℕ) × (f.content ≡ I ns nr p more info)
 i_parts None h = absurd cc
 i_parts (Some f) h = let y = one f.content h in (f, refl, y.0, y.1, y.2, y.3, y.4, y.5)
@@ -226,7 +226,7 @@ i_parts (Some f) h = let y = one f.content h in (f, refl, y.0, y.1, y.2, y.3, y.
     one (I ns nr p more info) e = (ns, nr, p, more, info, refl)
     one other e = absurd cc
 
-loss_of : (lost : Bool) (x : Option Frame) (f : Frame) → x ≡ Some f → lost ≡ true → is_loss lost x ≡ true
+pub loss_of : (lost : Bool) (x : Option Frame) (f : Frame) → x ≡ Some f → lost ≡ true → is_loss lost x ≡ true
 loss_of lost x f e h = rw e h
 
 pub pays_for_expiries : (r : Run) → PaysForExpiries r
@@ -245,7 +245,7 @@ pays_for_expiries r u long n none role again_ = record {
     rep = repeats m (owes_ready r u role n) again_
 
     x : (awaits_ack (link_at r n role).endpoint ≡ true) × ((link_at r n role).is_sent ≡ true)
-        × (acked m ≡ acked (link_at r n role)) × ((link_at r n role).clock ≤ m.clock + 1)
+        × (acked m ≡ acked (link_at r n role)) × (m.clock ≡ (link_at r n role).clock - 1)
     x = waits_at r u role n rep.3 rep.0
 
     y : LastSending r u role n

@@ -1,7 +1,7 @@
 -- A link of SAPI 0 whose I frame was sent and is not acknowledged: what of that stays from one slot to the next.
 use Rattle.{
   std.{
-    specs.Prelude.{◌≡◌, ℕ, ◌+◌, ◌≤◌, Bool, true, false, ◌⊎◌, nat_eq, List, [], ◌∷◌, Option, Some, None, All},
+    specs.Prelude.{◌≡◌, ℕ, ◌+◌, ◌-◌, ◌≤◌, Bool, true, false, ◌⊎◌, nat_eq, List, [], ◌∷◌, Option, Some, None, All},
     proofs.{Common.{inl, inr, arith, refl, ap, sym, ◌∙◌}, lemmas.List.Elements.{All-head, All-tail}},
   },
   lapdm_frame.specs.Content.Frame,
@@ -22,10 +22,10 @@ use Rattle.{
   },
 }
 
--- a link that waits after a step waited before it, for the same frame, and its clock lost at most this number of slots
+-- a link that waits after a step waited before it, for the same frame, and its clock lost this number of slots
 abbrev pub WaitsFrom : (slots : ℕ) (before after : LinkState) → Type 0
 WaitsFrom k l m = awaits_ack m.endpoint ≡ true → m.is_sent ≡ true →
-    (awaits_ack l.endpoint ≡ true) × (l.is_sent ≡ true) × (acked m ≡ acked l) × (l.clock ≤ m.clock + k)
+    (awaits_ack l.endpoint ≡ true) × (l.is_sent ≡ true) × (acked m ≡ acked l) × (m.clock ≡ l.clock - k)
 
 waits_same : (l : LinkState) → WaitsFrom 0 l l
 waits_same l a s = (a, s, refl, omega arith)
@@ -180,3 +180,32 @@ module _ (l : LinkState) (o : l.endpoint.state ≡ Open) (after : (slot_outcome 
 
     pub waits_over : WaitsOver l
     waits_over = let k = kept_back l l.answer in over l.answer refl (is_due l) refl l.is_sent refl k.0 k.1
+
+-- ---- what an open link does in its slot
+
+-- it sends its I frame; or it sends an answer though the frame is due; or it counts
+pub data SlotWay (m : LinkState) : Type 0 where
+  sends : is_due m ≡ true → is_i_frame (slot_outcome m).frame ≡ true → (slot_outcome m).link.is_sent ≡ true →
+      (slot_outcome m).link.clock ≡ m.t200 → SlotWay m
+  blocked : is_due m ≡ true → (slot_outcome m).frame ≡ m.answer → (slot_outcome m).link.is_sent ≡ m.is_sent →
+      (slot_outcome m).link.clock ≡ m.clock → SlotWay m
+  counts : is_due m ≡ false → (slot_outcome m).link.is_sent ≡ m.is_sent → (slot_outcome m).link.clock ≡ m.clock → SlotWay m
+
+module _ (l : LinkState) (o : l.endpoint.state ≡ Open) (open_ : (slot_outcome l).link.endpoint.state ≡ Open) where
+  way : (a : Option Frame) → l.answer ≡ a → (b : Bool) → is_due l ≡ b → (c : Bool) → l.is_sent ≡ c → (k : Bool) →
+      ((f : Frame) → a ≡ Some f → keeps_back f l ≡ k) → SlotWay l
+  way None n false e c g k kept = counts e (grind (arith, n, e)) (grind (arith, n, e))
+  way None n true e false g k kept = sends e (grind (arith, n, e, g, o)) (grind (arith, n, e, g)) (grind (arith, n, e, g))
+  way None n true e true g k kept =
+      sends e (grind (arith, n, e, g, o, open_)) (grind (arith, n, e, g)) (grind (arith, n, e, g))
+  way (Some f) n false e c g false kept = counts e (grind (arith, n, kept f refl)) (grind (arith, n, kept f refl))
+  way (Some f) n true e c g false kept =
+      blocked e (grind (arith, n, kept f refl)) (grind (arith, n, kept f refl)) (grind (arith, n, kept f refl))
+  way (Some f) n false e c g true kept = counts e (grind (arith, n, kept f refl, e)) (grind (arith, n, kept f refl, e))
+  way (Some f) n true e false g true kept =
+      sends e (grind (arith, n, kept f refl, e, g, o)) (grind (arith, n, kept f refl, e, g)) (grind (arith, n, kept f refl, e, g))
+  way (Some f) n true e true g true kept = sends e (grind (arith, n, kept f refl, e, g, o, open_))
+      (grind (arith, n, kept f refl, e, g)) (grind (arith, n, kept f refl, e, g))
+
+  pub slot_way : SlotWay l
+  slot_way = let k = kept_back l l.answer in way l.answer refl (is_due l) refl l.is_sent refl k.0 k.1

@@ -3,7 +3,7 @@ use Rattle.{
   std.specs.Prelude.{◌≡◌, refl, ℕ, zero, suc, true, false, List, [], ◌∷◌, ◌++◌, replicate, get_or},
   lapdm_frame.specs.declared.Channel.TheVariants.Sdcch,
   lapdm_end.specs.lapdm_window.{declared.State.TheVariants.{Open, Closed}, Ends.{Mobile, Network}, Calls.{Call, Opens, Sends}},
-  lapdm_datalink.specs.{Channels.{Run, Slot}, Progress.{link_at, waiting_slots, lossy_slots, asked_frames}},
+  lapdm_datalink.specs.{Channels.{Run, Slot}, Progress.{link_at, waiting_slots, lossy_slots}},
 }
 
 -- slots without a call: nothing is lost, the mobile's block is lost, or the network's
@@ -31,11 +31,8 @@ run_of t slots = record { delay = 0; t200 = t; channel = Sdcch; slot = λ n. get
 abbrev quiet : Run
 quiet = run_of 2 (mobile_asks (Opens (1 ∷ [])) plain ∷ plain ∷ mobile_asks (Sends (replicate 21 9)) plain ∷ [])
 
-quiet_waits : waiting_slots quiet 7 Mobile ≡ 6
+quiet_waits : waiting_slots quiet 0 7 Mobile ≡ 6
 quiet_waits = refl
-
-quiet_asked : asked_frames (link_at quiet 7 Mobile).endpoint ≡ 3
-quiet_asked = refl
 
 -- the first I frame is lost, and then the answer to its repetition: each loss costs T200, and no more slots are waited than the bound says
 abbrev lossy : Run
@@ -43,21 +40,18 @@ lossy = run_of 2
     (mobile_asks (Opens (1 ∷ [])) plain ∷ plain ∷ mobile_asks (Sends (replicate 21 9)) loses_up ∷ plain ∷ plain ∷ loses_down
     ∷ [])
 
-lossy_waits : waiting_slots lossy 14 Mobile ≡ 10
+lossy_waits : waiting_slots lossy 0 14 Mobile ≡ 10
 lossy_waits = refl
 
-lossy_losses : lossy_slots lossy 14 ≡ 2
+lossy_losses : lossy_slots lossy 0 14 ≡ 2
 lossy_losses = refl
 
 -- the network's I frame waits for its UA: the bound is reached, 2 times 1 and one slot more
 abbrev early : Run
 early = run_of 2 (mobile_asks (Opens (1 ∷ [])) plain ∷ network_asks (Sends (5 ∷ [])) plain ∷ [])
 
-early_waits : waiting_slots early 6 Network ≡ 3
+early_waits : waiting_slots early 0 6 Network ≡ 3
 early_waits = refl
-
-early_asked : asked_frames (link_at early 6 Network).endpoint ≡ 1
-early_asked = refl
 
 -- six lost SABMs, and the mobile gives up; after five it does not
 abbrev loses : ℕ → List Slot

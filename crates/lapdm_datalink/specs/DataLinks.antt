@@ -74,9 +74,9 @@ is_ui other = false
 abbrev pub holds_up_sapi3 : Frame → Bool
 holds_up_sapi3 f = nat_eq f.sapi 0 && not (is_ui f.content)
 
--- the data link once it knows whether that is so
+-- the data link once it has heard this frame
 abbrev pub having_heard : Frame → DataLinkState → DataLinkState
-having_heard f s = record s { heard_sapi0 = holds_up_sapi3 f }
+having_heard f s = record s { heard_sapi0 = s.heard_sapi0 || holds_up_sapi3 f }
 
 -- the link that takes a received frame, or `None` if the data link drops it
 abbrev pub sapi_for_frame : Frame → DataLinkState → Option Sapi

@@ -7,3 +7,4 @@ pub mod Parts
 pub mod Slots
 pub mod Channels
 pub mod Progress
+pub mod Runs

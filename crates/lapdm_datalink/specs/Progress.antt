@@ -1,14 +1,13 @@
 -- Progress: how long a link of SAPI 0 waits for answers, and what each expiry of T200 costs the channel. These are this project's own
 -- statements; the standard has none.
-use Rattle.std.specs.Prelude.{◌≡◌, ◌≢◌, ℕ, zero, suc, ◌+◌, ◌*◌, ◌≤◌, Bool, true, false, ◌||◌, ◌⊎◌}
-use Rattle.std.specs.Prelude.{List, length, Option, Some, None, All}
+use Rattle.std.specs.Prelude.{◌≡◌, ◌≢◌, ℕ, zero, suc, ◌+◌, ◌*◌, ◌≤◌, Bool, true, false, not, ◌&&◌, ◌||◌, ◌⊎◌}
+use Rattle.std.specs.Prelude.{List, Option, Some, None, All}
 use Rattle.lapdm_frame.specs.Content.{Content, I, Frame}
-use Rattle.lapdm_end.specs.lapdm_window.declared.State.{State}
-use Rattle.lapdm_end.specs.lapdm_window.declared.State.TheVariants.{Idle}
-use Rattle.lapdm_end.specs.lapdm_window.Ends.{Role, Mobile, Network, EndpointState, awaits_answer, segments_of_all_messages}
+use Rattle.lapdm_end.specs.lapdm_window.declared.State.TheVariants.{Open}
+use Rattle.lapdm_end.specs.lapdm_window.Ends.{Role, Mobile, Network, awaits_answer}
 use Rattle.lapdm_link.specs.Events.{other}
 use Rattle.lapdm_end.specs.lapdm_window.Rules.{is_open}
-use Rattle.lapdm_datalink.specs.Links.{LinkState, is_closed, slot_outcome, after_slot, after_frame}
+use Rattle.lapdm_datalink.specs.Links.{LinkState, is_closed, is_due, slot_outcome, after_slot, after_frame}
 use Rattle.lapdm_datalink.specs.DataLinks.{DataLinkState, data_link_outcome, after_arrival}
 use Rattle.lapdm_datalink.specs.Channels.{Run, Slot, Turn, channel_at, side_at, turn_of, before_sending, arriving, IsUse}
 
@@ -40,10 +39,10 @@ abbrev pub one_if : Bool → ℕ
 one_if true = 1
 one_if false = 0
 
--- W: in how many of the first slots this link awaits an answer
-abbrev pub waiting_slots : (run : Run) (slots : ℕ) (role : Role) → ℕ
-waiting_slots r zero role = 0
-waiting_slots r (suc n) role = waiting_slots r n role + one_if (awaits_answer (ready_at r n role).endpoint)
+-- W: in how many of these slots this link awaits an answer
+abbrev pub waiting_slots : (run : Run) (first slots : ℕ) (role : Role) → ℕ
+waiting_slots r n zero role = 0
+waiting_slots r n (suc k) role = waiting_slots r n k role + one_if (awaits_answer (ready_at r (n + k) role).endpoint)
 
 -- whether a frame is lost
 abbrev pub is_loss : (is_lost : Bool) (frame : Option Frame) → Bool
@@ -53,20 +52,13 @@ is_loss lost (Some f) = lost
 abbrev pub is_loss_at : (run : Run) (slot : ℕ) (role : Role) → Bool
 is_loss_at r n role = is_loss (turn_at r n role).is_lost (frame_at r n role)
 
--- L: in how many of the first slots a frame of SAPI 0 is lost
-abbrev pub lossy_slots : (run : Run) (slots : ℕ) → ℕ
-lossy_slots r zero = 0
-lossy_slots r (suc n) = lossy_slots r n + one_if (is_loss_at r n Mobile || is_loss_at r n Network)
+-- L: in how many of these slots a frame of SAPI 0 is lost
+abbrev pub is_lossy : (run : Run) (slot : ℕ) → Bool
+is_lossy r n = is_loss_at r n Mobile || is_loss_at r n Network
 
--- 1 if the mobile has been asked to establish the link
-abbrev pub establishments : Role → State → ℕ
-establishments Mobile Idle = 0
-establishments Mobile other = 1
-establishments Network state = 0
-
--- n: how many frames that await an answer layer 3 has asked of this endpoint so far: the SABM and the segments of all messages
-abbrev pub asked_frames : EndpointState → ℕ
-asked_frames e = establishments e.role e.state + length (segments_of_all_messages e)
+abbrev pub lossy_slots : (run : Run) (first slots : ℕ) → ℕ
+lossy_slots r n zero = 0
+lossy_slots r n (suc k) = lossy_slots r n k + one_if (is_lossy r (n + k))
 
 -- layer 3 releases no link in this run
 abbrev pub IsWithoutRelease : Run → Type 0
@@ -75,13 +67,6 @@ IsWithoutRelease r = (n : ℕ) (role : Role) → All (IsUse role) (turn_at r n r
 -- neither side has given the link up before this slot: without a release, a link is closed only then
 abbrev pub NoneGaveUp : (run : Run) (slot : ℕ) → Type 0
 NoneGaveUp r n = (role : Role) → is_closed (link_at r n role).endpoint.state ≡ false
-
--- Progress. Whatever is lost, until a link is given up: each link waits at most one round trip for each frame, T200 and one slot for each
--- slot with a loss, and one slot more.
-abbrev pub Progresses : Run → Type 0
-Progresses r =
-    IsWithoutRelease r → round_trip r.delay ≤ r.t200 → (n : ℕ) → NoneGaveUp r n → (role : Role) →
-    waiting_slots r n role ≤ round_trip r.delay * asked_frames (link_at r n role).endpoint + (r.t200 + 1) * lossy_slots r n + 1
 
 -- whether the frame is an I frame, and whether it is one with P = 1, which repeats another because T200 has expired
 abbrev pub is_i_content : Content → Bool
@@ -115,6 +100,32 @@ abbrev pub PaysForExpiries : Run → Type 0
 PaysForExpiries r =
     IsWithoutRelease r → round_trip r.delay ≤ r.t200 → (n : ℕ) → ((k : ℕ) → k ≤ n → NoneGaveUp r k) → (role : Role) →
     is_repetition (frame_at r n role) ≡ true → IsPaid r n role
+
+-- ---- how long a link waits
+
+-- B: in how many of these slots this link sends an answer though the frame that awaits an answer is due
+abbrev pub answers_first : (run : Run) (slot : ℕ) (role : Role) → Bool
+answers_first r n role = is_due (ready_at r n role) && not (is_i_frame (frame_at r n role))
+
+abbrev pub answering_slots : (run : Run) (first slots : ℕ) (role : Role) → ℕ
+answering_slots r n zero role = 0
+answering_slots r n (suc k) role = answering_slots r n k role + one_if (answers_first r (n + k) role)
+
+-- both links are open before each of these slots and after the last
+abbrev pub AreOpen : (run : Run) (first slots : ℕ) → Type 0
+AreOpen r n k = (j : ℕ) → j ≤ k → (role : Role) → (link_at r (n + j) role).endpoint.state ≡ Open
+
+-- the segments of this link that are acknowledged before the slot
+abbrev pub acked_at : (run : Run) (slot : ℕ) (role : Role) → ℕ
+acked_at r n role = (link_at r n role).endpoint.acked_segments
+
+-- Progress. Whatever is lost while both links are open: a link waits at most one round trip for each of its segments that is acknowledged
+-- and for one that is not, T200 for each slot with a loss and for what was lost before, and one slot for each answer that goes first.
+abbrev pub Progresses : Run → Type 0
+Progresses r =
+    IsWithoutRelease r → round_trip r.delay ≤ r.t200 → (n k : ℕ) → AreOpen r n k → (role : Role) →
+    waiting_slots r n k role + round_trip r.delay * acked_at r n role
+    ≤ round_trip r.delay * (acked_at r (n + k) role + 1) + r.t200 * (lossy_slots r n k + 1) + answering_slots r n k role
 
 -- The link of SAPI 0 of a data link does what it would do alone: in a slot, and when a frame arrives. If it sends a frame, the data link
 -- does.

@@ -16,6 +16,7 @@ ghost use Rattle.lapdm_datalink.specs.DataLinks.{
   with_link,
   takes_sapi3,
   holds_up_sapi3,
+  having_heard,
   sapi_for_frame,
   after_arrival,
   notices_of_taking,
@@ -181,12 +182,23 @@ impl DataLink {
         ensures channel { channel_of self.new ≡ channel_of self.old }
     {
         let sapi = self.sapi_for(frame);
-        self.heard_sapi0 = holds_up_sapi3(frame);
+        self.hear(frame);
         match sapi {
             Some(sapi) => self.pass(sapi, frame, effects),
             None => effects.clear(),
         }
         sapi
+    }
+
+    // Keeps in mind whether a received frame took the slot of an answer on SAPI 3.
+    fn hear(&mut self, frame: &FrameView<'_>)
+        ensures represents { (s : DataLinkState) → Represents self.old s → Represents self.new (having_heard (frame_of_view frame.now) s) }
+        ensures link0 { link_of P.Zero self.new ≡ link_of P.Zero self.old }
+        ensures link3 { link_of P.Three self.new ≡ link_of P.Three self.old }
+    {
+        if holds_up_sapi3(frame) {
+            self.heard_sapi0 = true;
+        }
     }
 
     // Passes a frame to the link with this SAPI.

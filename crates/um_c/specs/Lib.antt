@@ -12,3 +12,4 @@ pub mod Joined
 pub mod Opening
 pub mod TimeCalls
 pub mod SlotCalls
+pub mod Version

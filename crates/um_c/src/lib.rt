@@ -22,6 +22,7 @@ mod slots;
 mod soft;
 mod states;
 mod times;
+mod version;
 
 pub use joined::{
     law_damaged_bursts_deliver_in_order, law_endpoints_acked_at_most_delivered,
