@@ -19,7 +19,7 @@ use Rattle.{
     specs.{Links.{with_frames, is_awaiting_kind}, Channels.{after_calls, after_call_unless, after_arriving, IsUse}},
     proofs.{
       ProgressSteps.{acked, issued, accepted, IsAnswerOf, Good, taken, outcome_endpoint},
-      ProgressLink.{reply_with, frame_taken, Arrives, arrives, Called, then_called, Slotted, slotted, called_nothing, called_sends},
+      ProgressLink.{reply_with, frame_taken, Arrives, arrives, Called, then_called, then_moves, Slotted, slotted, called_nothing, called_sends},
       ProgressLink.{called_opens, passes_slot, slot_acked, slot_issued, slot_accepted, owed_later},
       Answering.owes_nothing,
     },
@@ -520,3 +520,68 @@ module _ (role : Role) (o : Option Frame) (cs : List Call) (l : LinkState) (g : 
 
     pub ready_t200 : (after_slot (after_calls cs (after_arriving o l))).t200 ≡ l.t200
     ready_t200 = ready_called.moves.t200 ∙ (arrives o l g n).moves.t200
+
+    pub ready_moves : Moves l (after_slot (after_calls cs (after_arriving o l)))
+    ready_moves =
+        let c : Called (after_calls cs (after_arriving o l)) (after_slot (after_calls cs (after_arriving o l))) =
+        passes_slot (after_calls cs (after_arriving o l)) ready_called.moves.low ready_called.moves.window in
+        then_moves (arrives o l g n).moves (then_moves ready_called.moves c.moves)
+
+pub ready_due : (role : Role) (o : Option Frame) (cs : List Call) (l : LinkState) → l.endpoint.sapi ≡ Zero → All (IsUse role) cs →
+    Settled role l → UnsentIsDue (after_slot (after_calls cs (after_arriving o l)))
+ready_due role o cs l z u h s = due_after_slot (after_calls cs (after_arriving o l))
+    (due_calls role cs (after_arriving o l) u (due_arriving o l z h.unsent) s)
+
+-- ---- the clock never shows more than T200
+
+clock_frames : (fs : List Frame) (l : LinkState) → (with_frames fs l).clock ≤ l.clock
+clock_frames [] l = omega arith
+clock_frames (f ∷ fs) l = omega (arith, clock_frames fs (with_frame f l), one (is_awaiting_kind f.content) refl)
+  where
+    one : (b : Bool) → is_awaiting_kind f.content ≡ b → (with_frame f l).clock ≤ l.clock
+    one true e = grind (arith, e)
+    one false e = grind (arith, e)
+
+clock_arriving : (o : Option Frame) (l : LinkState) → l.endpoint.sapi ≡ Zero → (after_arriving o l).clock ≤ l.clock
+clock_arriving None l z = omega arith
+clock_arriving (Some f) l z = by_taken (frame_taken f l z)
+  where
+    by_taken : (after_frame f l ≡ l) ⊎ (after_frame f l ≡ taken (reply_with f.sapi f.cr l f.content) l) →
+        (after_frame f l).clock ≤ l.clock
+    by_taken (inl e) = omega (arith, ap (λ m. m.clock) e)
+    by_taken (inr e) =
+        let o : Outcome = outcome_of_reply (reply_with f.sapi f.cr l f.content) l.endpoint in
+        omega (arith, ap (λ m. m.clock) e, clock_frames o.frames (record l { endpoint = o.new_state }))
+
+clock_call : (role : Role) (c : Call) (l : LinkState) → IsUse role c → (r : Option Refused) → (after_call_unless r c l).clock ≤ l.clock
+clock_call role c l u (Some why) = omega arith
+clock_call role (Sends m) l u None = grind arith
+clock_call role (Opens info) l u None = grind arith
+clock_call role other l u None = absurd u
+
+clock_calls : (role : Role) (cs : List Call) (l : LinkState) → All (IsUse role) cs → (after_calls cs l).clock ≤ l.clock
+clock_calls role [] l u = omega arith
+clock_calls role (c ∷ cs) l u =
+    let r = refusal_of c l.endpoint in
+    omega (
+      arith,
+      clock_calls role cs (after_call_unless r c l) (All-tail (IsUse role) c cs u),
+      clock_call role c l (All-head (IsUse role) c cs u) r,
+    )
+
+clock_slot : (l : LinkState) → ((slot_outcome l).link.clock ≡ l.clock) ⊎ ((slot_outcome l).link.clock ≡ l.t200)
+clock_slot l = grind arith
+
+-- the clock after a slot shows at most what it showed, or T200
+pub clock_after : (role : Role) (o : Option Frame) (cs : List Call) (l : LinkState) → l.endpoint.sapi ≡ Zero → All (IsUse role) cs →
+    let m = after_slot (after_calls cs (after_arriving o l)) in
+    ((slot_outcome m).link.clock ≤ l.clock) ⊎ ((slot_outcome m).link.clock ≡ m.t200)
+clock_after role o cs l z u = by_slot (clock_slot (after_slot (after_calls cs (after_arriving o l))))
+  where
+    m : LinkState
+    m = after_slot (after_calls cs (after_arriving o l))
+    by_slot : ((slot_outcome m).link.clock ≡ m.clock) ⊎ ((slot_outcome m).link.clock ≡ m.t200) →
+        ((slot_outcome m).link.clock ≤ l.clock) ⊎ ((slot_outcome m).link.clock ≡ m.t200)
+    by_slot (inl e) =
+        inl (omega (arith, e, clock_calls role cs (after_arriving o l) u, clock_arriving o l z))
+    by_slot (inr e) = inr e
