@@ -10,5 +10,6 @@ pub mod ProgressWaits
 pub mod ProgressRuns
 pub mod ProgressPaid
 pub mod ProgressExpiries
+pub mod ProgressWaiting
 pub mod ProgressAlone
 mod RunsWorked

@@ -362,10 +362,10 @@ module _ (m : LinkState) (o : SlotOutcome) (z : m.endpoint.sapi ≡ Zero) (low :
 some_same : (g f : Frame) → Some g ≡ Some f → g ≡ f
 some_same g f e = cc
 
-aired_sent : (l : LinkState) (n : ℕ) → l.is_sent ≡ true → n ≡ issued l → aired l ≡ n
+pub aired_sent : (l : LinkState) (n : ℕ) → l.is_sent ≡ true → n ≡ issued l → aired l ≡ n
 aired_sent l n s e = rw s (sym e)
 
-aired_unsent : (l : LinkState) → l.is_sent ≡ false → aired l ≡ acked l
+pub aired_unsent : (l : LinkState) → l.is_sent ≡ false → aired l ≡ acked l
 aired_unsent l s = rw s refl
 
 sent : (m : LinkState) → m.endpoint.sapi ≡ Zero → acked m ≤ issued m → issued m ≤ acked m + 1 →

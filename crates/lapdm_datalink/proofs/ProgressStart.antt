@@ -18,7 +18,7 @@ use Rattle.{
     specs.Links.{LinkState, after_frame, after_slot, after_call, slot_outcome, is_opening, sabm_goes_first, with_outcome, with_frame},
     specs.{Links.{with_frames, is_awaiting_kind}, Channels.{after_calls, after_call_unless, after_arriving, IsUse}},
     proofs.{
-      ProgressSteps.{acked, issued, accepted, IsAnswerOf, Good, taken, outcome_endpoint},
+      ProgressSteps.{acked, issued, accepted, IsAnswerOf, Good, Moves, taken, outcome_endpoint},
       ProgressLink.{reply_with, frame_taken, Arrives, arrives, Called, then_called, then_moves, Slotted, slotted, called_nothing, called_sends},
       ProgressLink.{called_opens, passes_slot, slot_acked, slot_issued, slot_accepted, owed_later},
       Answering.owes_nothing,

@@ -273,7 +273,7 @@ module _ (r : Run) (u : IsWithoutRelease r) (long : round_trip r.delay ≤ r.t20
         same = refl;
         time = omega (arith, c);
         early = omega arith;
-        awaits = awaits_same (M n) (L (suc n)) m_acked m_issued w;
+        awaits = awaits_same r u role (L (suc n)) (M n) (sym m_acked) (sym m_issued) w;
         is_sent = sent;
       }) refl refl;
       bound = omega (arith, ap one_if (due_clock (M n) due).1, settle paid used s (λ g. not_yet g due));
@@ -319,8 +319,9 @@ module _ (r : Run) (u : IsWithoutRelease r) (long : round_trip r.delay ≤ r.t20
         stays = m_acked ∙ x.2
 
         goes_on : (g : Going n) →
-            (suc (suc g.slot + r.delay) ≤ suc n → (turn_at r (suc g.slot + r.delay) (other role)).is_lost ≡ false) → Going (suc n)
-        goes_on g returns = record {
+            (suc (suc g.slot + r.delay) ≤ suc n → (turn_at r (suc g.slot + r.delay) (other role)).is_lost ≡ false) →
+            (h : Going (suc n)) × (h.since ≡ g.since + 1)
+        goes_on g returns = (record {
           slot = g.slot;
           since = g.since + 1;
           start = g.start;
@@ -331,13 +332,12 @@ module _ (r : Run) (u : IsWithoutRelease r) (long : round_trip r.delay ≤ r.t20
           same = g.same ∙ sym stays;
           time = omega (arith, g.time, runs, ticks, x.3);
           early = omega (arith, in_time g stays);
-          awaits = awaits_same (M n) (L (suc n)) m_acked m_issued m_awaits;
+          awaits = awaits_same r u role (L (suc n)) (M n) (sym m_acked) (sym m_issued) m_awaits;
           is_sent = keeps ∙ m_sent _ refl;
-        }
+        }, refl)
 
-        goes : (paid used : ℕ) (g : Going n) → paid ≡ 0 → used ≡ g.since + 1 → Going (suc n) → (h : Going (suc n)) →
-            h.since ≡ g.since + 1 → Next n paid used
-        goes paid used g p q h0 h e = record {
+        goes : (paid used : ℕ) (g : Going n) → used ≡ g.since + 1 → (h : Going (suc n)) × (h.since ≡ g.since + 1) → Next n paid used
+        goes paid used g q (h, e) = record {
           paid_next = 0;
           used_next = h.since + 1;
           stage = going h refl refl;
@@ -371,9 +371,9 @@ module _ (r : Run) (u : IsWithoutRelease r) (long : round_trip r.delay ≤ r.t20
             let at_n : suc g.slot + r.delay ≡ n = eq_of (suc g.slot + r.delay) n e in
             back_lost paid used g p q at_n (loss_there g at_n lost)
         going_on paid used g p q b e false kept =
-            let h = goes_on g (λ late. kept) in goes paid used g p q h h refl
+            goes paid used g q (goes_on g (λ late. kept))
         going_on paid used g p q false e true lost =
-            let h = goes_on g (λ late. g.returns (apart (suc g.slot + r.delay) n late e)) in goes paid used g p q h h refl
+            goes paid used g q (goes_on g (λ late. g.returns (apart (suc g.slot + r.delay) n late e)))
 
         ticking : (paid used : ℕ) → Stage n paid used → Next n paid used
         ticking paid used (quiet p q a) = absurd (true-false (sym x.0 ∙ a))

@@ -8,7 +8,7 @@ ghost use Rattle.lapdm_datalink.specs.Links.{LinkState, after_slot, slot_outcome
 ghost use Rattle.lapdm_datalink.specs.Slots.{IsStepOfEndpoint, nr_of, took};
 ghost use Rattle.lapdm_datalink.specs.DataLinks.{DataLinkState};
 ghost use Rattle.lapdm_datalink.specs.Channels.{Run};
-ghost use Rattle.lapdm_datalink.specs.Progress.{GoesFirst, PaysForExpiries};
+ghost use Rattle.lapdm_datalink.specs.Progress.{GoesFirst, PaysForExpiries, Progresses};
 
 /// Law: in a slot, the endpoint of a link does nothing, repeats the frame that awaits an answer without counting it, or handles the expiry
 /// of
@@ -39,6 +39,13 @@ pub fn law_i_frame_is_answered_in_the_next_slot()
 #[tactic(auto, using(crate::proofs::ProgressAlone::sapi_0_goes_first))]
 pub fn law_sapi_0_goes_first()
     ensures { (s : DataLinkState) → GoesFirst s }
+{}
+
+/// Law: while both links of SAPI 0 are open, each waits at most a round trip for each of its segments, T200 for each slot with a loss, and
+/// one slot for each answer that goes first. The premises are those of `law_data_links_pay_for_expiries`.
+#[tactic(auto, using(crate::proofs::ProgressWaiting::progresses))]
+pub fn law_data_links_progress()
+    ensures { (r : Run) → Progresses r }
 {}
 
 /// Law: each expiry of T200 of an open link of SAPI 0 is paid by a loss of its own, if both sides have the same T200, and it is at least
