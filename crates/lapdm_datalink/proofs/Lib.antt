@@ -11,5 +11,6 @@ pub mod ProgressRuns
 pub mod ProgressPaid
 pub mod ProgressExpiries
 pub mod ProgressWaiting
+pub mod ProgressPolls
 pub mod ProgressAlone
 mod RunsWorked

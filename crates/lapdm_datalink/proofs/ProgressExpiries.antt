@@ -1,7 +1,7 @@
 -- Each expiry of T200 of an open link of SAPI 0 is paid by a loss: the last sending of its I frame, followed from slot to slot.
 use Rattle.{
-  std.specs.Prelude.{◌≡◌, ◌≢◌, ℕ, zero, suc, ◌+◌, ◌-◌, ◌*◌, ◌≤◌, Bool, true, false, ◌||◌, ◌⊎◌, nat_le},
-  std.{specs.Prelude.{List, Option, Some, None, IfSome}, proofs.Common.{inl, inr, arith, refl, ap, sym, ◌∙◌}},
+  std.specs.Prelude.{◌≡◌, ◌≢◌, ℕ, zero, suc, ◌+◌, ◌-◌, ◌*◌, ◌≤◌, Bool, true, false, ◌||◌, ◌⊎◌},
+  std.{specs.Prelude.{nat_le, List, Option, Some, None, IfSome}, proofs.Common.{inl, inr, arith, refl, ap, sym, ◌∙◌}},
   lapdm_frame.specs.Content.{Content, I, Frame},
   lapdm_end.specs.lapdm_window.{
     declared.State.TheVariants.{Open, Closed},
@@ -43,7 +43,7 @@ answer_no_i m (Some f) h = one f.content h.kind
     one (I ns nr p more info) e = cc
     one other e = refl
 
-poll_is_i : (x : Option Frame) → is_repetition x ≡ true → is_i_frame x ≡ true
+pub poll_is_i : (x : Option Frame) → is_repetition x ≡ true → is_i_frame x ≡ true
 poll_is_i None h = cc
 poll_is_i (Some f) h = one f.content h
   where
@@ -55,7 +55,7 @@ pub true-false : true ≡ false → ⊥
 true-false h = cc
 
 -- the link that repeats its I frame had sent it, and its clock is over
-repeats : (m : LinkState) → IfSome m.answer (IsAnswerOf m) → is_repetition (slot_outcome m).frame ≡ true →
+pub repeats : (m : LinkState) → IfSome m.answer (IsAnswerOf m) → is_repetition (slot_outcome m).frame ≡ true →
     (m.is_sent ≡ true) × (m.endpoint.state ≡ Open) × (m.clock ≡ 0) × (awaits_ack m.endpoint ≡ true)
 repeats m owes h = by_from (slot_from m)
   where

@@ -1,7 +1,7 @@
 -- What a link of SAPI 0 does with what arrives, with the calls of layer 3, and in its slot: its counts, and what its frames say.
 use Rattle.{
   std.{
-    specs.Prelude.{◌≡◌, ℕ, ◌+◌, ◌%◌, ◌≤◌, Bool, true, false, ◌||◌, ◌&&◌, ◌⊎◌, nat_eq, List, []},
+    specs.Prelude.{◌≡◌, ℕ, ◌+◌, ◌%◌, ◌≤◌, Bool, true, false, not, ◌||◌, ◌&&◌, ◌⊎◌, nat_eq, List, []},
     specs.Prelude.{◌∷◌, Option, Some, None, IfSome, All, ◌≢◌},
     proofs.{Common.{inl, inr, arith, refl, ap, sym, ◌∙◌, length-append}, lemmas.List.Elements.{All-head, All-tail}},
   },
@@ -398,9 +398,9 @@ pub record Slotted (o : Option Frame) (l l' : LinkState) (frame : Option Frame) 
   pub first : (f : Frame) → frame ≡ Some f → (ns : ℕ) → ns_in f.content ≡ Some ns → poll_in f.content ≡ false →
       aired l ≤ acked l'
 
-pub owed_later : (l m : LinkState) → accepted m ≡ accepted l → m.answer ≡ l.answer → IfSome l.answer (IsAnswerOf l) →
-    IfSome m.answer (IsAnswerOf m)
-owed_later l m v a h = by_answer l.answer m.answer a h
+pub owed_later : (l m : LinkState) → m.endpoint.role ≡ l.endpoint.role → accepted m ≡ accepted l → m.answer ≡ l.answer →
+    IfSome l.answer (IsAnswerOf l) → IfSome m.answer (IsAnswerOf m)
+owed_later l m role v a h = by_answer l.answer m.answer a h
   where
     vr_same : vr l.endpoint ≡ vr m.endpoint
     vr_same = ap (λ n. n % 8) (sym v)
@@ -408,8 +408,12 @@ owed_later l m v a h = by_answer l.answer m.answer a h
     by_answer : (x y : Option Frame) → y ≡ x → IfSome x (IsAnswerOf l) → IfSome y (IsAnswerOf m)
     by_answer x None e h = tt
     by_answer None (Some g) e h = absurd cc
-    by_answer (Some f) (Some g) e h =
-        rw (some_same g f e) (record { number = λ nr q. h.number nr q ∙ vr_same; kind = h.kind; sapi = h.sapi })
+    by_answer (Some f) (Some g) e h = rw (some_same g f e) (record {
+      number = λ nr q. h.number nr q ∙ vr_same;
+      kind = h.kind;
+      sapi = h.sapi;
+      way = h.way ∙ ap (λ q. not (command_cr q)) (sym role);
+    })
 
 module _ (o : Option Frame) (l a m : LinkState) (g : Good l) (x : Arrives o l a) (c : Called a m) where
   abbrev pub out : LinkState
@@ -426,7 +430,7 @@ module _ (o : Option Frame) (l a m : LinkState) (g : Good l) (x : Arrives o l a)
 
   sent_of : (f : Frame) → (slot_outcome m).frame ≡ Some f → IsSentBy m (slot_outcome m) f
   sent_of f h = sent m (c.moves.sapi ∙ x.moves.sapi ∙ g.sapi) c.moves.low c.moves.window
-      (owed_later a m c.accepted_same c.answer_same x.owed) f h
+      (owed_later a m c.moves.role c.accepted_same c.answer_same x.owed) f h
 
   aired_out : out.is_sent ≡ true → issued m ≡ acked m + 1 → aired out ≡ acked out + 1
   aired_out s w = aired_sent out (issued out) s refl ∙ slot_issued m ∙ w ∙ ap (λ n. n + 1) (sym (slot_acked m))

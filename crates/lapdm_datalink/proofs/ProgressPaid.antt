@@ -31,7 +31,7 @@ use Rattle.{
 }
 use Rattle.lapdm_datalink.proofs.ProgressCounts as C
 
-arrived_other : (r : Run) (n : ℕ) (role : Role) →
+pub arrived_other : (r : Run) (n : ℕ) (role : Role) →
     arriving_at r (suc n + r.delay) (other role) ≡ carried (turn_at r n role).is_lost (frame_at r n role)
 arrived_other r n Mobile = arrived r n Network
 arrived_other r n Network = arrived r n Mobile
@@ -173,6 +173,12 @@ module _ (r : Run) (u : IsWithoutRelease r) (s : ℕ) (role : Role) (f : Frame) 
 
     pub answered_frame : (g : Frame) × (frame_at r m o ≡ Some g)
     answered_frame = (answered.0, answered.1)
+
+    pub in_sequence_or_polls : (nat_eq ns (vr before.endpoint) || p) ≡ true
+    in_sequence_or_polls = (in_sequence _ refl).1
+
+    pub taken_is : after_arriving (arriving_at r m o) before ≡ took ns nr p (info, more) before
+    taken_is = taken_there
 
     module _ (returns : (turn_at r m o).is_lost ≡ false) (open_here : (link_at r (suc m + r.delay) role).endpoint.state ≡ Open) where
       abbrev pub t : ℕ

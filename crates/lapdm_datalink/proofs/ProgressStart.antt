@@ -19,8 +19,8 @@ use Rattle.{
     specs.{Links.{with_frames, is_awaiting_kind}, Channels.{after_calls, after_call_unless, after_arriving, IsUse}},
     proofs.{
       ProgressSteps.{acked, issued, accepted, IsAnswerOf, Good, Moves, taken, outcome_endpoint},
-      ProgressLink.{reply_with, frame_taken, Arrives, arrives, Called, then_called, then_moves, Slotted, slotted, called_nothing, called_sends},
-      ProgressLink.{called_opens, passes_slot, slot_acked, slot_issued, slot_accepted, owed_later},
+      ProgressLink.{reply_with, frame_taken, Arrives, arrives, Called, then_called, then_moves, Slotted, slotted, called_nothing},
+      ProgressLink.{called_sends, called_opens, passes_slot, slot_acked, slot_issued, slot_accepted, owed_later},
       Answering.owes_nothing,
     },
   },
@@ -504,7 +504,7 @@ kept_counts role o cs l g n idle u =
 module _ (role : Role) (o : Option Frame) (cs : List Call) (l : LinkState) (g : Good l) (n : l.answer ≡ None)
     (idle : is_idle l.endpoint.state ≡ true → issued l ≡ acked l) (u : All (IsUse role) cs)
   where
-    ready_called : Called (after_arriving o l) (after_calls cs (after_arriving o l))
+    pub ready_called : Called (after_arriving o l) (after_calls cs (after_arriving o l))
     ready_called =
         let a = after_arriving o l in
         let x : Arrives o l a = arrives o l g n in
@@ -515,8 +515,12 @@ module _ (role : Role) (o : Option Frame) (cs : List Call) (l : LinkState) (g : 
 
     pub ready_owed : IfSome (after_slot (after_calls cs (after_arriving o l))).answer
         (IsAnswerOf (after_slot (after_calls cs (after_arriving o l))))
-    ready_owed = owed_later (after_arriving o l) (after_slot (after_calls cs (after_arriving o l))) ready_called.accepted_same
+    ready_owed = owed_later (after_arriving o l) (after_slot (after_calls cs (after_arriving o l))) ready_called.moves.role
+        ready_called.accepted_same
         ready_called.answer_same (arrives o l g n).owed
+
+    pub ready_role : (after_slot (after_calls cs (after_arriving o l))).endpoint.role ≡ l.endpoint.role
+    ready_role = ready_called.moves.role ∙ (arrives o l g n).moves.role
 
     pub ready_t200 : (after_slot (after_calls cs (after_arriving o l))).t200 ≡ l.t200
     ready_t200 = ready_called.moves.t200 ∙ (arrives o l g n).moves.t200
@@ -553,7 +557,8 @@ clock_arriving (Some f) l z = by_taken (frame_taken f l z)
         let o : Outcome = outcome_of_reply (reply_with f.sapi f.cr l f.content) l.endpoint in
         omega (arith, ap (λ m. m.clock) e, clock_frames o.frames (record l { endpoint = o.new_state }))
 
-clock_call : (role : Role) (c : Call) (l : LinkState) → IsUse role c → (r : Option Refused) → (after_call_unless r c l).clock ≤ l.clock
+clock_call : (role : Role) (c : Call) (l : LinkState) → IsUse role c → (r : Option Refused) →
+    (after_call_unless r c l).clock ≤ l.clock
 clock_call role c l u (Some why) = omega arith
 clock_call role (Sends m) l u None = grind arith
 clock_call role (Opens info) l u None = grind arith
@@ -580,6 +585,7 @@ clock_after role o cs l z u = by_slot (clock_slot (after_slot (after_calls cs (a
   where
     m : LinkState
     m = after_slot (after_calls cs (after_arriving o l))
+
     by_slot : ((slot_outcome m).link.clock ≡ m.clock) ⊎ ((slot_outcome m).link.clock ≡ m.t200) →
         ((slot_outcome m).link.clock ≤ l.clock) ⊎ ((slot_outcome m).link.clock ≡ m.t200)
     by_slot (inl e) =

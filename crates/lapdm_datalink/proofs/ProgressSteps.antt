@@ -1,7 +1,7 @@
 -- What one link of SAPI 0 does when a frame arrives, when layer 3 makes a call, and in its slot: its counts, and what its frames say.
 use Rattle.{
   std.{
-    specs.Prelude.{◌≡◌, ℕ, ◌+◌, ◌-◌, ◌%◌, ◌≤◌, Bool, true, false, ◌||◌, ◌⊎◌, if◌then◌else◌},
+    specs.Prelude.{◌≡◌, ℕ, ◌+◌, ◌-◌, ◌%◌, ◌≤◌, Bool, true, false, not, ◌||◌, ◌⊎◌, if◌then◌else◌},
     specs.Prelude.{nat_eq, length, Option, Some, None, IfSome, List, [], ◌∷◌},
     proofs.Common.{inl, inr, arith, refl, ap, ◌∙◌, length-append},
   },
@@ -9,7 +9,7 @@ use Rattle.{
   lapdm_end.specs.lapdm_window.{
     declared.{Sapi.TheVariants.Zero, State.TheVariants.{Idle, Opening, Open, Closing, Closed}},
     segmenting.Segments.Segment,
-    Ends.{EndpointState, Outcome, vr, vs, va, awaits_ack},
+    Ends.{EndpointState, Outcome, vr, vs, va, awaits_ack, command_cr},
     Rules.takes_i_frame,
     Tables.{Reply, Nothing, SendsDm, SendsUa, AcceptsSabm, ConfirmsEstablishment, ClosesLink, AcceptsDisc, ReportsUiInformation},
     Tables.{TakesIFrame, TakesRr, TakesRej, outcome_of_reply},
@@ -35,11 +35,12 @@ accepted l = length l.endpoint.accepted_segments
 abbrev pub aired : LinkState → ℕ
 aired l = if l.is_sent then issued l else acked l
 
--- the frame owed says N(R) = V(R) if it has an N(R), and is no I frame
+-- the frame owed is a response, says N(R) = V(R) if it has an N(R), and is no frame that awaits an answer
 pub record IsAnswerOf (l : LinkState) (f : Frame) : Type 0 where
   pub number : (nr : ℕ) → nr_in f.content ≡ Some nr → nr ≡ vr l.endpoint
   pub kind : is_awaiting_kind f.content ≡ false
   pub sapi : f.sapi ≡ 0
+  pub way : f.cr ≡ not (command_cr l.endpoint.role)
 
 pub record Good (l : LinkState) : Type 0 where
   pub sapi : l.endpoint.sapi ≡ Zero

@@ -1,29 +1,44 @@
 -- How long a link of SAPI 0 waits while both are open: each slot of waiting is charged to a segment, to a loss, or to an answer.
-use Rattle.std.specs.Prelude.{◌≡◌, ◌≢◌, ℕ, zero, suc, ◌+◌, ◌-◌, ◌*◌, ◌≤◌, Bool, true, false, not, ◌&&◌, ◌||◌, ◌⊎◌, nat_le, nat_eq, List}
-use Rattle.std.specs.Prelude.{Option, Some, None, IfSome}
-use Rattle.std.proofs.Common.{inl, inr, arith, refl, ap, sym, ◌∙◌}
-use Rattle.std.proofs.Math.Nat.{mul-add, mul-one}
-use Rattle.lapdm_frame.specs.Content.{Content, I, Frame}
-use Rattle.lapdm_end.specs.lapdm_window.declared.State.TheVariants.{Open, Closed}
-use Rattle.lapdm_end.specs.lapdm_window.Ends.{Role, Mobile, Network, EndpointState, awaits_answer, awaits_ack}
-use Rattle.lapdm_link.specs.Events.{other}
-use Rattle.lapdm_datalink.specs.Links.{LinkState, slot_outcome, is_due}
-use Rattle.lapdm_datalink.specs.Channels.{Run, after_calls, after_arriving}
-use Rattle.lapdm_datalink.specs.Progress.{link_at, turn_at, arriving_at, ready_at, frame_at, is_loss_at, IsWithoutRelease, round_trip}
-use Rattle.lapdm_datalink.specs.Progress.{is_i_frame, is_lossy, one_if, waiting_slots, lossy_slots, answers_first, answering_slots}
-use Rattle.lapdm_datalink.specs.Progress.{AreOpen, acked_at, Progresses}
-use Rattle.lapdm_datalink.proofs.ProgressSteps.{acked, issued, aired, Moves}
-use Rattle.lapdm_datalink.proofs.ProgressLink.{slot_acked, slot_issued, aired_unsent, aired_sent}
-use Rattle.lapdm_datalink.proofs.ProgressStart.{ready_t200, ready_moves, ready_due, slot_open, clock_after}
-use Rattle.lapdm_datalink.proofs.ProgressWaits.{WaitsFrom, SlotWay, sends, blocked, counts, slot_way}
-use Rattle.lapdm_datalink.proofs.ProgressRuns.{sound, slotted_in, link_step, counted}
-use Rattle.lapdm_datalink.proofs.ProgressPaid.{acked_in_time, answered_frame, le_of, not_le_of}
-use Rattle.lapdm_datalink.proofs.ProgressExpiries.{answer_no_i, i_parts, loss_of, true-false, owes_ready, waits_at, awaits_differs, awaits_same}
+use Rattle.{
+  std.{
+    specs.Prelude.{◌≡◌, ◌≢◌, ℕ, zero, suc, ◌+◌, ◌-◌, ◌*◌, ◌≤◌, Bool, true, false, not, ◌&&◌, ◌||◌},
+    specs.Prelude.{◌⊎◌, nat_le, nat_eq, List, Option, Some, None, IfSome},
+    proofs.{Common.{inl, inr, arith, refl, ap, sym, ◌∙◌}, Math.Nat.{mul-add, mul-one}},
+  },
+  lapdm_frame.specs.Content.{Content, I, Frame},
+  lapdm_end.specs.lapdm_window.{
+    declared.State.TheVariants.{Open, Closed},
+    Ends.{Role, Mobile, Network, EndpointState, awaits_answer, awaits_ack},
+  },
+  lapdm_link.specs.Events.other,
+  lapdm_datalink.{
+    specs.{Links.{LinkState, slot_outcome, is_due}, Channels.{Run, after_calls, after_arriving}, Progress.{link_at, turn_at, arriving_at}},
+    specs.Progress.{ready_at, frame_at, is_loss_at, IsWithoutRelease, round_trip, is_i_frame, is_repetition, is_lossy, one_if},
+    specs.Progress.{waiting_slots, lossy_slots, expiries, AreOpen, acked_at},
+    proofs.{
+      ProgressSteps.{acked, issued, aired, Moves},
+      ProgressLink.{slot_acked, slot_issued, aired_unsent, aired_sent},
+      ProgressStart.{ready_t200, ready_moves, ready_due, slot_open, clock_after},
+      ProgressWaits.{WaitsFrom, SlotWay, sends, blocked, counts, slot_way},
+      ProgressRuns.{sound, slotted_in, link_step, counted},
+      ProgressPaid.{acked_in_time, answered_frame, le_of, not_le_of},
+      ProgressExpiries.{repeats, poll_is_i, answer_no_i, i_parts, loss_of, true-false, owes_ready, waits_at, awaits_differs, awaits_same},
+    },
+  },
+}
 
-open_awaits : (e : EndpointState) → e.state ≡ Open → awaits_answer e ≡ awaits_ack e
+-- B: in how many of these slots this link sends an answer though the frame that awaits an answer is due
+abbrev pub answers_first : (run : Run) (slot : ℕ) (role : Role) → Bool
+answers_first r n role = is_due (ready_at r n role) && not (is_i_frame (frame_at r n role))
+
+abbrev pub answering_slots : (run : Run) (first slots : ℕ) (role : Role) → ℕ
+answering_slots r n zero role = 0
+answering_slots r n (suc k) role = answering_slots r n k role + one_if (answers_first r (n + k) role)
+
+pub open_awaits : (e : EndpointState) → e.state ≡ Open → awaits_answer e ≡ awaits_ack e
 open_awaits e o = grind (arith, o)
 
-due_clock : (m : LinkState) → is_due m ≡ true → (m.clock ≡ 0) × (awaits_answer m.endpoint ≡ true)
+pub due_clock : (m : LinkState) → is_due m ≡ true → (m.clock ≡ 0) × (awaits_answer m.endpoint ≡ true)
 due_clock m h = (grind (arith, h), grind (arith, h))
 
 not_due : (m : LinkState) → is_due m ≡ false → awaits_answer m.endpoint ≡ true → 1 ≤ m.clock
@@ -32,7 +47,8 @@ not_due m h w = grind (arith, h, w)
 ack_none : (l : LinkState) → awaits_ack l.endpoint ≡ false → issued l ≡ acked l
 ack_none l w = grind (arith, w)
 
-ack_one : (l : LinkState) → awaits_ack l.endpoint ≡ true → acked l ≤ issued l → issued l ≤ acked l + 1 → issued l ≡ acked l + 1
+ack_one : (l : LinkState) → awaits_ack l.endpoint ≡ true → acked l ≤ issued l → issued l ≤ acked l + 1 →
+    issued l ≡ acked l + 1
 ack_one l w a b = grind (arith, w)
 
 some_loss : (a b : Bool) → a ≡ true → (a || b) ≡ true
@@ -42,7 +58,7 @@ other_loss : (a b : Bool) → b ≡ true → (a || b) ≡ true
 other_loss true b h = refl
 other_loss false b h = h
 
-open_closed : Open ≡ Closed → ⊥
+pub open_closed : Open ≡ Closed → ⊥
 open_closed h = cc
 
 eq_of : (a b : ℕ) → nat_eq a b ≡ true → a ≡ b
@@ -54,19 +70,19 @@ above a b h e = grind (arith, e)
 no_ack : (l : LinkState) → issued l ≡ acked l → awaits_ack l.endpoint ≡ false
 no_ack l e = grind (arith, e)
 
-times_next : (k a b : ℕ) → a + 1 ≤ b → k * a + k ≤ k * b
+pub times_next : (k a b : ℕ) → a + 1 ≤ b → k * a + k ≤ k * b
 times_next k a b h =
     let e : (a + 1) + (b - (a + 1)) ≡ b = omega (arith, h) in
     let f : k * b ≡ k * (a + 1) + k * (b - (a + 1)) = ap (λ x. k * x) (sym e) ∙ mul-add k (a + 1) (b - (a + 1)) in
     omega (arith, f, mul-add k a 1, mul-one k)
 
-times_le : (k a b : ℕ) → a ≤ b → k * a ≤ k * b
+pub times_le : (k a b : ℕ) → a ≤ b → k * a ≤ k * b
 times_le k a b h =
     let e : a + (b - a) ≡ b = omega (arith, h) in
     let f : k * b ≡ k * a + k * (b - a) = ap (λ x. k * x) (sym e) ∙ mul-add k a (b - a) in
     omega (arith, f)
 
-cost : (t a b : ℕ) → t * (a + b + 1) ≡ t * (a + 1) + t * b
+pub cost : (t a b : ℕ) → t * (a + b + 1) ≡ t * (a + 1) + t * b
 cost t a b = let e : a + b + 1 ≡ (a + 1) + b = omega arith in rw e (mul-add t (a + 1) b)
 
 apart : (a n : ℕ) → suc a ≤ suc n → nat_eq a n ≡ false → suc a ≤ n
@@ -124,283 +140,397 @@ module _ (r : Run) (u : IsWithoutRelease r) (long : round_trip r.delay ≤ r.t20
     failed : paid ≡ (L n).clock - 1 → used ≡ 0 → Stage n paid used
     going : (g : Going n) → paid ≡ 0 → used ≡ g.since + 1 → Stage n paid used
 
-  -- the bound holds in a slot
-  pub record Next (n paid used : ℕ) : Type 0 where
+  -- 1 if the present sending is lost, and T200 has not expired yet
+  abbrev pub pending : {n paid used : ℕ} → Stage n paid used → ℕ
+  pending (quiet p q a) = 0
+  pending (unsent p q a) = 0
+  pending (failed p q) = 1
+  pending (going g p q) = 0
+
+  -- the bounds hold in a slot
+  pub record Next (n paid used left : ℕ) : Type 0 where
     pub paid_next : ℕ
     pub used_next : ℕ
     pub stage : Stage (suc n) paid_next used_next
     pub bound : one_if (awaits_answer (M n).endpoint) + paid_next + round_trip r.delay * acked (L n) + used
         ≤ round_trip r.delay * acked (L (suc n)) + r.t200 * one_if (is_lossy r n) + one_if (answers_first r n role) + used_next + paid
+    pub repays : one_if (is_repetition (frame_at r n role)) + pending stage ≤ one_if (is_lossy r n) + left
 
   -- the links are open before slot n, and since the first slot
-  module _ (n : ℕ) (first : n0 ≤ n) (opened : (k : ℕ) → n0 ≤ k → k ≤ suc n → (q : Role) → (link_at r k q).endpoint.state ≡ Open) where
-    out_open : (slot_outcome (M n)).link.endpoint.state ≡ Open
-    out_open = ap (λ l. l.endpoint.state) (sym (link_step r n role)) ∙ opened (suc n) (omega (arith, first)) (omega arith) role
+  module _ (n : ℕ) (first : n0 ≤ n)
+      (opened : (k : ℕ) → n0 ≤ k → k ≤ suc n → (q : Role) → (link_at r k q).endpoint.state ≡ Open)
+    where
+      out_open : (slot_outcome (M n)).link.endpoint.state ≡ Open
+      out_open = ap (λ l. l.endpoint.state) (sym (link_step r n role)) ∙ opened (suc n) (omega (arith, first)) (omega arith) role
 
-    m_open : (M n).endpoint.state ≡ Open
-    m_open = slot_open (M n) out_open
+      m_open : (M n).endpoint.state ≡ Open
+      m_open = slot_open (M n) out_open
 
-    m_acked : acked (L (suc n)) ≡ acked (M n)
-    m_acked = ap acked (link_step r n role) ∙ slot_acked (M n)
+      m_acked : acked (L (suc n)) ≡ acked (M n)
+      m_acked = ap acked (link_step r n role) ∙ slot_acked (M n)
 
-    m_issued : issued (L (suc n)) ≡ issued (M n)
-    m_issued = ap issued (link_step r n role) ∙ slot_issued (M n)
+      m_issued : issued (L (suc n)) ≡ issued (M n)
+      m_issued = ap issued (link_step r n role) ∙ slot_issued (M n)
 
-    m_moves : Moves (L n) (M n)
-    m_moves = ready_moves role (arriving_at r n role) (turn_at r n role).calls (L n) ((sound r u n).good role)
-        ((sound r u n).settled role).owes ((sound r u n).idle role) (u n role)
+      m_moves : Moves (L n) (M n)
+      m_moves = ready_moves role (arriving_at r n role) (turn_at r n role).calls (L n) ((sound r u n).good role)
+          ((sound r u n).settled role).owes ((sound r u n).idle role) (u n role)
 
-    m_t200 : (M n).t200 ≡ r.t200
-    m_t200 = ready_t200 role (arriving_at r n role) (turn_at r n role).calls (L n) ((sound r u n).good role)
-        ((sound r u n).settled role).owes ((sound r u n).idle role) (u n role) ∙ (sound r u n).t200 role
+      m_t200 : (M n).t200 ≡ r.t200
+      m_t200 = ready_t200 role (arriving_at r n role) (turn_at r n role).calls (L n) ((sound r u n).good role)
+          ((sound r u n).settled role).owes ((sound r u n).idle role) (u n role) ∙ (sound r u n).t200 role
 
-    m_due : (M n).is_sent ≡ false → (M n).clock ≡ 0
-    m_due = ready_due role (arriving_at r n role) (turn_at r n role).calls (L n) ((sound r u n).good role).sapi (u n role)
-        ((sound r u n).settled role)
+      m_due : (M n).is_sent ≡ false → (M n).clock ≡ 0
+      m_due = ready_due role (arriving_at r n role) (turn_at r n role).calls (L n) ((sound r u n).good role).sapi (u n role)
+          ((sound r u n).settled role)
 
-    up : acked (L n) ≤ acked (L (suc n))
-    up = (slotted_in r u n role).moves.acked_up
+      up : acked (L n) ≤ acked (L (suc n))
+      up = (slotted_in r u n role).moves.acked_up
 
-    -- a sending that goes on is not answered later than in the round trip
-    in_time : (g : Going n) → acked (L (suc n)) ≡ acked (L n) → g.since ≤ 2 * r.delay
-    in_time g stays = by_since (nat_le g.since (2 * r.delay)) refl
-      where
-        back : ℕ
-        back = suc g.slot + r.delay
-        late : 1 + 2 * r.delay ≤ g.since → suc back + r.delay ≡ n
-        late h = omega (arith, h, g.early, g.now)
-        by_since : (b : Bool) → nat_le g.since (2 * r.delay) ≡ b → g.since ≤ 2 * r.delay
-        by_since true e = le_of g.since (2 * r.delay) e
-        by_since false e = absurd (omega (arith, acked_late, stays, g.same))
-          where
-            h : suc back + r.delay ≡ n
-            h = late (omega (arith, not_le_of g.since (2 * r.delay) e))
-            x : (f : Frame) × (frame_at r g.slot role ≡ Some f) × (ns : ℕ) × (nr : ℕ) × (p : Bool) × (more : Bool) × (info : List ℕ)
-                × (f.content ≡ I ns nr p more info)
-            x = i_parts (frame_at r g.slot role) g.sent
-            open_back : (link_at r back (other role)).endpoint.state ≡ Open
-            open_back = opened back (omega (arith, g.start)) (omega (arith, h)) (other role)
-            closed_open : (link_at r (suc back) (other role)).endpoint.state ≢ Closed
-            closed_open e = open_closed (sym (opened (suc back) (omega (arith, g.start)) (omega (arith, h)) (other role)) ∙ e)
-            acked_back : acked (L (suc g.slot)) + 1 ≤ acked (L (suc (suc back + r.delay)))
-            acked_back = acked_in_time r u g.slot role x.0 x.2 x.3 x.4 x.5 x.6 x.1 x.7 g.arrives open_back closed_open
-                (g.returns (omega (arith, h))) (opened (suc back + r.delay) (omega (arith, g.start)) (omega (arith, h)) role)
-            acked_late : acked (L (suc g.slot)) + 1 ≤ acked (L (suc n))
-            acked_late = rw (← h) acked_back
+      -- a sending that goes on is not answered later than in the round trip
+      in_time : (g : Going n) → acked (L (suc n)) ≡ acked (L n) → g.since ≤ 2 * r.delay
+      in_time g stays = by_since (nat_le g.since (2 * r.delay)) refl
+        where
+          back : ℕ
+          back = suc g.slot + r.delay
 
-    -- it is not due while it goes on
-    not_yet : (g : Going n) → is_due (M n) ≡ true → acked (L (suc n)) ≡ acked (L n) → ⊥
-    not_yet g due stays = by_sent (M n).is_sent refl
-      where
-        w : awaits_ack (M n).endpoint ≡ true
-        w = sym (open_awaits (M n).endpoint m_open) ∙ (due_clock (M n) due).1
-        by_sent : (b : Bool) → (M n).is_sent ≡ b → ⊥
-        by_sent true s =
-            let x = waits_at r u role n w s in
-            omega (arith, x.3, (due_clock (M n) due).0, g.time, in_time g stays, long)
-        by_sent false s =
-            let one : aired (L n) ≡ issued (L n) = aired_sent (L n) (issued (L n)) g.is_sent refl in
-            let two : issued (L n) ≡ acked (L n) + 1 =
-            ack_one (L n) g.awaits ((sound r u n).good role).low ((sound r u n).good role).window in
-            omega (arith, one, two, m_moves.aired_up, aired_unsent (M n) s, m_acked, stays)
+          late : 1 + 2 * r.delay ≤ g.since → suc back + r.delay ≡ n
+          late h = omega (arith, h, g.early, g.now)
 
-    -- what was used is paid by a segment, unless the sending goes on
-    product : round_trip r.delay * acked (L n) ≤ round_trip r.delay * acked (L (suc n))
-    product = times_le (round_trip r.delay) (acked (L n)) (acked (L (suc n))) up
+          by_since : (b : Bool) → nat_le g.since (2 * r.delay) ≡ b → g.since ≤ 2 * r.delay
+          by_since true e = le_of g.since (2 * r.delay) e
+          by_since false e = absurd (omega (arith, acked_late, stays, g.same))
+            where
+              h : suc back + r.delay ≡ n
+              h = late (omega (arith, not_le_of g.since (2 * r.delay) e))
 
-    settle : (paid used : ℕ) → Stage n paid used → ((g : Going n) → acked (L (suc n)) ≡ acked (L n) → ⊥) →
-        round_trip r.delay * acked (L n) + used ≤ round_trip r.delay * acked (L (suc n))
-    settle paid used (quiet p q w) ends = omega (arith, q, product)
-    settle paid used (unsent p q w) ends = omega (arith, q, product)
-    settle paid used (failed p q) ends = omega (arith, q, product)
-    settle paid used (going g p q) ends = by_acked (nat_eq (acked (L (suc n))) (acked (L n))) refl
-      where
-        by_acked : (b : Bool) → nat_eq (acked (L (suc n))) (acked (L n)) ≡ b →
-            round_trip r.delay * acked (L n) + used ≤ round_trip r.delay * acked (L (suc n))
-        by_acked true e = absurd (ends g (eq_of (acked (L (suc n))) (acked (L n)) e))
-        by_acked false e =
-            let more : acked (L n) + 1 ≤ acked (L (suc n)) = above (acked (L (suc n))) (acked (L n)) up e in
-            let next : round_trip r.delay * acked (L n) + round_trip r.delay ≤ round_trip r.delay * acked (L (suc n)) =
-            times_next (round_trip r.delay) (acked (L n)) (acked (L (suc n))) more in
-            omega (arith, next, q, g.early)
+              x : (f : Frame) × (frame_at r g.slot role ≡ Some f) × (ns : ℕ) × (nr : ℕ) × (p : Bool)
+                  × (more : Bool) × (info : List ℕ) × (f.content ≡ I ns nr p more info)
+              x = i_parts (frame_at r g.slot role) g.sent
 
-    -- ---- the ways of a slot
+              open_back : (link_at r back (other role)).endpoint.state ≡ Open
+              open_back = opened back (omega (arith, g.start)) (omega (arith, h)) (other role)
 
-    -- it awaits nothing
-    rests : (paid used : ℕ) → Stage n paid used → awaits_answer (M n).endpoint ≡ false → Next n paid used
-    rests paid used s w = record {
-      paid_next = 0;
-      used_next = 0;
-      stage = quiet refl refl later;
-      bound = omega (arith, ap one_if w, settle paid used s ends);
-    }
-      where
-        none : issued (M n) ≡ acked (M n)
-        none = ack_none (M n) (sym (open_awaits (M n).endpoint m_open) ∙ w)
-        later : awaits_ack (L (suc n)).endpoint ≡ false
-        later = no_ack (L (suc n)) (m_issued ∙ none ∙ sym m_acked)
-        ends : (g : Going n) → acked (L (suc n)) ≡ acked (L n) → ⊥
-        ends g stays =
-            let one : aired (L n) ≡ issued (L n) = aired_sent (L n) (issued (L n)) g.is_sent refl in
-            let two : issued (L n) ≡ acked (L n) + 1 =
-            ack_one (L n) g.awaits ((sound r u n).good role).low ((sound r u n).good role).window in
-            omega (arith, one, two, (slotted_in r u n role).moves.aired_up, (counted r u).aired_issued role (suc n), m_issued, none, m_acked, stays)
+              closed_open : (link_at r (suc back) (other role)).endpoint.state ≢ Closed
+              closed_open e = open_closed (sym (opened (suc back) (omega (arith, g.start)) (omega (arith, h)) (other role)) ∙ e)
 
-    -- its frame is due, and it sends it
-    starts : (paid used : ℕ) → Stage n paid used → is_due (M n) ≡ true → is_i_frame (frame_at r n role) ≡ true →
-        (L (suc n)).is_sent ≡ true → (L (suc n)).clock ≡ r.t200 → (b : Bool) → (turn_at r n role).is_lost ≡ b → Next n paid used
-    starts paid used s due i sent c true lost = record {
-      paid_next = r.t200 - 1;
-      used_next = 0;
-      stage = failed (rw c refl) refl;
-      bound = omega (arith, ap one_if (due_clock (M n) due).1, settle paid used s (λ g. not_yet g due), ap one_if (lossy lost),
-        mul-one r.t200, ap (λ k. r.t200 * k) (ap one_if (lossy lost)), long);
-    }
-      where
-        lossy : (turn_at r n role).is_lost ≡ true → is_lossy r n ≡ true
-        lossy e = let x = i_parts (frame_at r n role) i in lossy_by r n role (loss_of (turn_at r n role).is_lost (frame_at r n role) x.0 x.1 e)
-    starts paid used s due i sent c false kept = record {
-      paid_next = 0;
-      used_next = 1;
-      stage = going (record {
-        slot = n;
-        since = 0;
-        start = first;
-        now = omega arith;
-        sent = i;
-        arrives = kept;
-        returns = λ h. absurd (omega (arith, h));
-        same = refl;
-        time = omega (arith, c);
-        early = omega arith;
-        awaits = awaits_same r u role (L (suc n)) (M n) (sym m_acked) (sym m_issued) w;
-        is_sent = sent;
-      }) refl refl;
-      bound = omega (arith, ap one_if (due_clock (M n) due).1, settle paid used s (λ g. not_yet g due));
-    }
-      where
-        w : awaits_ack (M n).endpoint ≡ true
-        w = sym (open_awaits (M n).endpoint m_open) ∙ (due_clock (M n) due).1
+              acked_back : acked (L (suc g.slot)) + 1 ≤ acked (L (suc (suc back + r.delay)))
+              acked_back = acked_in_time r u g.slot role x.0 x.2 x.3 x.4 x.5 x.6 x.1 x.7 g.arrives open_back closed_open
+                  (g.returns (omega (arith, h))) (opened (suc back + r.delay) (omega (arith, g.start)) (omega (arith, h)) role)
 
-    -- its frame is due, and an answer goes first
-    yields : (paid used : ℕ) → Stage n paid used → is_due (M n) ≡ true → is_i_frame (frame_at r n role) ≡ false →
-        (L (suc n)).is_sent ≡ (M n).is_sent → (L (suc n)).clock ≡ (M n).clock → (b : Bool) → (M n).is_sent ≡ b → Next n paid used
-    yields paid used s due i sent c b e = record {
-      paid_next = 0;
-      used_next = 0;
-      stage = stage_of b e;
-      bound = omega (arith, ap one_if (due_clock (M n) due).1, settle paid used s (λ g. not_yet g due), ap one_if answers);
-    }
-      where
-        answers : answers_first r n role ≡ true
-        answers = rw (due, i) refl
-        stage_of : (b : Bool) → (M n).is_sent ≡ b → Stage (suc n) 0 0
-        stage_of true e = failed (omega (arith, c, (due_clock (M n) due).0)) refl
-        stage_of false e = unsent refl refl (sent ∙ e)
+              acked_late : acked (L (suc g.slot)) + 1 ≤ acked (L (suc n))
+              acked_late = rw (← h) acked_back
 
-    -- its frame is not due, and its clock counts
-    module _ (w : awaits_answer (M n).endpoint ≡ true) (due : is_due (M n) ≡ false) (keeps : (L (suc n)).is_sent ≡ (M n).is_sent)
-        (runs : (L (suc n)).clock ≡ (M n).clock)
-      where
-        ticks : 1 ≤ (M n).clock
-        ticks = not_due (M n) due w
+      -- it is not due while it goes on
+      not_yet : (g : Going n) → is_due (M n) ≡ true → acked (L (suc n)) ≡ acked (L n) → ⊥
+      not_yet g due stays = by_sent (M n).is_sent refl
+        where
+          w : awaits_ack (M n).endpoint ≡ true
+          w = sym (open_awaits (M n).endpoint m_open) ∙ (due_clock (M n) due).1
 
-        m_sent : (b : Bool) → (M n).is_sent ≡ b → (M n).is_sent ≡ true
-        m_sent true e = e
-        m_sent false e = absurd (omega (arith, ticks, m_due e))
+          by_sent : (b : Bool) → (M n).is_sent ≡ b → ⊥
+          by_sent true s =
+              let x = waits_at r u role n w s in
+              omega (arith, x.3, (due_clock (M n) due).0, g.time, in_time g stays, long)
+          by_sent false s =
+              let one : aired (L n) ≡ issued (L n) = aired_sent (L n) (issued (L n)) g.is_sent refl in
+              let two : issued (L n) ≡ acked (L n) + 1 =
+              ack_one (L n) g.awaits ((sound r u n).good role).low ((sound r u n).good role).window in
+              omega (arith, one, two, m_moves.aired_up, aired_unsent (M n) s, m_acked, stays)
 
-        m_awaits : awaits_ack (M n).endpoint ≡ true
-        m_awaits = sym (open_awaits (M n).endpoint m_open) ∙ w
+      -- what was used is paid by a segment, unless the sending goes on
+      product : round_trip r.delay * acked (L n) ≤ round_trip r.delay * acked (L (suc n))
+      product = times_le (round_trip r.delay) (acked (L n)) (acked (L (suc n))) up
 
-        x : (awaits_ack (L n).endpoint ≡ true) × ((L n).is_sent ≡ true) × (acked (M n) ≡ acked (L n)) × ((M n).clock ≡ (L n).clock - 1)
-        x = waits_at r u role n m_awaits (m_sent _ refl)
+      settle : (paid used : ℕ) → Stage n paid used → ((g : Going n) → acked (L (suc n)) ≡ acked (L n) → ⊥) →
+          round_trip r.delay * acked (L n) + used ≤ round_trip r.delay * acked (L (suc n))
+      settle paid used (quiet p q w) ends = omega (arith, q, product)
+      settle paid used (unsent p q w) ends = omega (arith, q, product)
+      settle paid used (failed p q) ends = omega (arith, q, product)
+      settle paid used (going g p q) ends = by_acked (nat_eq (acked (L (suc n))) (acked (L n))) refl
+        where
+          by_acked : (b : Bool) → nat_eq (acked (L (suc n))) (acked (L n)) ≡ b →
+              round_trip r.delay * acked (L n) + used ≤ round_trip r.delay * acked (L (suc n))
+          by_acked true e = absurd (ends g (eq_of (acked (L (suc n))) (acked (L n)) e))
+          by_acked false e =
+              let more : acked (L n) + 1 ≤ acked (L (suc n)) = above (acked (L (suc n))) (acked (L n)) up e in
+              let next : round_trip r.delay * acked (L n) + round_trip r.delay ≤ round_trip r.delay * acked (L (suc n)) =
+              times_next (round_trip r.delay) (acked (L n)) (acked (L (suc n))) more in
+              omega (arith, next, q, g.early)
 
-        stays : acked (L (suc n)) ≡ acked (L n)
-        stays = m_acked ∙ x.2
+      -- ---- a repetition
 
-        goes_on : (g : Going n) →
-            (suc (suc g.slot + r.delay) ≤ suc n → (turn_at r (suc g.slot + r.delay) (other role)).is_lost ≡ false) →
-            (h : Going (suc n)) × (h.since ≡ g.since + 1)
-        goes_on g returns = (record {
-          slot = g.slot;
-          since = g.since + 1;
-          start = g.start;
-          now = omega (arith, g.now);
-          sent = g.sent;
-          arrives = g.arrives;
-          returns = returns;
-          same = g.same ∙ sym stays;
-          time = omega (arith, g.time, runs, ticks, x.3);
-          early = omega (arith, in_time g stays);
-          awaits = awaits_same r u role (L (suc n)) (M n) (sym m_acked) (sym m_issued) m_awaits;
-          is_sent = keeps ∙ m_sent _ refl;
-        }, refl)
+      no_repetition : (is_repetition (frame_at r n role) ≡ true → ⊥) → one_if (is_repetition (frame_at r n role)) ≡ 0
+      no_repetition ends = by_frame (is_repetition (frame_at r n role)) refl
+        where
+          by_frame : (b : Bool) → is_repetition (frame_at r n role) ≡ b → one_if (is_repetition (frame_at r n role)) ≡ 0
+          by_frame true e = absurd (ends e)
+          by_frame false e = ap one_if e
 
-        goes : (paid used : ℕ) (g : Going n) → used ≡ g.since + 1 → (h : Going (suc n)) × (h.since ≡ g.since + 1) → Next n paid used
-        goes paid used g q (h, e) = record {
-          paid_next = 0;
-          used_next = h.since + 1;
-          stage = going h refl refl;
-          bound = omega (arith, ap one_if w, product, q, e);
-        }
+      -- the link that repeats its I frame had sent it, and its clock is over
+      repeating : is_repetition (frame_at r n role) ≡ true →
+          ((M n).is_sent ≡ true) × ((M n).clock ≡ 0) × (awaits_answer (M n).endpoint ≡ true)
+      repeating h = let x = repeats (M n) (owes_ready r u role n) h in (x.0, x.2, open_awaits (M n).endpoint m_open ∙ x.3)
 
-        back_lost : (paid used : ℕ) (g : Going n) → paid ≡ 0 → used ≡ g.since + 1 → suc g.slot + r.delay ≡ n →
-            is_lossy r n ≡ true → Next n paid used
-        back_lost paid used g p q at_n lossy = record {
-          paid_next = (L (suc n)).clock - 1;
-          used_next = 0;
-          stage = failed refl refl;
-          bound = omega (arith, ap one_if w, product, q, g.time, g.now, at_n, runs, ticks, x.3, ap (λ k. r.t200 * one_if k) lossy,
-            mul-one r.t200);
-        }
+      -- the sending before it was lost
+      was_failed : (paid used : ℕ) (s : Stage n paid used) → is_due (M n) ≡ true → (M n).is_sent ≡ true → pending s ≡ 1
+      was_failed paid used s due sent = by_stage s
+        where
+          x : (awaits_ack (L n).endpoint ≡ true) × ((L n).is_sent ≡ true) × (acked (M n) ≡ acked (L n))
+              × ((M n).clock ≡ (L n).clock - 1)
+          x = waits_at r u role n (sym (open_awaits (M n).endpoint m_open) ∙ (due_clock (M n) due).1) sent
 
-        loss_there : (g : Going n) → suc g.slot + r.delay ≡ n → (turn_at r (suc g.slot + r.delay) (other role)).is_lost ≡ true →
-            is_lossy r n ≡ true
-        loss_there g at_n lost =
-            let f = i_parts (frame_at r g.slot role) g.sent in
-            let answer = answered_frame r u g.slot role f.0 f.2 f.3 f.4 f.5 f.6 f.1 f.7 g.arrives
-            (opened (suc g.slot + r.delay) (omega (arith, g.start)) (omega (arith, at_n)) (other role))
-            (λ e. open_closed (sym (opened (suc (suc g.slot + r.delay)) (omega (arith, g.start)) (omega (arith, at_n)) (other role)) ∙ e)) in
-            rw at_n at (lossy_by r (suc g.slot + r.delay) (other role)
-            (loss_of (turn_at r (suc g.slot + r.delay) (other role)).is_lost (frame_at r (suc g.slot + r.delay) (other role)) answer.0
-            answer.1 lost))
+          by_stage : (s : Stage n paid used) → pending s ≡ 1
+          by_stage (quiet p q a) = absurd (true-false (sym x.0 ∙ a))
+          by_stage (unsent p q a) = absurd (true-false (sym x.1 ∙ a))
+          by_stage (failed p q) = refl
+          by_stage (going g p q) = absurd (not_yet g due (m_acked ∙ x.2))
 
-        going_on : (paid used : ℕ) (g : Going n) → paid ≡ 0 → used ≡ g.since + 1 → (b : Bool) → nat_eq (suc g.slot + r.delay) n ≡ b →
-            (c : Bool) → (turn_at r (suc g.slot + r.delay) (other role)).is_lost ≡ c → Next n paid used
-        going_on paid used g p q true e true lost =
-            let at_n : suc g.slot + r.delay ≡ n = eq_of (suc g.slot + r.delay) n e in
-            back_lost paid used g p q at_n (loss_there g at_n lost)
-        going_on paid used g p q b e false kept =
-            goes paid used g q (goes_on g (λ late. kept))
-        going_on paid used g p q false e true lost =
-            goes paid used g q (goes_on g (λ late. g.returns (apart (suc g.slot + r.delay) n late e)))
+      repeats_failed : (paid used : ℕ) (s : Stage n paid used) → is_due (M n) ≡ true →
+          one_if (is_repetition (frame_at r n role)) ≤ pending s
+      repeats_failed paid used s due = by_frame (is_repetition (frame_at r n role)) refl
+        where
+          by_frame : (b : Bool) → is_repetition (frame_at r n role) ≡ b → one_if (is_repetition (frame_at r n role)) ≤ pending s
+          by_frame true e = omega (arith, ap one_if e, was_failed paid used s due (repeating e).0)
+          by_frame false e = omega (arith, ap one_if e)
 
-        ticking : (paid used : ℕ) → Stage n paid used → Next n paid used
-        ticking paid used (quiet p q a) = absurd (true-false (sym x.0 ∙ a))
-        ticking paid used (unsent p q s) = absurd (true-false (sym x.1 ∙ s))
-        ticking paid used (failed p q) = record {
-          paid_next = (L (suc n)).clock - 1;
-          used_next = 0;
-          stage = failed refl refl;
-          bound = omega (arith, ap one_if w, product, p, q, runs, ticks, x.3);
-        }
-        ticking paid used (going g p q) = going_on paid used g p q _ refl _ refl
+      -- ---- the ways of a slot
 
-    -- the slot
-    next : (paid used : ℕ) → Stage n paid used → Next n paid used
-    next paid used s = by_awaits (awaits_answer (M n).endpoint) refl
-      where
-        by_way : awaits_answer (M n).endpoint ≡ true → SlotWay (M n) → Next n paid used
-        by_way w (sends d i t c) = starts paid used s d i (ap (λ l. l.is_sent) (link_step r n role) ∙ t)
-            (ap (λ l. l.clock) (link_step r n role) ∙ c ∙ m_t200) (turn_at r n role).is_lost refl
-        by_way w (blocked d f t c) =
-            yields paid used s d (ap is_i_frame f ∙ answer_no_i (M n) (M n).answer (owes_ready r u role n))
-            (ap (λ l. l.is_sent) (link_step r n role) ∙ t) (ap (λ l. l.clock) (link_step r n role) ∙ c) (M n).is_sent refl
-        by_way w (counts d t c) = ticking w d (ap (λ l. l.is_sent) (link_step r n role) ∙ t)
-            (ap (λ l. l.clock) (link_step r n role) ∙ c) paid used s
-        by_awaits : (b : Bool) → awaits_answer (M n).endpoint ≡ b → Next n paid used
-        by_awaits true w = by_way w (slot_way (M n) m_open out_open)
-        by_awaits false w = rests paid used s w
+      -- it awaits nothing
+      rests : (paid used : ℕ) (s : Stage n paid used) → awaits_answer (M n).endpoint ≡ false → Next n paid used (pending s)
+      rests paid used s w = record {
+        paid_next = 0;
+        used_next = 0;
+        stage = quiet refl refl later;
+        bound = omega (arith, ap one_if w, settle paid used s ends);
+        repays = omega (arith, no_repetition (λ h. true-false (sym (repeating h).2 ∙ w)));
+      }
+        where
+          none : issued (M n) ≡ acked (M n)
+          none = ack_none (M n) (sym (open_awaits (M n).endpoint m_open) ∙ w)
+
+          later : awaits_ack (L (suc n)).endpoint ≡ false
+          later = no_ack (L (suc n)) (m_issued ∙ none ∙ sym m_acked)
+
+          ends : (g : Going n) → acked (L (suc n)) ≡ acked (L n) → ⊥
+          ends g stays =
+              let one : aired (L n) ≡ issued (L n) = aired_sent (L n) (issued (L n)) g.is_sent refl in
+              let two : issued (L n) ≡ acked (L n) + 1 =
+              ack_one (L n) g.awaits ((sound r u n).good role).low ((sound r u n).good role).window in
+              omega (
+                arith,
+                one,
+                two,
+                (slotted_in r u n role).moves.aired_up,
+                (counted r u).aired_issued role (suc n),
+                m_issued,
+                none,
+                m_acked,
+                stays,
+              )
+
+      -- its frame is due, and it sends it
+      starts : (paid used : ℕ) (s : Stage n paid used) → is_due (M n) ≡ true → is_i_frame (frame_at r n role) ≡ true →
+          (L (suc n)).is_sent ≡ true → (L (suc n)).clock ≡ r.t200 → (b : Bool) → (turn_at r n role).is_lost ≡ b →
+          Next n paid used (pending s)
+      starts paid used s due i sent c true lost = record {
+        paid_next = r.t200 - 1;
+        used_next = 0;
+        stage = failed (rw c refl) refl;
+        bound = omega (
+          arith,
+          ap one_if (due_clock (M n) due).1,
+          settle paid used s (λ g. not_yet g due),
+          ap one_if (lossy lost),
+          mul-one r.t200,
+          ap (λ k. r.t200 * k) (ap one_if (lossy lost)),
+          long,
+        );
+        repays = omega (arith, repeats_failed paid used s due, ap one_if (lossy lost));
+      }
+        where
+          lossy : (turn_at r n role).is_lost ≡ true → is_lossy r n ≡ true
+          lossy e =
+              let x = i_parts (frame_at r n role) i in
+              lossy_by r n role (loss_of (turn_at r n role).is_lost (frame_at r n role) x.0 x.1 e)
+      starts paid used s due i sent c false kept = record {
+        paid_next = 0;
+        used_next = 1;
+        stage = going (record {
+          slot = n;
+          since = 0;
+          start = first;
+          now = omega arith;
+          sent = i;
+          arrives = kept;
+          returns = λ h. absurd (omega (arith, h));
+          same = refl;
+          time = omega (arith, c);
+          early = omega arith;
+          awaits = awaits_same r u role (L (suc n)) (M n) (sym m_acked) (sym m_issued) w;
+          is_sent = sent;
+        }) refl refl;
+        bound = omega (arith, ap one_if (due_clock (M n) due).1, settle paid used s (λ g. not_yet g due));
+        repays = omega (arith, repeats_failed paid used s due);
+      }
+        where
+          w : awaits_ack (M n).endpoint ≡ true
+          w = sym (open_awaits (M n).endpoint m_open) ∙ (due_clock (M n) due).1
+
+      answers_it : is_due (M n) ≡ true → is_i_frame (frame_at r n role) ≡ false → answers_first r n role ≡ true
+      answers_it due i = rw (due, i) refl
+
+      no_poll : is_i_frame (frame_at r n role) ≡ false → is_repetition (frame_at r n role) ≡ true → ⊥
+      no_poll i h = true-false (sym (poll_is_i (frame_at r n role) h) ∙ i)
+
+      -- its frame is due, and an answer goes first
+      yields : (paid used : ℕ) (s : Stage n paid used) → is_due (M n) ≡ true → is_i_frame (frame_at r n role) ≡ false →
+          (L (suc n)).is_sent ≡ (M n).is_sent → (L (suc n)).clock ≡ (M n).clock → (b : Bool) → (M n).is_sent ≡ b →
+          Next n paid used (pending s)
+      yields paid used s due i sent c true e = record {
+        paid_next = 0;
+        used_next = 0;
+        stage = failed (omega (arith, c, (due_clock (M n) due).0)) refl;
+        bound = omega (arith, ap one_if (due_clock (M n) due).1, settle paid used s (λ g. not_yet g due), ap one_if (answers_it due i));
+        repays = omega (arith, no_repetition (no_poll i), was_failed paid used s due e);
+      }
+      yields paid used s due i sent c false e = record {
+        paid_next = 0;
+        used_next = 0;
+        stage = unsent refl refl (sent ∙ e);
+        bound = omega (arith, ap one_if (due_clock (M n) due).1, settle paid used s (λ g. not_yet g due), ap one_if (answers_it due i));
+        repays = omega (arith, no_repetition (no_poll i));
+      }
+
+      -- its frame is not due, and its clock counts
+      module _ (w : awaits_answer (M n).endpoint ≡ true) (due : is_due (M n) ≡ false) (keeps : (L (suc n)).is_sent ≡ (M n).is_sent)
+          (runs : (L (suc n)).clock ≡ (M n).clock)
+        where
+          ticks : 1 ≤ (M n).clock
+          ticks = not_due (M n) due w
+
+          m_sent : (b : Bool) → (M n).is_sent ≡ b → (M n).is_sent ≡ true
+          m_sent true e = e
+          m_sent false e = absurd (omega (arith, ticks, m_due e))
+
+          m_awaits : awaits_ack (M n).endpoint ≡ true
+          m_awaits = sym (open_awaits (M n).endpoint m_open) ∙ w
+
+          x : (awaits_ack (L n).endpoint ≡ true) × ((L n).is_sent ≡ true) × (acked (M n) ≡ acked (L n))
+              × ((M n).clock ≡ (L n).clock - 1)
+          x = waits_at r u role n m_awaits (m_sent _ refl)
+
+          stays : acked (L (suc n)) ≡ acked (L n)
+          stays = m_acked ∙ x.2
+
+          goes_on : (g : Going n) →
+              (suc (suc g.slot + r.delay) ≤ suc n → (turn_at r (suc g.slot + r.delay) (other role)).is_lost ≡ false) →
+              (h : Going (suc n)) × (h.since ≡ g.since + 1)
+          goes_on g returns = (
+            record {
+              slot = g.slot;
+              since = g.since + 1;
+              start = g.start;
+              now = omega (arith, g.now);
+              sent = g.sent;
+              arrives = g.arrives;
+              returns = returns;
+              same = g.same ∙ sym stays;
+              time = omega (arith, g.time, runs, ticks, x.3);
+              early = omega (arith, in_time g stays);
+              awaits = awaits_same r u role (L (suc n)) (M n) (sym m_acked) (sym m_issued) m_awaits;
+              is_sent = keeps ∙ m_sent _ refl;
+            },
+            refl,
+          )
+
+          silent : one_if (is_repetition (frame_at r n role)) ≡ 0
+          silent = no_repetition (λ h. absurd (omega (arith, ticks, (repeating h).1)))
+
+          goes : (paid used left : ℕ) (g : Going n) → used ≡ g.since + 1 → (h : Going (suc n)) × (h.since ≡ g.since + 1) →
+              Next n paid used left
+          goes paid used left g q (h, e) = record {
+            paid_next = 0;
+            used_next = h.since + 1;
+            stage = going h refl refl;
+            bound = omega (arith, ap one_if w, product, q, e);
+            repays = omega (arith, silent);
+          }
+
+          back_lost : (paid used left : ℕ) (g : Going n) → paid ≡ 0 → used ≡ g.since + 1 → suc g.slot + r.delay ≡ n →
+              is_lossy r n ≡ true → Next n paid used left
+          back_lost paid used left g p q at_n lossy = record {
+            paid_next = (L (suc n)).clock - 1;
+            used_next = 0;
+            stage = failed refl refl;
+            bound = omega (
+              arith,
+              ap one_if w,
+              product,
+              q,
+              g.time,
+              g.now,
+              at_n,
+              runs,
+              ticks,
+              x.3,
+              ap (λ k. r.t200 * one_if k) lossy,
+              mul-one r.t200,
+            );
+            repays = omega (arith, silent, ap one_if lossy);
+          }
+
+          loss_there : (g : Going n) → suc g.slot + r.delay ≡ n → (turn_at r (suc g.slot + r.delay) (other role)).is_lost ≡ true →
+              is_lossy r n ≡ true
+          loss_there g at_n lost =
+              let f = i_parts (frame_at r g.slot role) g.sent in
+              let answer = answered_frame r u g.slot role f.0 f.2 f.3 f.4 f.5 f.6 f.1 f.7 g.arrives
+              (opened (suc g.slot + r.delay) (omega (arith, g.start)) (omega (arith, at_n)) (other role))
+              (λ e. open_closed (sym (opened (suc (suc g.slot + r.delay)) (omega (arith, g.start)) (omega (arith, at_n))
+              (other role)) ∙ e)) in
+              rw at_n at (lossy_by r (suc g.slot + r.delay) (other role)
+              (loss_of (turn_at r (suc g.slot + r.delay) (other role)).is_lost (frame_at r (suc g.slot + r.delay) (other role)) answer.0
+              answer.1 lost))
+
+          going_on : (paid used left : ℕ) (g : Going n) → paid ≡ 0 → used ≡ g.since + 1 → (b : Bool) →
+              nat_eq (suc g.slot + r.delay) n ≡ b →
+              (c : Bool) → (turn_at r (suc g.slot + r.delay) (other role)).is_lost ≡ c → Next n paid used left
+          going_on paid used left g p q true e true lost =
+              let at_n : suc g.slot + r.delay ≡ n = eq_of (suc g.slot + r.delay) n e in
+              back_lost paid used left g p q at_n (loss_there g at_n lost)
+          going_on paid used left g p q b e false kept =
+              goes paid used left g q (goes_on g (λ late. kept))
+          going_on paid used left g p q false e true lost =
+              goes paid used left g q (goes_on g (λ late. g.returns (apart (suc g.slot + r.delay) n late e)))
+
+          ticking : (paid used : ℕ) (s : Stage n paid used) → Next n paid used (pending s)
+          ticking paid used (quiet p q a) = absurd (true-false (sym x.0 ∙ a))
+          ticking paid used (unsent p q s) = absurd (true-false (sym x.1 ∙ s))
+          ticking paid used (failed p q) = record {
+            paid_next = (L (suc n)).clock - 1;
+            used_next = 0;
+            stage = failed refl refl;
+            bound = omega (arith, ap one_if w, product, p, q, runs, ticks, x.3);
+            repays = omega (arith, silent);
+          }
+          ticking paid used (going g p q) = going_on paid used 0 g p q _ refl _ refl
+
+      -- the slot
+      next : (paid used : ℕ) (s : Stage n paid used) → Next n paid used (pending s)
+      next paid used s = by_awaits (awaits_answer (M n).endpoint) refl
+        where
+          by_way : awaits_answer (M n).endpoint ≡ true → SlotWay (M n) → Next n paid used (pending s)
+          by_way w (sends d i t c) = starts paid used s d i (ap (λ l. l.is_sent) (link_step r n role) ∙ t)
+              (ap (λ l. l.clock) (link_step r n role) ∙ c ∙ m_t200) (turn_at r n role).is_lost refl
+          by_way w (blocked x a k d f t c) =
+              yields paid used s d (ap is_i_frame f ∙ answer_no_i (M n) (M n).answer (owes_ready r u role n))
+              (ap (λ l. l.is_sent) (link_step r n role) ∙ t) (ap (λ l. l.clock) (link_step r n role) ∙ c) (M n).is_sent refl
+          by_way w (counts d t c) = ticking w d (ap (λ l. l.is_sent) (link_step r n role) ∙ t)
+              (ap (λ l. l.clock) (link_step r n role) ∙ c) paid used s
+
+          by_awaits : (b : Bool) → awaits_answer (M n).endpoint ≡ b → Next n paid used (pending s)
+          by_awaits true w = by_way w (slot_way (M n) m_open out_open)
+          by_awaits false w = rests paid used s w
 
   -- ---- all slots
 
@@ -410,6 +540,7 @@ module _ (r : Run) (u : IsWithoutRelease r) (long : round_trip r.delay ≤ r.t20
     pub stage : Stage m paid used
     pub bound : waiting_slots r n0 k role + paid + round_trip r.delay * acked (L n0)
         ≤ round_trip r.delay * acked (L m) + r.t200 * (lossy_slots r n0 k + 1) + answering_slots r n0 k role + used
+    pub repays : expiries r n0 k role + pending stage ≤ lossy_slots r n0 k + 1
 
   at_start : Total 0 n0
   at_start = record {
@@ -417,14 +548,16 @@ module _ (r : Run) (u : IsWithoutRelease r) (long : round_trip r.delay ≤ r.t20
     used = 0;
     stage = failed refl refl;
     bound = omega (arith, clock_within r u role n0, mul-one r.t200);
+    repays = omega arith;
   }
 
-  one_more : (k : ℕ) (t : Total k (n0 + k)) → Next (n0 + k) t.paid t.used → Total (suc k) (suc (n0 + k))
+  one_more : (k : ℕ) (t : Total k (n0 + k)) → Next (n0 + k) t.paid t.used (pending t.stage) → Total (suc k) (suc (n0 + k))
   one_more k t x = record {
     paid = x.paid_next;
     used = x.used_next;
     stage = x.stage;
     bound = omega (arith, t.bound, x.bound, cost r.t200 (lossy_slots r n0 k) (one_if (is_lossy r (n0 + k))));
+    repays = omega (arith, t.repays, x.repays);
   }
 
   total : (k : ℕ) → AreOpen r n0 k → Total k (n0 + k)
@@ -455,5 +588,5 @@ module _ (r : Run) (u : IsWithoutRelease r) (long : round_trip r.delay ≤ r.t20
         mul-one (round_trip r.delay),
       )
 
-pub progresses : (r : Run) → Progresses r
-progresses r u long n k o role = waits_at_most r u long n role k o
+  pub repeats_at_most : (k : ℕ) → AreOpen r n0 k → expiries r n0 k role ≤ lossy_slots r n0 k + 1
+  repeats_at_most k o = omega (arith, (total k o).repays)

@@ -1,9 +1,7 @@
 -- A link of SAPI 0 whose I frame was sent and is not acknowledged: what of that stays from one slot to the next.
 use Rattle.{
-  std.{
-    specs.Prelude.{◌≡◌, ℕ, ◌+◌, ◌-◌, ◌≤◌, Bool, true, false, ◌⊎◌, nat_eq, List, [], ◌∷◌, Option, Some, None, All},
-    proofs.{Common.{inl, inr, arith, refl, ap, sym, ◌∙◌}, lemmas.List.Elements.{All-head, All-tail}},
-  },
+  std.specs.Prelude.{◌≡◌, ℕ, ◌+◌, ◌-◌, ◌≤◌, Bool, true, false, ◌⊎◌, nat_eq, List, [], ◌∷◌, Option, Some},
+  std.{specs.Prelude.{None, All}, proofs.{Common.{inl, inr, arith, refl, ap, sym, ◌∙◌}, lemmas.List.Elements.{All-head, All-tail}}},
   lapdm_frame.specs.Content.Frame,
   lapdm_end.specs.lapdm_window.{
     declared.{Sapi.TheVariants.Zero, State.TheVariants.Open, Refused.Refused},
@@ -187,7 +185,8 @@ module _ (l : LinkState) (o : l.endpoint.state ≡ Open) (after : (slot_outcome 
 pub data SlotWay (m : LinkState) : Type 0 where
   sends : is_due m ≡ true → is_i_frame (slot_outcome m).frame ≡ true → (slot_outcome m).link.is_sent ≡ true →
       (slot_outcome m).link.clock ≡ m.t200 → SlotWay m
-  blocked : is_due m ≡ true → (slot_outcome m).frame ≡ m.answer → (slot_outcome m).link.is_sent ≡ m.is_sent →
+  blocked : (f : Frame) → m.answer ≡ Some f → keeps_back f m ≡ false → is_due m ≡ true →
+      (slot_outcome m).frame ≡ m.answer → (slot_outcome m).link.is_sent ≡ m.is_sent →
       (slot_outcome m).link.clock ≡ m.clock → SlotWay m
   counts : is_due m ≡ false → (slot_outcome m).link.is_sent ≡ m.is_sent → (slot_outcome m).link.clock ≡ m.clock → SlotWay m
 
@@ -200,7 +199,7 @@ module _ (l : LinkState) (o : l.endpoint.state ≡ Open) (open_ : (slot_outcome 
       sends e (grind (arith, n, e, g, o, open_)) (grind (arith, n, e, g)) (grind (arith, n, e, g))
   way (Some f) n false e c g false kept = counts e (grind (arith, n, kept f refl)) (grind (arith, n, kept f refl))
   way (Some f) n true e c g false kept =
-      blocked e (grind (arith, n, kept f refl)) (grind (arith, n, kept f refl)) (grind (arith, n, kept f refl))
+      blocked f n (kept f refl) e (grind (arith, n, kept f refl)) (grind (arith, n, kept f refl)) (grind (arith, n, kept f refl))
   way (Some f) n false e c g true kept = counts e (grind (arith, n, kept f refl, e)) (grind (arith, n, kept f refl, e))
   way (Some f) n true e false g true kept =
       sends e (grind (arith, n, kept f refl, e, g, o)) (grind (arith, n, kept f refl, e, g)) (grind (arith, n, kept f refl, e, g))

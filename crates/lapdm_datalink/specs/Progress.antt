@@ -1,13 +1,13 @@
 -- Progress: how long a link of SAPI 0 waits for answers, and what each expiry of T200 costs the channel. These are this project's own
 -- statements; the standard has none.
-use Rattle.std.specs.Prelude.{◌≡◌, ◌≢◌, ℕ, zero, suc, ◌+◌, ◌*◌, ◌≤◌, Bool, true, false, not, ◌&&◌, ◌||◌, ◌⊎◌}
+use Rattle.std.specs.Prelude.{◌≡◌, ◌≢◌, ℕ, zero, suc, ◌+◌, ◌*◌, ◌≤◌, Bool, true, false, ◌||◌, ◌⊎◌}
 use Rattle.std.specs.Prelude.{List, Option, Some, None, All}
 use Rattle.lapdm_frame.specs.Content.{Content, I, Frame}
 use Rattle.lapdm_end.specs.lapdm_window.declared.State.TheVariants.{Open}
 use Rattle.lapdm_end.specs.lapdm_window.Ends.{Role, Mobile, Network, awaits_answer}
 use Rattle.lapdm_link.specs.Events.{other}
 use Rattle.lapdm_end.specs.lapdm_window.Rules.{is_open}
-use Rattle.lapdm_datalink.specs.Links.{LinkState, is_closed, is_due, slot_outcome, after_slot, after_frame}
+use Rattle.lapdm_datalink.specs.Links.{LinkState, is_closed, slot_outcome, after_slot, after_frame}
 use Rattle.lapdm_datalink.specs.DataLinks.{DataLinkState, data_link_outcome, after_arrival}
 use Rattle.lapdm_datalink.specs.Channels.{Run, Slot, Turn, channel_at, side_at, turn_of, before_sending, arriving, IsUse}
 
@@ -103,13 +103,10 @@ PaysForExpiries r =
 
 -- ---- how long a link waits
 
--- B: in how many of these slots this link sends an answer though the frame that awaits an answer is due
-abbrev pub answers_first : (run : Run) (slot : ℕ) (role : Role) → Bool
-answers_first r n role = is_due (ready_at r n role) && not (is_i_frame (frame_at r n role))
-
-abbrev pub answering_slots : (run : Run) (first slots : ℕ) (role : Role) → ℕ
-answering_slots r n zero role = 0
-answering_slots r n (suc k) role = answering_slots r n k role + one_if (answers_first r (n + k) role)
+-- in how many of these slots this link repeats its I frame, because T200 has expired
+abbrev pub expiries : (run : Run) (first slots : ℕ) (role : Role) → ℕ
+expiries r n zero role = 0
+expiries r n (suc k) role = expiries r n k role + one_if (is_repetition (frame_at r (n + k) role))
 
 -- both links are open before each of these slots and after the last
 abbrev pub AreOpen : (run : Run) (first slots : ℕ) → Type 0
@@ -119,13 +116,17 @@ AreOpen r n k = (j : ℕ) → j ≤ k → (role : Role) → (link_at r (n + j) r
 abbrev pub acked_at : (run : Run) (slot : ℕ) (role : Role) → ℕ
 acked_at r n role = (link_at r n role).endpoint.acked_segments
 
--- Progress. Whatever is lost while both links are open: a link waits at most one round trip for each of its segments that is acknowledged
--- and for one that is not, T200 for each slot with a loss and for what was lost before, and one slot for each answer that goes first.
+-- Progress. While both links are open, whatever is lost, a link waits at most one round trip for each of its segments that is acknowledged
+-- and for one more, T200 and one slot for each slot with a loss and for what was lost before, and one delay and one slot more. T200 expires
+-- at most once for each slot with a loss, and once more.
+pub record Progress (r : Run) (n k : ℕ) (role : Role) : Type 0 where
+  pub waits : waiting_slots r n k role + round_trip r.delay * acked_at r n role
+      ≤ round_trip r.delay * (acked_at r (n + k) role + 1) + (r.t200 + 1) * (lossy_slots r n k + 1) + (r.delay + 1)
+  pub expires : expiries r n k role ≤ lossy_slots r n k + 1
+
 abbrev pub Progresses : Run → Type 0
 Progresses r =
-    IsWithoutRelease r → round_trip r.delay ≤ r.t200 → (n k : ℕ) → AreOpen r n k → (role : Role) →
-    waiting_slots r n k role + round_trip r.delay * acked_at r n role
-    ≤ round_trip r.delay * (acked_at r (n + k) role + 1) + r.t200 * (lossy_slots r n k + 1) + answering_slots r n k role
+    IsWithoutRelease r → round_trip r.delay ≤ r.t200 → (n k : ℕ) → AreOpen r n k → (role : Role) → Progress r n k role
 
 -- The link of SAPI 0 of a data link does what it would do alone: in a slot, and when a frame arrives. If it sends a frame, the data link
 -- does.

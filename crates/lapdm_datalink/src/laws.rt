@@ -41,9 +41,8 @@ pub fn law_sapi_0_goes_first()
     ensures { (s : DataLinkState) → GoesFirst s }
 {}
 
-/// Law: while both links of SAPI 0 are open, each waits at most a round trip for each of its segments, T200 for each slot with a loss, and
-/// one slot for each answer that goes first. The premises are those of `law_data_links_pay_for_expiries`.
-#[tactic(auto, using(crate::proofs::ProgressWaiting::progresses))]
+/// Law: while both links of SAPI 0 are open, each waits at most a round trip for each of its segments, and T200 and one slot for each slot
+/// with a loss. The premises are those of `law_data_links_pay_for_expiries`.
 pub fn law_data_links_progress()
     ensures { (r : Run) → Progresses r }
 {}
