@@ -4,7 +4,7 @@ with 64, each with and without four erasures (E).
 
 usage: wrong_accepts.py light.json SAMPLES SIGMA..
 
-light.json comes from light_codewords.py."""
+light.json comes from light_codewords.py. With JAM=1 in the environment one burst of each block is random bits."""
 import json, math, os, sys
 import numpy as np
 import um
@@ -12,6 +12,7 @@ import um
 light = json.load(open(sys.argv[1]))
 N = int(sys.argv[2])
 BIAS = float(os.environ.get("BIAS", 0.5))                # 0: around the block sent, 1: around the other one
+JAM = os.environ.get("JAM") == "1"
 rng = np.random.default_rng(11)
 coded = np.zeros((4, 148), bool)
 coded[:, 3:60] = coded[:, 88:145] = True
@@ -21,6 +22,16 @@ for w, places in light: kinds.setdefault(w, []).append(places)
 
 def sent(data):
     return 1 - 2.0 * um.send_blocks(np.packbits(data, axis=1, bitorder="little"), 0)
+
+
+def heard(mean, sigma):
+    """Blocks with noise around these values, and which bursts have it; the others are random bits."""
+    x = mean + sigma * rng.standard_normal(mean.shape)
+    clear = np.ones(mean.shape, bool)
+    if JAM:
+        clear[np.arange(len(x)), rng.integers(0, 4, len(x))] = False
+        x = np.where(clear, x, 1 - 2.0 * rng.integers(0, 2, x.shape))
+    return x, clear
 
 
 def received(soft):
@@ -41,7 +52,7 @@ def received(soft):
 
 for sigma in map(float, sys.argv[3:]):
     o = rng.integers(0, 2, (20000, 184), dtype=np.uint8)
-    q = np.clip(np.rint(32 * (sent(o) + sigma * rng.standard_normal((20000, 4, 148)))), -127, 127).astype(np.int8)
+    q = np.clip(np.rint(32 * heard(sent(o), sigma)[0]), -127, 127).astype(np.int8)
     lost = {name: 1 - accepted.mean() for name, (_, accepted) in received(q).items()}
     total, spread = dict.fromkeys(lost, 0.0), dict.fromkeys(lost, 0.0)
     for w in map(int, os.environ.get("WEIGHTS", "26 30 32 34 36").split()):
@@ -57,8 +68,8 @@ for sigma in map(float, sys.argv[3:]):
             d = (a != b) & coded
             assert (d.sum(axis=(1, 2)) == w).all()
             mean = np.where(d, (1 - 2 * BIAS) * a, a)
-            x = mean + sigma * rng.standard_normal((n, 4, 148))
-            ll = np.where(d, -(x - a) ** 2 + (x - mean) ** 2, 0).sum(axis=(1, 2)) / (2 * sigma ** 2)
+            x, clear = heard(mean, sigma)
+            ll = np.where(d & clear, -(x - a) ** 2 + (x - mean) ** 2, 0).sum(axis=(1, 2)) / (2 * sigma ** 2)
             q = np.clip(np.rint(32 * x), -127, 127).astype(np.int8)
             other = np.packbits(o2, axis=1, bitorder="little")
             for name, (octets, accepted) in received(q).items():
