@@ -33,7 +33,7 @@ carries_first : (m : LinkState) → m.endpoint.state ≡ Open → m.answer ≡ N
     Carries m
 carries_first m h g k i = grind arith
 
-carries : (m : LinkState) → m.endpoint.state ≡ Open → Says m → Carries m
+pub carries : (m : LinkState) → m.endpoint.state ≡ Open → Says m → Carries m
 carries m h (inl (f, a, b)) = carries_answer m f h a b
 carries m h (inr (a, b, c)) = carries_first m h a b c
 
@@ -41,12 +41,12 @@ due_after_slot : (m : LinkState) → is_due m ≡ true → is_due (after_slot m)
 due_after_slot m h = grind arith
 
 -- a slot that passes changes nothing of this
-says_after_slot : (m : LinkState) → Says m → Says (after_slot m)
+pub says_after_slot : (m : LinkState) → Says m → Says (after_slot m)
 says_after_slot m (inl x) = inl x
 says_after_slot m (inr (a, b, c)) = inr (a, due_after_slot m b, c)
 
 module _ (l : LinkState) (h : l.endpoint.state ≡ Open) (g : l.answer ≡ None) where
-  stays_open : (ns nr : ℕ) (p : Bool) (segment : Segment) → (took ns nr p segment l).endpoint.state ≡ Open
+  pub stays_open : (ns nr : ℕ) (p : Bool) (segment : Segment) → (took ns nr p segment l).endpoint.state ≡ Open
   stays_open ns nr p segment = grind arith
 
   says_accepted_poll : (ns nr : ℕ) (segment : Segment) → nat_eq ns (vr l.endpoint) ≡ true → Says (took ns nr true segment l)
@@ -58,7 +58,8 @@ module _ (l : LinkState) (h : l.endpoint.state ≡ Open) (g : l.answer ≡ None)
   says_rejected : (ns nr : ℕ) (segment : Segment) → nat_eq ns (vr l.endpoint) ≡ false → Says (took ns nr true segment l)
   says_rejected ns nr segment k = grind arith
 
-  says_took : (ns nr : ℕ) (p : Bool) (segment : Segment) → (nat_eq ns (vr l.endpoint) || p) ≡ true → Says (took ns nr p segment l)
+  pub says_took : (ns nr : ℕ) (p : Bool) (segment : Segment) → (nat_eq ns (vr l.endpoint) || p) ≡ true →
+      Says (took ns nr p segment l)
   says_took ns nr true segment k = by_match (nat_eq ns (vr l.endpoint)) refl
     where
       by_match : (b : Bool) → nat_eq ns (vr l.endpoint) ≡ b → Says (took ns nr true segment l)

@@ -1,6 +1,19 @@
 pub mod Lemmas
 mod Answering
 mod Returned
+pub mod ProgressSteps
+pub mod Worked
+pub mod ProgressCounts
+pub mod ProgressLink
+pub mod ProgressAnswers
+pub mod ProgressStart
+pub mod ProgressWaits
+pub mod ProgressRuns
+pub mod ProgressPaid
+pub mod ProgressExpiries
+pub mod ProgressWaiting
+pub mod ProgressPolls
+pub mod ProgressAlone
 mod RunsWorked
 mod RunsClaims
 mod RunsIdle

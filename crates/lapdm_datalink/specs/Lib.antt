@@ -5,4 +5,6 @@ pub mod Abstraction
 pub mod Sides
 pub mod Parts
 pub mod Slots
+pub mod Channels
+pub mod Progress
 pub mod Runs

@@ -10,6 +10,9 @@ ghost use Rattle.lapdm_link.specs.Claims.{Claims, AckedAtMostDelivered, HasNotic
 ghost use Rattle.lapdm_datalink.specs.Links.{LinkState, after_slot, slot_outcome, sabm_goes_first};
 ghost use Rattle.lapdm_datalink.specs.Runs.{RunEvent, initial_run, IsRun, run_log};
 ghost use Rattle.lapdm_datalink.specs.Slots.{IsStepOfEndpoint, nr_of, took};
+ghost use Rattle.lapdm_datalink.specs.DataLinks.{DataLinkState};
+ghost use Rattle.lapdm_datalink.specs.Channels.{Run};
+ghost use Rattle.lapdm_datalink.specs.Progress.{GoesFirst, PaysForExpiries, Progresses};
 
 /// Law: in a slot, the endpoint of a link does nothing, repeats the frame that awaits an answer without counting it, or handles the expiry
 /// of T200. What goes out is the answer owed, or the frame of that call.
@@ -47,4 +50,23 @@ pub fn law_data_links_deliver_in_order()
     ensures order { (channel : Channel) (t200 : Role → Sapi → ℕ) (events : List RunEvent) →
         IsRun events (initial_run channel t200)
         → HasNoticesInOrder (run_log events (initial_run channel t200)) }
+{}
+
+/// Law: SAPI 0 goes first. What the link of SAPI 0 does in a slot, and when a frame arrives, does not depend on the link of SAPI 3.
+#[tactic(auto, using(crate::proofs::ProgressAlone::sapi_0_goes_first))]
+pub fn law_sapi_0_goes_first()
+    ensures { (s : DataLinkState) → GoesFirst s }
+{}
+
+/// Law: while both links of SAPI 0 are open, each waits at most a round trip for each of its segments, and T200 and one slot for each slot
+/// with a loss. The premises are those of `law_data_links_pay_for_expiries`.
+pub fn law_data_links_progress()
+    ensures { (r : Run) → Progresses r }
+{}
+
+/// Law: each expiry of T200 of an open link of SAPI 0 is paid by a loss of its own, if both sides have the same T200, and it is at least
+/// the round trip.
+#[tactic(auto, using(crate::proofs::ProgressExpiries::pays_for_expiries))]
+pub fn law_data_links_pay_for_expiries()
+    ensures { (r : Run) → PaysForExpiries r }
 {}

@@ -1,0 +1,34 @@
+-- The link of SAPI 0 of a data link does what it would do alone.
+use Rattle.{
+  std.{specs.Prelude.{◌≡◌, ◌≢◌, ℕ, Bool, true, false, nat_eq, Option, Some, None}, proofs.Common.{arith, refl}},
+  lapdm_frame.specs.Content.Frame,
+  lapdm_datalink.specs.{
+    Links.{LinkState, SlotOutcome, slot_outcome, after_slot, after_frame},
+    DataLinks.{DataLinkState, data_link_outcome, after_arrival, with_sapi3, with_clocks_moved, sapi_for_frame, taken_by, takes_sapi3},
+    Progress.GoesFirst,
+  },
+}
+
+link_first : (o : SlotOutcome) (x : Option Frame) (s : DataLinkState) → (with_sapi3 o x s).new_state.link0 ≡ o.link
+link_first o None s = refl
+link_first o (Some f) s = refl
+
+frame_first : (o : SlotOutcome) (x : Option Frame) (s : DataLinkState) (f : Frame) → x ≡ Some f → (with_sapi3 o x s).frame ≡ Some f
+frame_first o None s f e = absurd cc
+frame_first o (Some g) s f e = e
+
+module _ (s : DataLinkState) (f : Frame) where
+  arrives_first : f.sapi ≡ 0 → (after_arrival f s).link0 ≡ after_frame f s.link0
+  arrives_first e = grind (arith, e)
+
+  arrives_else : (b : Bool) → takes_sapi3 s ≡ b → f.sapi ≢ 0 → (after_arrival f s).link0 ≡ s.link0
+  arrives_else true t e = grind (arith, e, t)
+  arrives_else false t e = grind (arith, e, t)
+
+pub sapi_0_goes_first : (s : DataLinkState) → GoesFirst s
+sapi_0_goes_first s = record {
+  slot = link_first (slot_outcome (after_slot s.link0)) (slot_outcome (after_slot s.link0)).frame (with_clocks_moved s);
+  frame = λ f e. frame_first (slot_outcome (after_slot s.link0)) (slot_outcome (after_slot s.link0)).frame (with_clocks_moved s) f e;
+  arrival = λ f e. arrives_first s f e;
+  other_arrival = λ f e. arrives_else s f _ refl e;
+}

@@ -1,0 +1,282 @@
+-- A link of SAPI 0 sends an answer before its own frame only for a poll of the other side, which repeats a frame then.
+use Rattle.{
+  std.{
+    specs.Prelude.{◌≡◌, ◌≢◌, ℕ, zero, suc, ◌+◌, ◌-◌, ◌*◌, ◌≤◌, Bool, true, false, not, ◌&&◌, ◌||◌},
+    specs.Prelude.{◌⊎◌, nat_eq, nat_le, List, Option, Some, None, IfSome, All},
+    proofs.{Common.{inl, inr, arith, refl, ap, sym, ◌∙◌}, Math.Nat.{mul-add, add-mul, mul-one, one-mul}},
+  },
+  lapdm_frame.specs.Content.{Content, I, Rr, Rej, Frame},
+  lapdm_end.specs.lapdm_window.{
+    declared.{Sapi.TheVariants.Zero, State.TheVariants.{Open, Closed}},
+    segmenting.Segments.Segment,
+    Ends.{Role, Mobile, Network, EndpointState, vr, command_cr, first_unacked_segment},
+    Rules.nr_acknowledges_segment,
+    Calls.{awaited_frame, t200_expiry},
+  },
+  lapdm_link.specs.Events.other,
+  lapdm_datalink.{
+    specs.{
+      Links.{LinkState, slot_outcome, is_due, keeps_back, is_plain_rr, is_awaiting_kind, first_frame, after_slot},
+      Slots.took,
+      Channels.{Run, carried, after_calls, after_arriving},
+      Progress.{link_at, turn_at, arriving_at, ready_at, frame_at, IsWithoutRelease, round_trip, one_if, is_i_frame, is_i_content},
+      Progress.{is_repetition, is_repeated_content, lossy_slots, waiting_slots, expiries, AreOpen, acked_at, Progress, Progresses},
+    },
+    proofs.{
+      ProgressSteps.{IsAnswerOf, Good, taken},
+      ProgressLink.{From, nowhere, owed, first, again, slot_from, reply_with, frame_taken},
+      ProgressStart.{ready_called, ready_role, slot_open},
+      ProgressWaits.{SlotWay, sends, blocked, counts, slot_way},
+      ProgressRuns.{sound, slotted_in, link_step},
+      ProgressPaid.{in_sequence_or_polls, taken_is, arrived_other, le_of, not_le_of},
+      ProgressExpiries.{true-false, owes_ready, i_parts},
+      ProgressWaiting.{answers_first, answering_slots, waits_at_most, repeats_at_most, due_clock, open_closed},
+    },
+  },
+}
+
+-- ---- what an open link owes after a frame that does not poll
+
+module _ (s : ℕ) (cr : Bool) (l : LinkState) (o : l.endpoint.state ≡ Open) (none : l.answer ≡ None)
+    (response : cr ≡ command_cr l.endpoint.role)
+  where
+    no_answer : (c : Content) → is_awaiting_kind c ≡ false → (taken (reply_with s cr l c) l).answer ≡ None
+    no_answer (I ns nr p more info) k = absurd cc
+    no_answer (Rr nr p) k = grind (arith, o, none, response)
+    no_answer (Rej nr p) k = grind (arith, o, none, response)
+    no_answer other k = grind (arith, o, none, response, k)
+
+plain_i : (l : LinkState) (ns nr : ℕ) (s : Segment) → l.answer ≡ None → nat_eq ns (vr l.endpoint) ≡ true →
+    (f : Frame) → (took ns nr false s l).answer ≡ Some f → is_plain_rr f.content ≡ true
+plain_i l ns nr s none h f e = by_match (nr_acknowledges_segment nr l.endpoint) refl (first_unacked_segment l.endpoint).1 refl
+  where
+    by_match : (a : Bool) → nr_acknowledges_segment nr l.endpoint ≡ a → (more : Bool) →
+        (first_unacked_segment l.endpoint).1 ≡ more → is_plain_rr f.content ≡ true
+    by_match true a true k = grind (arith, none, h, e, a, k)
+    by_match true a false k = grind (arith, none, h, e, a, k)
+    by_match false a true k = grind (arith, none, h, e, a, k)
+    by_match false a false k = grind (arith, none, h, e, a, k)
+
+-- ---- what an open link sends: an I frame, or a response that awaits no answer
+
+first_i : (e : EndpointState) (f : Frame) → e.state ≡ Open → Some (awaited_frame false e.state e) ≡ Some f →
+    is_i_content f.content ≡ true
+first_i e f o h = grind (arith, o, h)
+
+again_i : (e : EndpointState) (f : Frame) → e.state ≡ Open → first_frame (t200_expiry e).frames ≡ Some f →
+    is_i_content f.content ≡ true
+again_i e f o h = grind (arith, o, h)
+
+answer_is : (m : LinkState) (a : Option Frame) (f : Frame) → a ≡ Some f → IfSome a (IsAnswerOf m) → IsAnswerOf m f
+answer_is m None f e h = absurd cc
+answer_is m (Some g) f e h = rw (same g f e) at h
+  where
+    same : (g f : Frame) → Some g ≡ Some f → g ≡ f
+    same g f e = cc
+
+sends_answer : (m : LinkState) (f : Frame) → m.endpoint.state ≡ Open → IfSome m.answer (IsAnswerOf m) →
+    (slot_outcome m).frame ≡ Some f → is_i_content f.content ≡ false → IsAnswerOf m f
+sends_answer m f o owes h i = by_from (slot_from m)
+  where
+    by_from : From m (slot_outcome m) → IsAnswerOf m f
+    by_from (nowhere e) = absurd cc
+    by_from (owed e) = answer_is m m.answer f (sym e ∙ h) owes
+    by_from (first e due new sent) = absurd (true-false (sym (first_i m.endpoint f o (sym e ∙ h)) ∙ i))
+    by_from (again e due old sent) = absurd (true-false (sym (again_i m.endpoint f o (sym e ∙ h)) ∙ i))
+
+response_way : (role : Role) → not (command_cr role) ≡ command_cr (other role)
+response_way Mobile = refl
+response_way Network = refl
+
+held_back : (f : Frame) (m : LinkState) → is_plain_rr f.content ≡ true → is_due m ≡ true → m.endpoint.state ≡ Open →
+    keeps_back f m ≡ true
+held_back f m p d o = grind (arith, p, d, o)
+
+goes_first : (m : LinkState) (x : Option Frame) → (is_due m && not (is_i_frame x)) ≡ true →
+    (is_due m ≡ true) × (is_i_frame x ≡ false)
+goes_first m x h = (grind (arith, h), grind (arith, h))
+
+some_none : (f : Frame) → None ≡ Some f → ⊥
+some_none f h = cc
+
+in_order : (b p : Bool) → (b || p) ≡ true → p ≡ false → b ≡ true
+in_order true p h e = refl
+in_order false p h e = absurd (true-false (sym h ∙ e))
+
+sender_role : (r : Run) (u : IsWithoutRelease r) (q : ℕ) (role : Role) → (ready_at r q role).endpoint.role ≡ role
+sender_role r u q role = ready_role role (arriving_at r q role) (turn_at r q role).calls (link_at r q role) ((sound r u q).good role)
+    ((sound r u q).settled role).owes ((sound r u q).idle role) (u q role) ∙ (sound r u q).roles role
+
+-- ---- the slot in which an answer goes first is one delay after a repetition of the other side
+
+module _ (r : Run) (u : IsWithoutRelease r) (q : ℕ) (role : Role) where
+  abbrev pub n : ℕ
+  n = suc q + r.delay
+
+  abbrev pub x : Role
+  x = other role
+
+  abbrev pub l : LinkState
+  l = link_at r n x
+
+  abbrev pub m : LinkState
+  m = ready_at r n x
+
+  module _ (open_q : (link_at r (suc q) role).endpoint.state ≡ Open) (open_n : l.endpoint.state ≡ Open)
+      (open_next : (link_at r (suc n) x).endpoint.state ≡ Open)
+    where
+      m_open : m.endpoint.state ≡ Open
+      m_open = slot_open m (ap (λ k. k.endpoint.state) (sym (link_step r n x)) ∙ open_next)
+
+      sender_open : (ready_at r q role).endpoint.state ≡ Open
+      sender_open = slot_open (ready_at r q role) (ap (λ k. k.endpoint.state) (sym (link_step r q role)) ∙ open_q)
+
+      owes_none : l.answer ≡ None
+      owes_none = ((sound r u n).settled x).owes
+
+      -- the calls keep what is owed
+      kept : m.answer ≡ (after_arriving (arriving_at r n x) l).answer
+      kept = (ready_called x (arriving_at r n x) (turn_at r n x).calls l ((sound r u n).good x) owes_none ((sound r u n).idle x)
+          (u n x)).answer_same
+
+      still_open : (link_at r (suc n) x).endpoint.state ≢ Closed
+      still_open e = open_closed (sym open_next ∙ e)
+
+      owes_plain : (f : Frame) → m.answer ≡ Some f → is_repetition (frame_at r q role) ≡ false → is_plain_rr f.content ≡ true
+      owes_plain f a none = by_sent (turn_at r q role).is_lost refl (frame_at r q role) refl
+        where
+          nothing : arriving_at r n x ≡ None → is_plain_rr f.content ≡ true
+          nothing e = absurd (some_none f (sym (ap (λ o. (after_arriving o l).answer) e ∙ owes_none) ∙ sym kept ∙ a))
+
+          by_kind : (g : Frame) → frame_at r q role ≡ Some g → (turn_at r q role).is_lost ≡ false → (b : Bool) →
+              is_i_content g.content ≡ b → is_plain_rr f.content ≡ true
+          by_kind g e lost true i =
+              by_poll y.4 refl
+            where
+              y : (g : Frame) × (frame_at r q role ≡ Some g) × (ns : ℕ) × (nr : ℕ) × (p : Bool) × (more : Bool)
+                  × (info : List ℕ) × (g.content ≡ I ns nr p more info)
+              y = i_parts (frame_at r q role) (ap is_i_frame e ∙ i)
+
+              arrived_i : after_arriving (arriving_at r n x) l ≡ took y.2 y.3 y.4 (y.6, y.5) l
+              arrived_i = taken_is r u q role y.0 y.2 y.3 y.4 y.5 y.6 y.1 y.7 lost open_n still_open
+
+              order : (nat_eq y.2 (vr l.endpoint) || y.4) ≡ true
+              order = in_sequence_or_polls r u q role y.0 y.2 y.3 y.4 y.5 y.6 y.1 y.7 lost open_n still_open
+
+              by_poll : (p : Bool) → y.4 ≡ p → is_plain_rr f.content ≡ true
+              by_poll true p = absurd (true-false (sym (ap is_repetition y.1 ∙ ap is_repeated_content y.7 ∙ p) ∙ none))
+              by_poll false p = plain_i l y.2 y.3 (y.6, y.5) owes_none (in_order (nat_eq y.2 (vr l.endpoint)) y.4 order p) f
+                  (ap (λ t. (took y.2 y.3 t (y.6, y.5) l).answer) (sym p) ∙ ap (λ k. k.answer) (sym arrived_i) ∙ sym kept ∙ a)
+          by_kind g e lost false i =
+              let w : IsAnswerOf (ready_at r q role) g =
+              sends_answer (ready_at r q role) g sender_open (owes_ready r u role q) e i in
+              by_taken w (frame_taken g l ((sound r u n).good x).sapi)
+            where
+              comes : arriving_at r n x ≡ Some g
+              comes = arrived_other r q role ∙ rw (lost, e) refl
+
+              way_of : IsAnswerOf (ready_at r q role) g → g.cr ≡ command_cr l.endpoint.role
+              way_of w = w.way ∙ ap (λ k. not (command_cr k)) (sender_role r u q role) ∙ response_way role
+                  ∙ ap command_cr (sym ((sound r u n).roles x))
+
+              by_taken : IsAnswerOf (ready_at r q role) g →
+                  (after_arriving (Some g) l ≡ l) ⊎ (after_arriving (Some g) l ≡ taken (reply_with g.sapi g.cr l g.content) l) →
+                  is_plain_rr f.content ≡ true
+              by_taken w (inl h) = absurd (some_none f (sym (ap (λ o. (after_arriving o l).answer) comes ∙ ap (λ k. k.answer) h
+                  ∙ owes_none) ∙ sym kept ∙ a))
+              by_taken w (inr h) = absurd (some_none f (sym (ap (λ o. (after_arriving o l).answer) comes ∙ ap (λ k. k.answer) h
+                  ∙ no_answer g.sapi g.cr l open_n owes_none (way_of w) g.content w.kind) ∙ sym kept ∙ a))
+
+          by_sent : (b : Bool) → (turn_at r q role).is_lost ≡ b → (y : Option Frame) → frame_at r q role ≡ y →
+              is_plain_rr f.content ≡ true
+          by_sent true lost y e = nothing (arrived_other r q role ∙ rw lost refl)
+          by_sent false lost None e = nothing (arrived_other r q role ∙ rw (lost, e) refl)
+          by_sent false lost (Some g) e = by_kind g e lost (is_i_content g.content) refl
+
+      pub is_for_poll : answers_first r n x ≡ true → is_repetition (frame_at r q role) ≡ true
+      is_for_poll h = by_frame (is_repetition (frame_at r q role)) refl
+        where
+          by_way : is_repetition (frame_at r q role) ≡ false → SlotWay m → is_repetition (frame_at r q role) ≡ true
+          by_way none (sends d i t c) = absurd (true-false (sym i ∙ (goes_first m (frame_at r n x) h).1))
+          by_way none (blocked f a k d e t c) =
+              absurd (true-false (sym (held_back f m (owes_plain f a none) d m_open) ∙ k))
+          by_way none (counts d t c) = absurd (true-false (sym (goes_first m (frame_at r n x) h).0 ∙ d))
+
+          by_frame : (b : Bool) → is_repetition (frame_at r q role) ≡ b → is_repetition (frame_at r q role) ≡ true
+          by_frame true e = e
+          by_frame false e = by_way e (slot_way m m_open (ap (λ k. k.endpoint.state) (sym (link_step r n x)) ∙ open_next))
+
+-- ---- all slots
+
+one_at_most : (b c : Bool) → (b ≡ true → c ≡ true) → one_if b ≤ one_if c
+one_at_most true c h = omega (arith, ap one_if (h refl))
+one_at_most false c h = omega arith
+
+one_or_none : (b : Bool) → one_if b ≤ 1
+one_or_none true = omega arith
+one_or_none false = omega arith
+
+module _ (r : Run) (u : IsWithoutRelease r) (n0 : ℕ) (role : Role) where
+  few : (k : ℕ) → answering_slots r n0 k (other role) ≤ k
+  few zero = omega arith
+  few (suc k) = omega (arith, few k, one_or_none (answers_first r (n0 + k) (other role)))
+
+  grows : (k j : ℕ) → expiries r n0 k role ≤ expiries r n0 (k + j) role
+  grows k zero = let e : k + 0 ≡ k = omega arith in rw e (omega arith)
+  grows k (suc j) = let e : k + suc j ≡ suc (k + j) = omega arith in rw e (omega (arith, grows k j))
+
+  open_in : (k j : ℕ) → n0 ≤ j → j ≤ n0 + k → AreOpen r n0 k → (p : Role) → (link_at r j p).endpoint.state ≡ Open
+  open_in k j a b o p = let e : n0 + (j - n0) ≡ j = omega (arith, a) in rw e at (o (j - n0) (omega (arith, b)) p)
+
+  polled : (j : ℕ) → AreOpen r n0 (suc (suc r.delay + j)) →
+      one_if (answers_first r (n0 + (suc r.delay + j)) (other role)) ≤ one_if (is_repetition (frame_at r (n0 + j) role))
+  polled j o =
+      let e : n0 + (suc r.delay + j) ≡ suc (n0 + j) + r.delay = omega arith in
+      rw e (one_at_most (answers_first r (suc (n0 + j) + r.delay) (other role)) (is_repetition (frame_at r (n0 + j) role))
+      (is_for_poll r u (n0 + j) role
+      (open_in (suc (suc r.delay + j)) (suc (n0 + j)) (omega arith) (omega arith) o role)
+      (open_in (suc (suc r.delay + j)) (suc (n0 + j) + r.delay) (omega arith) (omega arith) o (other role))
+      (open_in (suc (suc r.delay + j)) (suc (suc (n0 + j) + r.delay)) (omega arith) (omega arith) o (other role))))
+
+  late : (j : ℕ) → AreOpen r n0 (suc r.delay + j) →
+      answering_slots r n0 (suc r.delay + j) (other role) ≤ expiries r n0 j role + suc r.delay
+  late zero o = let e : suc r.delay + 0 ≡ suc r.delay = omega arith in rw e (omega (arith, few (suc r.delay)))
+  late (suc j) o =
+      let e : suc r.delay + suc j ≡ suc (suc r.delay + j) = omega arith in
+      let o' : AreOpen r n0 (suc (suc r.delay + j)) = rw e at o in
+      rw e (omega (arith, late j (λ i h p. o i (omega (arith, h)) p), polled j o'))
+
+  pub answers_at_most : (k : ℕ) → AreOpen r n0 k → answering_slots r n0 k (other role) ≤ expiries r n0 k role + suc r.delay
+  answers_at_most k o = by_length (nat_le (suc r.delay) k) refl
+    where
+      by_length : (b : Bool) → nat_le (suc r.delay) k ≡ b → answering_slots r n0 k (other role) ≤ expiries r n0 k role + suc r.delay
+      by_length true e =
+          let h : suc r.delay ≤ k = le_of (suc r.delay) k e in
+          let f : suc r.delay + (k - suc r.delay) ≡ k = omega (arith, h) in
+          let g : (k - suc r.delay) + suc r.delay ≡ k = omega (arith, h) in
+          let o' : AreOpen r n0 (suc r.delay + (k - suc r.delay)) = rw f o in
+          let a : answering_slots r n0 k (other role) ≤ expiries r n0 (k - suc r.delay) role + suc r.delay =
+          rw f at (late (k - suc r.delay) o') in
+          let b : expiries r n0 (k - suc r.delay) role ≤ expiries r n0 k role = rw g at (grows (k - suc r.delay) (suc r.delay)) in
+          omega (arith, a, b)
+      by_length false e = omega (arith, few k, not_le_of (suc r.delay) k e)
+
+bound : (t l : ℕ) → (t + 1) * l ≡ t * l + l
+bound t l = add-mul t 1 l ∙ ap (λ x. t * l + x) (one-mul l)
+
+progress_of : (r : Run) → IsWithoutRelease r → round_trip r.delay ≤ r.t200 → (n k : ℕ) → AreOpen r n k → (role : Role) →
+    answering_slots r n k role ≤ expiries r n k (other role) + suc r.delay → Progress r n k role
+progress_of r u long n k o role h = record {
+  waits = omega (
+    arith,
+    waits_at_most r u long n role k o,
+    h,
+    repeats_at_most r u long n (other role) k o,
+    bound r.t200 (lossy_slots r n k + 1),
+  );
+  expires = repeats_at_most r u long n role k o;
+}
+
+pub progresses : (r : Run) → Progresses r
+progresses r u long n k o Mobile = progress_of r u long n k o Mobile (answers_at_most r u n Network k o)
+progresses r u long n k o Network = progress_of r u long n k o Network (answers_at_most r u n Mobile k o)

@@ -1,0 +1,319 @@
+-- A run of the links of SAPI 0, slot by slot: what each link is between slots, what arrives, and the counts of both.
+use Rattle.{
+  std.specs.Prelude.{◌≡◌, ◌≢◌, ℕ, zero, suc, ◌+◌, ◌%◌, ◌≤◌, Bool, true, false, ◌⊎◌, List, [], ◌∷◌},
+  std.{specs.Prelude.{length, get_or, Option, Some, None, All}, proofs.Common.{inl, inr, arith, refl, ap, sym, ◌∙◌}},
+  std.proofs.lemmas.List.get_or_past,
+  lapdm_frame.specs.Content.Frame,
+  lapdm_end.specs.lapdm_window.{declared.Sapi.TheVariants.Zero, Ends.{Role, Mobile, Network, vr, vs, command_cr}, Calls.is_idle},
+  lapdm_link.specs.Events.other,
+  lapdm_datalink.{
+    specs.{Links.{LinkState, slot_outcome, after_slot}, Slots.{nr_in, nr_of}, Channels.{Run, Side, channel_at, side_at, side_after}},
+    specs.{Channels.{carried, after_calls, after_arriving}, Progress.{link_at, turn_at, arriving_at, ready_at, frame_at, IsWithoutRelease}},
+    proofs.{ProgressSteps.{acked, issued, accepted, aired, Good, Moves}, ProgressLink.{Slotted, ns_in, ns_of}, ProgressStart.Settled},
+    proofs.ProgressStart.{settled, slotted_link, idle_from, idle_sends_nothing, idle_network, idle_stays, idle_silent},
+  },
+}
+use Rattle.lapdm_datalink.proofs.ProgressCounts as C
+
+module _ (r : Run) where
+  side_step : (n : ℕ) (role : Role) → side_at role (channel_at r (suc n)) ≡
+      side_after (turn_at r n role) (arriving_at r n role) (side_at role (channel_at r n))
+  side_step n Mobile = refl
+  side_step n Network = refl
+
+  pub link_step : (n : ℕ) (role : Role) → link_at r (suc n) role ≡ (slot_outcome (ready_at r n role)).link
+  link_step n Mobile = refl
+  link_step n Network = refl
+
+  sent_step : (n : ℕ) (role : Role) → (side_at role (channel_at r (suc n))).sent ≡
+      carried (turn_at r n role).is_lost (frame_at r n role) ∷ (side_at role (channel_at r n)).sent
+  sent_step n Mobile = refl
+  sent_step n Network = refl
+
+  sent_after : (n k : ℕ) (role : Role) → get_or (side_at role (channel_at r (suc n + k))).sent k None ≡
+      carried (turn_at r n role).is_lost (frame_at r n role)
+  sent_after n zero role =
+      let e : suc n + 0 ≡ suc n = omega arith in rw e (ap (λ xs. get_or xs 0 None) (sent_step n role))
+  sent_after n (suc k) role =
+      let e : suc n + suc k ≡ suc (suc n + k) = omega arith in
+      rw e (ap (λ xs. get_or xs (suc k) None) (sent_step (suc n + k) role) ∙ sent_after n k role)
+
+  sent_length : (n : ℕ) (role : Role) → length (side_at role (channel_at r n)).sent ≡ n
+  sent_length zero Mobile = refl
+  sent_length zero Network = refl
+  sent_length (suc n) role = ap length (sent_step n role) ∙ ap suc (sent_length n role)
+
+  -- what arrives was sent by the other side `delay` slots before the last
+  pub arrived : (n : ℕ) (role : Role) →
+      arriving_at r (suc n + r.delay) role ≡ carried (turn_at r n (other role)).is_lost (frame_at r n (other role))
+  arrived n role = sent_after n r.delay (other role)
+
+  pub nothing_arrives : (n : ℕ) (role : Role) → n ≤ r.delay → arriving_at r n role ≡ None
+  nothing_arrives n role h =
+      get_or_past (side_at (other role) (channel_at r n)).sent r.delay None (omega (arith, h, sent_length n (other role)))
+
+  -- ---- between slots
+
+  pub record Sound (n : ℕ) : Type 0 where
+    pub good : (role : Role) → Good (link_at r n role)
+    pub idle : (role : Role) → is_idle (link_at r n role).endpoint.state ≡ true →
+        issued (link_at r n role) ≡ acked (link_at r n role)
+    pub settled : (role : Role) → Settled role (link_at r n role)
+    pub roles : (role : Role) → (link_at r n role).endpoint.role ≡ role
+    pub t200 : (role : Role) → (link_at r n role).t200 ≡ r.t200
+    -- while the mobile is idle, so is the network, and neither has sent a frame
+    pub network_idle : is_idle (link_at r n Mobile).endpoint.state ≡ true → is_idle (link_at r n Network).endpoint.state ≡ true
+    pub silent : is_idle (link_at r n Mobile).endpoint.state ≡ true → (role : Role) (k : ℕ) →
+        get_or (side_at role (channel_at r n)).sent k None ≡ None
+
+  start : Sound 0
+  start = record {
+    good = start_good;
+    idle = start_idle;
+    settled = start_settled;
+    roles = start_roles;
+    t200 = start_t200;
+    network_idle = λ h. refl;
+    silent = start_silent;
+  }
+    where
+      start_good : (role : Role) → Good (link_at r 0 role)
+      start_good Mobile = record { sapi = refl; low = omega arith; window = omega arith }
+      start_good Network = record { sapi = refl; low = omega arith; window = omega arith }
+
+      start_idle : (role : Role) → is_idle (link_at r 0 role).endpoint.state ≡ true →
+          issued (link_at r 0 role) ≡ acked (link_at r 0 role)
+      start_idle Mobile h = refl
+      start_idle Network h = refl
+
+      start_settled : (role : Role) → Settled role (link_at r 0 role)
+      start_settled Mobile = record { owes = refl; unsent = λ s. refl; opening = λ h. absurd cc }
+      start_settled Network = record { owes = refl; unsent = λ s. refl; opening = λ h. absurd cc }
+
+      start_roles : (role : Role) → (link_at r 0 role).endpoint.role ≡ role
+      start_roles Mobile = refl
+      start_roles Network = refl
+
+      start_t200 : (role : Role) → (link_at r 0 role).t200 ≡ r.t200
+      start_t200 Mobile = refl
+      start_t200 Network = refl
+
+      start_silent : is_idle (link_at r 0 Mobile).endpoint.state ≡ true → (role : Role) (k : ℕ) →
+          get_or (side_at role (channel_at r 0)).sent k None ≡ None
+      start_silent h Mobile k = refl
+      start_silent h Network k = refl
+
+  carried_none : (lost : Bool) → carried lost None ≡ None
+  carried_none true = refl
+  carried_none false = refl
+
+  module _ (u : IsWithoutRelease r) where
+    -- the slot of each link
+    slotted_at : (n : ℕ) → Sound n → (role : Role) →
+        Slotted (arriving_at r n role) (link_at r n role) (link_at r (suc n) role) (frame_at r n role)
+    slotted_at n h role =
+        rw (link_step n role)
+        (slotted_link role (arriving_at r n role) (turn_at r n role).calls (link_at r n role) (h.good role) (h.settled role).owes
+        (h.idle role) (u n role))
+
+    idle_before : (n : ℕ) → Sound n → (role : Role) → is_idle (link_at r (suc n) role).endpoint.state ≡ true →
+        (link_at r (suc n) role).endpoint ≡ (link_at r n role).endpoint
+    idle_before n h role i =
+        let f = idle_from role (arriving_at r n role) (turn_at r n role).calls (link_at r n role) (h.good role).sapi (u n role) in
+        ap (λ l. l.endpoint) (link_step n role) ∙ f (ap (λ l. is_idle l.endpoint.state) (sym (link_step n role)) ∙ i)
+
+    mobile_idle : (n : ℕ) → Sound n → is_idle (link_at r (suc n) Mobile).endpoint.state ≡ true →
+        is_idle (link_at r n Mobile).endpoint.state ≡ true
+    mobile_idle n h i = ap (λ e. is_idle e.state) (sym (idle_before n h Mobile i)) ∙ i
+
+    nothing_comes : (n : ℕ) → Sound n → is_idle (link_at r n Mobile).endpoint.state ≡ true → (role : Role) →
+        arriving_at r n role ≡ None
+    nothing_comes n h i role = h.silent i (other role) r.delay
+
+    -- the network's slot while both are idle
+    network_slot : (n : ℕ) → Sound n → is_idle (link_at r n Mobile).endpoint.state ≡ true →
+        (is_idle (link_at r (suc n) Network).endpoint.state ≡ true) × (frame_at r n Network ≡ None)
+    network_slot n h i = (
+      ap (λ e. is_idle e.state) (idle_stays (ready_at r n Network) ready_idle) ∙ ready_idle,
+      idle_silent (ready_at r n Network) ready_idle (ap (λ m. m.answer) same ∙ (h.settled Network).owes),
+    )
+      where
+        quiet : after_calls (turn_at r n Network).calls (after_arriving (arriving_at r n Network) (link_at r n Network)) ≡
+            link_at r n Network
+        quiet = rw (nothing_comes n h i Network)
+            (idle_network (turn_at r n Network).calls (link_at r n Network) (u n Network) (h.network_idle i))
+
+        same : ready_at r n Network ≡ after_slot (link_at r n Network)
+        same = ap after_slot quiet
+
+        ready_idle : is_idle (ready_at r n Network).endpoint.state ≡ true
+        ready_idle = ap (λ m. is_idle m.endpoint.state) same ∙ h.network_idle i
+
+    mobile_frame : (n : ℕ) → Sound n → is_idle (link_at r (suc n) Mobile).endpoint.state ≡ true → frame_at r n Mobile ≡ None
+    mobile_frame n h i =
+        idle_sends_nothing Mobile (arriving_at r n Mobile) (turn_at r n Mobile).calls (link_at r n Mobile) (h.good Mobile).sapi
+        (u n Mobile) (nothing_comes n h (mobile_idle n h i) Mobile) (h.settled Mobile).owes i
+
+    step : (n : ℕ) → Sound n → Sound (suc n)
+    step n h = record {
+      good = λ role. good_after role;
+      idle = λ role i. (let e = idle_before n h role i in
+          ap (λ x. x.sent_segments) e ∙ h.idle role (ap (λ x. is_idle x.state) (sym e) ∙ i) ∙ sym (ap (λ x. x.acked_segments) e));
+      settled = λ role. rw (link_step n role)
+          (settled role (arriving_at r n role) (turn_at r n role).calls (link_at r n role) (h.good role).sapi (u n role)
+          (quiet role) (h.settled role));
+      roles = λ role. (slotted_at n h role).moves.role ∙ h.roles role;
+      t200 = λ role. (slotted_at n h role).moves.t200 ∙ h.t200 role;
+      network_idle = λ i. (network_slot n h (mobile_idle n h i)).0;
+      silent = λ i role. silent_after i role;
+    }
+      where
+        good_after : (role : Role) → Good (link_at r (suc n) role)
+        good_after role =
+            let x = slotted_at n h role in
+            record { sapi = x.moves.sapi ∙ (h.good role).sapi; low = x.moves.low; window = x.moves.window }
+
+        quiet : (role : Role) → is_idle (link_at r n role).endpoint.state ≡ true → role ≡ Mobile → arriving_at r n role ≡ None
+        quiet Mobile i e = nothing_comes n h i Mobile
+        quiet Network i e = absurd cc
+
+        sent_none : (role : Role) → frame_at r n role ≡ None →
+            ((k : ℕ) → get_or (side_at role (channel_at r n)).sent k None ≡ None) →
+            (k : ℕ) → get_or (side_at role (channel_at r (suc n))).sent k None ≡ None
+        sent_none role f old zero = ap (λ xs. get_or xs 0 None) (sent_step n role) ∙ rw f (carried_none (turn_at r n role).is_lost)
+        sent_none role f old (suc k) = ap (λ xs. get_or xs (suc k) None) (sent_step n role) ∙ old k
+
+        silent_after : is_idle (link_at r (suc n) Mobile).endpoint.state ≡ true → (role : Role) (k : ℕ) →
+            get_or (side_at role (channel_at r (suc n))).sent k None ≡ None
+        silent_after i Mobile k = sent_none Mobile (mobile_frame n h i) (h.silent (mobile_idle n h i) Mobile) k
+        silent_after i Network k =
+            sent_none Network (network_slot n h (mobile_idle n h i)).1 (h.silent (mobile_idle n h i) Network) k
+
+    pub sound : (n : ℕ) → Sound n
+    sound zero = start
+    sound (suc n) = step n (sound n)
+
+    pub slotted_in : (n : ℕ) (role : Role) →
+        Slotted (arriving_at r n role) (link_at r n role) (link_at r (suc n) role) (frame_at r n role)
+    slotted_in n role = slotted_at n (sound n) role
+
+    -- ---- the counts
+
+    abbrev pub counts : C.Counts
+    counts = record {
+      acked = λ role n. acked (link_at r n role);
+      issued = λ role n. issued (link_at r n role);
+      accepted = λ role n. accepted (link_at r n role);
+      aired = λ role n. aired (link_at r n role);
+    }
+
+    carried_number : (lost : Bool) (x : Option Frame) (k : ℕ) → nr_of (carried lost x) ≡ Some k →
+        (f : Frame) × (x ≡ Some f) × (nr_in f.content ≡ Some k)
+    carried_number true x k h = absurd cc
+    carried_number false None k h = absurd cc
+    carried_number false (Some f) k h = (f, refl, h)
+
+    carried_segment : (lost : Bool) (x : Option Frame) (k : ℕ) → ns_of (carried lost x) ≡ Some k →
+        (f : Frame) × (x ≡ Some f) × (ns_in f.content ≡ Some k)
+    carried_segment true x k h = absurd cc
+    carried_segment false None k h = absurd cc
+    carried_segment false (Some f) k h = (f, refl, h)
+
+    number_arrived : (n : ℕ) (role : Role) (k : ℕ) → nr_of (arriving_at r (suc n + r.delay) role) ≡ Some k →
+        k ≡ accepted (link_at r (suc n) (other role)) % 8
+    number_arrived n role k h =
+        let x = carried_number (turn_at r n (other role)).is_lost (frame_at r n (other role)) k (ap nr_of (sym (arrived n role)) ∙ h) in
+        (slotted_in n (other role)).number x.0 x.1 k x.2
+
+    segment_arrived : (n : ℕ) (role : Role) (k : ℕ) → ns_of (arriving_at r (suc n + r.delay) role) ≡ Some k →
+        (k ≡ acked (link_at r (suc n) (other role)) % 8)
+        × (aired (link_at r (suc n) (other role)) ≡ acked (link_at r (suc n) (other role)) + 1)
+    segment_arrived n role k h =
+        let x = carried_segment (turn_at r n (other role)).is_lost (frame_at r n (other role)) k (ap ns_of (sym (arrived n role)) ∙ h) in
+        let y = (slotted_in n (other role)).segment x.0 x.1 k x.2 in
+        (y.0, y.1)
+
+    acked_aired : (l : LinkState) → acked l ≤ issued l → acked l ≤ aired l
+    acked_aired l h = grind arith
+
+    aired_issued : (l : LinkState) → acked l ≤ issued l → aired l ≤ issued l
+    aired_issued l h = grind arith
+
+    by_nr_at : (n : ℕ) (role : Role) → let m = suc n + r.delay in
+        (acked (link_at r (suc m) role) ≡ acked (link_at r m role))
+        ⊎ ((acked (link_at r (suc m) role) ≡ issued (link_at r m role)) × (issued (link_at r m role) ≡ acked (link_at r m role) + 1)
+        × (issued (link_at r m role) % 8 ≡ accepted (link_at r (suc n) (other role)) % 8))
+    by_nr_at n role = by_case (slotted_in (suc n + r.delay) role).by_nr
+      where
+        by_case : let m = suc n + r.delay in
+            (acked (link_at r (suc m) role) ≡ acked (link_at r m role))
+            ⊎ ((nr_of (arriving_at r m role) ≡ Some (vs (link_at r m role).endpoint))
+            × (issued (link_at r m role) ≡ acked (link_at r m role) + 1)
+            × (acked (link_at r (suc m) role) ≡ issued (link_at r m role))) →
+            (acked (link_at r (suc m) role) ≡ acked (link_at r m role))
+            ⊎ ((acked (link_at r (suc m) role) ≡ issued (link_at r m role))
+            × (issued (link_at r m role) ≡ acked (link_at r m role) + 1)
+            × (issued (link_at r m role) % 8 ≡ accepted (link_at r (suc n) (other role)) % 8))
+        by_case (inl e) = inl e
+        by_case (inr (e, one, got)) = inr (got, one, number_arrived n role _ e)
+
+    by_ns_at : (n : ℕ) (role : Role) → let m = suc n + r.delay in
+        (accepted (link_at r (suc m) role) ≡ accepted (link_at r m role))
+        ⊎ ((accepted (link_at r (suc m) role) ≡ accepted (link_at r m role) + 1)
+        × (accepted (link_at r m role) % 8 ≡ acked (link_at r (suc n) (other role)) % 8)
+        × (aired (link_at r (suc n) (other role)) ≡ acked (link_at r (suc n) (other role)) + 1))
+    by_ns_at n role = by_case (slotted_in (suc n + r.delay) role).by_ns
+      where
+        by_case : let m = suc n + r.delay in
+            (accepted (link_at r (suc m) role) ≡ accepted (link_at r m role))
+            ⊎ ((ns_of (arriving_at r m role) ≡ Some (vr (link_at r m role).endpoint))
+            × (accepted (link_at r (suc m) role) ≡ accepted (link_at r m role) + 1)) →
+            (accepted (link_at r (suc m) role) ≡ accepted (link_at r m role))
+            ⊎ ((accepted (link_at r (suc m) role) ≡ accepted (link_at r m role) + 1)
+            × (accepted (link_at r m role) % 8 ≡ acked (link_at r (suc n) (other role)) % 8)
+            × (aired (link_at r (suc n) (other role)) ≡ acked (link_at r (suc n) (other role)) + 1))
+        by_case (inl e) = inl e
+        by_case (inr (e, got)) = let x = segment_arrived n role _ e in inr (got, x.0, x.1)
+
+    no_number : (k : ℕ) → None ≡ Some k → ⊥
+    no_number k h = cc
+
+    -- nothing is acknowledged or accepted before anything arrives
+    early_acked : (role : Role) (k : ℕ) → k ≤ r.delay + 1 → acked (link_at r k role) ≡ 0
+    early_acked Mobile zero h = refl
+    early_acked Network zero h = refl
+    early_acked role (suc k) h = by_case (slotted_in k role).by_nr (early_acked role k (omega (arith, h)))
+      where
+        by_case : (acked (link_at r (suc k) role) ≡ acked (link_at r k role))
+            ⊎ ((nr_of (arriving_at r k role) ≡ Some (vs (link_at r k role).endpoint))
+            × (issued (link_at r k role) ≡ acked (link_at r k role) + 1)
+            × (acked (link_at r (suc k) role) ≡ issued (link_at r k role))) →
+            acked (link_at r k role) ≡ 0 → acked (link_at r (suc k) role) ≡ 0
+        by_case (inl e) before = e ∙ before
+        by_case (inr x) before = absurd (no_number _ (ap nr_of (sym (nothing_arrives k role (omega (arith, h)))) ∙ x.0))
+
+    early_accepted : (role : Role) (k : ℕ) → k ≤ r.delay + 1 → accepted (link_at r k role) ≡ 0
+    early_accepted Mobile zero h = refl
+    early_accepted Network zero h = refl
+    early_accepted role (suc k) h = by_case (slotted_in k role).by_ns (early_accepted role k (omega (arith, h)))
+      where
+        by_case : (accepted (link_at r (suc k) role) ≡ accepted (link_at r k role))
+            ⊎ ((ns_of (arriving_at r k role) ≡ Some (vr (link_at r k role).endpoint))
+            × (accepted (link_at r (suc k) role) ≡ accepted (link_at r k role) + 1)) →
+            accepted (link_at r k role) ≡ 0 → accepted (link_at r (suc k) role) ≡ 0
+        by_case (inl e) before = e ∙ before
+        by_case (inr (e, x)) before = absurd (no_number _ (ap ns_of (sym (nothing_arrives k role (omega (arith, h)))) ∙ e))
+
+    pub counted : C.Run r.delay counts
+    counted = record {
+      acked_start = early_acked;
+      accepted_start = early_accepted;
+      acked_up = λ role n. (slotted_in n role).moves.acked_up;
+      accepted_up = λ role n. (slotted_in n role).moves.accepted_up;
+      aired_up = λ role n. (slotted_in n role).moves.aired_up;
+      acked_aired = λ role n. acked_aired (link_at r n role) ((sound n).good role).low;
+      aired_issued = λ role n. aired_issued (link_at r n role) ((sound n).good role).low;
+      window = λ role n. ((sound n).good role).window;
+      by_nr = λ role n. by_nr_at n role;
+      by_ns = λ role n. by_ns_at n role;
+    }

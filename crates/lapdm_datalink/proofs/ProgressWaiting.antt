@@ -1,0 +1,592 @@
+-- How long a link of SAPI 0 waits while both are open: each slot of waiting is charged to a segment, to a loss, or to an answer.
+use Rattle.{
+  std.{
+    specs.Prelude.{◌≡◌, ◌≢◌, ℕ, zero, suc, ◌+◌, ◌-◌, ◌*◌, ◌≤◌, Bool, true, false, not, ◌&&◌, ◌||◌},
+    specs.Prelude.{◌⊎◌, nat_le, nat_eq, List, Option, Some, None, IfSome},
+    proofs.{Common.{inl, inr, arith, refl, ap, sym, ◌∙◌}, Math.Nat.{mul-add, mul-one}},
+  },
+  lapdm_frame.specs.Content.{Content, I, Frame},
+  lapdm_end.specs.lapdm_window.{
+    declared.State.TheVariants.{Open, Closed},
+    Ends.{Role, Mobile, Network, EndpointState, awaits_answer, awaits_ack},
+  },
+  lapdm_link.specs.Events.other,
+  lapdm_datalink.{
+    specs.{Links.{LinkState, slot_outcome, is_due}, Channels.{Run, after_calls, after_arriving}, Progress.{link_at, turn_at, arriving_at}},
+    specs.Progress.{ready_at, frame_at, is_loss_at, IsWithoutRelease, round_trip, is_i_frame, is_repetition, is_lossy, one_if},
+    specs.Progress.{waiting_slots, lossy_slots, expiries, AreOpen, acked_at},
+    proofs.{
+      ProgressSteps.{acked, issued, aired, Moves},
+      ProgressLink.{slot_acked, slot_issued, aired_unsent, aired_sent},
+      ProgressStart.{ready_t200, ready_moves, ready_due, slot_open, clock_after},
+      ProgressWaits.{WaitsFrom, SlotWay, sends, blocked, counts, slot_way},
+      ProgressRuns.{sound, slotted_in, link_step, counted},
+      ProgressPaid.{acked_in_time, answered_frame, le_of, not_le_of},
+      ProgressExpiries.{repeats, poll_is_i, answer_no_i, i_parts, loss_of, true-false, owes_ready, waits_at, awaits_differs, awaits_same},
+    },
+  },
+}
+
+-- B: in how many of these slots this link sends an answer though the frame that awaits an answer is due
+abbrev pub answers_first : (run : Run) (slot : ℕ) (role : Role) → Bool
+answers_first r n role = is_due (ready_at r n role) && not (is_i_frame (frame_at r n role))
+
+abbrev pub answering_slots : (run : Run) (first slots : ℕ) (role : Role) → ℕ
+answering_slots r n zero role = 0
+answering_slots r n (suc k) role = answering_slots r n k role + one_if (answers_first r (n + k) role)
+
+pub open_awaits : (e : EndpointState) → e.state ≡ Open → awaits_answer e ≡ awaits_ack e
+open_awaits e o = grind (arith, o)
+
+pub due_clock : (m : LinkState) → is_due m ≡ true → (m.clock ≡ 0) × (awaits_answer m.endpoint ≡ true)
+due_clock m h = (grind (arith, h), grind (arith, h))
+
+not_due : (m : LinkState) → is_due m ≡ false → awaits_answer m.endpoint ≡ true → 1 ≤ m.clock
+not_due m h w = grind (arith, h, w)
+
+ack_none : (l : LinkState) → awaits_ack l.endpoint ≡ false → issued l ≡ acked l
+ack_none l w = grind (arith, w)
+
+ack_one : (l : LinkState) → awaits_ack l.endpoint ≡ true → acked l ≤ issued l → issued l ≤ acked l + 1 →
+    issued l ≡ acked l + 1
+ack_one l w a b = grind (arith, w)
+
+some_loss : (a b : Bool) → a ≡ true → (a || b) ≡ true
+some_loss a b h = rw h refl
+
+other_loss : (a b : Bool) → b ≡ true → (a || b) ≡ true
+other_loss true b h = refl
+other_loss false b h = h
+
+pub open_closed : Open ≡ Closed → ⊥
+open_closed h = cc
+
+eq_of : (a b : ℕ) → nat_eq a b ≡ true → a ≡ b
+eq_of a b h = grind (arith, h)
+
+above : (a b : ℕ) → b ≤ a → nat_eq a b ≡ false → b + 1 ≤ a
+above a b h e = grind (arith, e)
+
+no_ack : (l : LinkState) → issued l ≡ acked l → awaits_ack l.endpoint ≡ false
+no_ack l e = grind (arith, e)
+
+pub times_next : (k a b : ℕ) → a + 1 ≤ b → k * a + k ≤ k * b
+times_next k a b h =
+    let e : (a + 1) + (b - (a + 1)) ≡ b = omega (arith, h) in
+    let f : k * b ≡ k * (a + 1) + k * (b - (a + 1)) = ap (λ x. k * x) (sym e) ∙ mul-add k (a + 1) (b - (a + 1)) in
+    omega (arith, f, mul-add k a 1, mul-one k)
+
+pub times_le : (k a b : ℕ) → a ≤ b → k * a ≤ k * b
+times_le k a b h =
+    let e : a + (b - a) ≡ b = omega (arith, h) in
+    let f : k * b ≡ k * a + k * (b - a) = ap (λ x. k * x) (sym e) ∙ mul-add k a (b - a) in
+    omega (arith, f)
+
+pub cost : (t a b : ℕ) → t * (a + b + 1) ≡ t * (a + 1) + t * b
+cost t a b = let e : a + b + 1 ≡ (a + 1) + b = omega arith in rw e (mul-add t (a + 1) b)
+
+apart : (a n : ℕ) → suc a ≤ suc n → nat_eq a n ≡ false → suc a ≤ n
+apart a n h e = grind (arith, e)
+
+lossy_by : (r : Run) (n : ℕ) (role : Role) → is_loss_at r n role ≡ true → is_lossy r n ≡ true
+lossy_by r n Mobile h = some_loss (is_loss_at r n Mobile) (is_loss_at r n Network) h
+lossy_by r n Network h = other_loss (is_loss_at r n Mobile) (is_loss_at r n Network) h
+
+clock_within : (r : Run) → IsWithoutRelease r → (role : Role) (n : ℕ) → (link_at r n role).clock ≤ r.t200
+clock_within r u Mobile zero = omega arith
+clock_within r u Network zero = omega arith
+clock_within r u role (suc n) = by_slot (clock_after role (arriving_at r n role) (turn_at r n role).calls (link_at r n role)
+    ((sound r u n).good role).sapi (u n role)) (clock_within r u role n)
+  where
+    by_slot : ((slot_outcome (ready_at r n role)).link.clock ≤ (link_at r n role).clock)
+        ⊎ ((slot_outcome (ready_at r n role)).link.clock ≡ (ready_at r n role).t200) → (link_at r n role).clock ≤ r.t200 →
+        (link_at r (suc n) role).clock ≤ r.t200
+    by_slot (inl h) before = omega (arith, ap (λ l. l.clock) (link_step r n role), h, before)
+    by_slot (inr e) before = omega (
+      arith,
+      ap (λ l. l.clock) (link_step r n role),
+      e,
+      ready_t200 role (arriving_at r n role) (turn_at r n role).calls (link_at r n role) ((sound r u n).good role)
+          ((sound r u n).settled role).owes ((sound r u n).idle role) (u n role),
+      (sound r u n).t200 role,
+    )
+
+module _ (r : Run) (u : IsWithoutRelease r) (long : round_trip r.delay ≤ r.t200) (n0 : ℕ) (role : Role) where
+  abbrev pub L : ℕ → LinkState
+  L n = link_at r n role
+
+  abbrev pub M : ℕ → LinkState
+  M n = ready_at r n role
+
+  -- the link sent its I frame in this slot, and neither that block nor, so far, the one with the answer was lost
+  pub record Going (n : ℕ) : Type 0 where
+    pub slot : ℕ
+    pub since : ℕ
+    pub start : n0 ≤ slot
+    pub now : suc slot + since ≡ n
+    pub sent : is_i_frame (frame_at r slot role) ≡ true
+    pub arrives : (turn_at r slot role).is_lost ≡ false
+    pub returns : suc (suc slot + r.delay) ≤ n → (turn_at r (suc slot + r.delay) (other role)).is_lost ≡ false
+    pub same : acked (L (suc slot)) ≡ acked (L n)
+    pub time : (L n).clock + since ≡ r.t200
+    pub early : since ≤ 1 + 2 * r.delay
+    pub awaits : awaits_ack (L n).endpoint ≡ true
+    pub is_sent : (L n).is_sent ≡ true
+
+  -- where a link stands before a slot: how many slots it may still wait that a loss has paid, and how many it has waited in this sending
+  pub data Stage (n paid used : ℕ) : Type 0 where
+    quiet : paid ≡ 0 → used ≡ 0 → awaits_ack (L n).endpoint ≡ false → Stage n paid used
+    unsent : paid ≡ 0 → used ≡ 0 → (L n).is_sent ≡ false → Stage n paid used
+    failed : paid ≡ (L n).clock - 1 → used ≡ 0 → Stage n paid used
+    going : (g : Going n) → paid ≡ 0 → used ≡ g.since + 1 → Stage n paid used
+
+  -- 1 if the present sending is lost, and T200 has not expired yet
+  abbrev pub pending : {n paid used : ℕ} → Stage n paid used → ℕ
+  pending (quiet p q a) = 0
+  pending (unsent p q a) = 0
+  pending (failed p q) = 1
+  pending (going g p q) = 0
+
+  -- the bounds hold in a slot
+  pub record Next (n paid used left : ℕ) : Type 0 where
+    pub paid_next : ℕ
+    pub used_next : ℕ
+    pub stage : Stage (suc n) paid_next used_next
+    pub bound : one_if (awaits_answer (M n).endpoint) + paid_next + round_trip r.delay * acked (L n) + used
+        ≤ round_trip r.delay * acked (L (suc n)) + r.t200 * one_if (is_lossy r n) + one_if (answers_first r n role) + used_next + paid
+    pub repays : one_if (is_repetition (frame_at r n role)) + pending stage ≤ one_if (is_lossy r n) + left
+
+  -- the links are open before slot n, and since the first slot
+  module _ (n : ℕ) (first : n0 ≤ n)
+      (opened : (k : ℕ) → n0 ≤ k → k ≤ suc n → (q : Role) → (link_at r k q).endpoint.state ≡ Open)
+    where
+      out_open : (slot_outcome (M n)).link.endpoint.state ≡ Open
+      out_open = ap (λ l. l.endpoint.state) (sym (link_step r n role)) ∙ opened (suc n) (omega (arith, first)) (omega arith) role
+
+      m_open : (M n).endpoint.state ≡ Open
+      m_open = slot_open (M n) out_open
+
+      m_acked : acked (L (suc n)) ≡ acked (M n)
+      m_acked = ap acked (link_step r n role) ∙ slot_acked (M n)
+
+      m_issued : issued (L (suc n)) ≡ issued (M n)
+      m_issued = ap issued (link_step r n role) ∙ slot_issued (M n)
+
+      m_moves : Moves (L n) (M n)
+      m_moves = ready_moves role (arriving_at r n role) (turn_at r n role).calls (L n) ((sound r u n).good role)
+          ((sound r u n).settled role).owes ((sound r u n).idle role) (u n role)
+
+      m_t200 : (M n).t200 ≡ r.t200
+      m_t200 = ready_t200 role (arriving_at r n role) (turn_at r n role).calls (L n) ((sound r u n).good role)
+          ((sound r u n).settled role).owes ((sound r u n).idle role) (u n role) ∙ (sound r u n).t200 role
+
+      m_due : (M n).is_sent ≡ false → (M n).clock ≡ 0
+      m_due = ready_due role (arriving_at r n role) (turn_at r n role).calls (L n) ((sound r u n).good role).sapi (u n role)
+          ((sound r u n).settled role)
+
+      up : acked (L n) ≤ acked (L (suc n))
+      up = (slotted_in r u n role).moves.acked_up
+
+      -- a sending that goes on is not answered later than in the round trip
+      in_time : (g : Going n) → acked (L (suc n)) ≡ acked (L n) → g.since ≤ 2 * r.delay
+      in_time g stays = by_since (nat_le g.since (2 * r.delay)) refl
+        where
+          back : ℕ
+          back = suc g.slot + r.delay
+
+          late : 1 + 2 * r.delay ≤ g.since → suc back + r.delay ≡ n
+          late h = omega (arith, h, g.early, g.now)
+
+          by_since : (b : Bool) → nat_le g.since (2 * r.delay) ≡ b → g.since ≤ 2 * r.delay
+          by_since true e = le_of g.since (2 * r.delay) e
+          by_since false e = absurd (omega (arith, acked_late, stays, g.same))
+            where
+              h : suc back + r.delay ≡ n
+              h = late (omega (arith, not_le_of g.since (2 * r.delay) e))
+
+              x : (f : Frame) × (frame_at r g.slot role ≡ Some f) × (ns : ℕ) × (nr : ℕ) × (p : Bool)
+                  × (more : Bool) × (info : List ℕ) × (f.content ≡ I ns nr p more info)
+              x = i_parts (frame_at r g.slot role) g.sent
+
+              open_back : (link_at r back (other role)).endpoint.state ≡ Open
+              open_back = opened back (omega (arith, g.start)) (omega (arith, h)) (other role)
+
+              closed_open : (link_at r (suc back) (other role)).endpoint.state ≢ Closed
+              closed_open e = open_closed (sym (opened (suc back) (omega (arith, g.start)) (omega (arith, h)) (other role)) ∙ e)
+
+              acked_back : acked (L (suc g.slot)) + 1 ≤ acked (L (suc (suc back + r.delay)))
+              acked_back = acked_in_time r u g.slot role x.0 x.2 x.3 x.4 x.5 x.6 x.1 x.7 g.arrives open_back closed_open
+                  (g.returns (omega (arith, h))) (opened (suc back + r.delay) (omega (arith, g.start)) (omega (arith, h)) role)
+
+              acked_late : acked (L (suc g.slot)) + 1 ≤ acked (L (suc n))
+              acked_late = rw (← h) acked_back
+
+      -- it is not due while it goes on
+      not_yet : (g : Going n) → is_due (M n) ≡ true → acked (L (suc n)) ≡ acked (L n) → ⊥
+      not_yet g due stays = by_sent (M n).is_sent refl
+        where
+          w : awaits_ack (M n).endpoint ≡ true
+          w = sym (open_awaits (M n).endpoint m_open) ∙ (due_clock (M n) due).1
+
+          by_sent : (b : Bool) → (M n).is_sent ≡ b → ⊥
+          by_sent true s =
+              let x = waits_at r u role n w s in
+              omega (arith, x.3, (due_clock (M n) due).0, g.time, in_time g stays, long)
+          by_sent false s =
+              let one : aired (L n) ≡ issued (L n) = aired_sent (L n) (issued (L n)) g.is_sent refl in
+              let two : issued (L n) ≡ acked (L n) + 1 =
+              ack_one (L n) g.awaits ((sound r u n).good role).low ((sound r u n).good role).window in
+              omega (arith, one, two, m_moves.aired_up, aired_unsent (M n) s, m_acked, stays)
+
+      -- what was used is paid by a segment, unless the sending goes on
+      product : round_trip r.delay * acked (L n) ≤ round_trip r.delay * acked (L (suc n))
+      product = times_le (round_trip r.delay) (acked (L n)) (acked (L (suc n))) up
+
+      settle : (paid used : ℕ) → Stage n paid used → ((g : Going n) → acked (L (suc n)) ≡ acked (L n) → ⊥) →
+          round_trip r.delay * acked (L n) + used ≤ round_trip r.delay * acked (L (suc n))
+      settle paid used (quiet p q w) ends = omega (arith, q, product)
+      settle paid used (unsent p q w) ends = omega (arith, q, product)
+      settle paid used (failed p q) ends = omega (arith, q, product)
+      settle paid used (going g p q) ends = by_acked (nat_eq (acked (L (suc n))) (acked (L n))) refl
+        where
+          by_acked : (b : Bool) → nat_eq (acked (L (suc n))) (acked (L n)) ≡ b →
+              round_trip r.delay * acked (L n) + used ≤ round_trip r.delay * acked (L (suc n))
+          by_acked true e = absurd (ends g (eq_of (acked (L (suc n))) (acked (L n)) e))
+          by_acked false e =
+              let more : acked (L n) + 1 ≤ acked (L (suc n)) = above (acked (L (suc n))) (acked (L n)) up e in
+              let next : round_trip r.delay * acked (L n) + round_trip r.delay ≤ round_trip r.delay * acked (L (suc n)) =
+              times_next (round_trip r.delay) (acked (L n)) (acked (L (suc n))) more in
+              omega (arith, next, q, g.early)
+
+      -- ---- a repetition
+
+      no_repetition : (is_repetition (frame_at r n role) ≡ true → ⊥) → one_if (is_repetition (frame_at r n role)) ≡ 0
+      no_repetition ends = by_frame (is_repetition (frame_at r n role)) refl
+        where
+          by_frame : (b : Bool) → is_repetition (frame_at r n role) ≡ b → one_if (is_repetition (frame_at r n role)) ≡ 0
+          by_frame true e = absurd (ends e)
+          by_frame false e = ap one_if e
+
+      -- the link that repeats its I frame had sent it, and its clock is over
+      repeating : is_repetition (frame_at r n role) ≡ true →
+          ((M n).is_sent ≡ true) × ((M n).clock ≡ 0) × (awaits_answer (M n).endpoint ≡ true)
+      repeating h = let x = repeats (M n) (owes_ready r u role n) h in (x.0, x.2, open_awaits (M n).endpoint m_open ∙ x.3)
+
+      -- the sending before it was lost
+      was_failed : (paid used : ℕ) (s : Stage n paid used) → is_due (M n) ≡ true → (M n).is_sent ≡ true → pending s ≡ 1
+      was_failed paid used s due sent = by_stage s
+        where
+          x : (awaits_ack (L n).endpoint ≡ true) × ((L n).is_sent ≡ true) × (acked (M n) ≡ acked (L n))
+              × ((M n).clock ≡ (L n).clock - 1)
+          x = waits_at r u role n (sym (open_awaits (M n).endpoint m_open) ∙ (due_clock (M n) due).1) sent
+
+          by_stage : (s : Stage n paid used) → pending s ≡ 1
+          by_stage (quiet p q a) = absurd (true-false (sym x.0 ∙ a))
+          by_stage (unsent p q a) = absurd (true-false (sym x.1 ∙ a))
+          by_stage (failed p q) = refl
+          by_stage (going g p q) = absurd (not_yet g due (m_acked ∙ x.2))
+
+      repeats_failed : (paid used : ℕ) (s : Stage n paid used) → is_due (M n) ≡ true →
+          one_if (is_repetition (frame_at r n role)) ≤ pending s
+      repeats_failed paid used s due = by_frame (is_repetition (frame_at r n role)) refl
+        where
+          by_frame : (b : Bool) → is_repetition (frame_at r n role) ≡ b → one_if (is_repetition (frame_at r n role)) ≤ pending s
+          by_frame true e = omega (arith, ap one_if e, was_failed paid used s due (repeating e).0)
+          by_frame false e = omega (arith, ap one_if e)
+
+      -- ---- the ways of a slot
+
+      -- it awaits nothing
+      rests : (paid used : ℕ) (s : Stage n paid used) → awaits_answer (M n).endpoint ≡ false → Next n paid used (pending s)
+      rests paid used s w = record {
+        paid_next = 0;
+        used_next = 0;
+        stage = quiet refl refl later;
+        bound = omega (arith, ap one_if w, settle paid used s ends);
+        repays = omega (arith, no_repetition (λ h. true-false (sym (repeating h).2 ∙ w)));
+      }
+        where
+          none : issued (M n) ≡ acked (M n)
+          none = ack_none (M n) (sym (open_awaits (M n).endpoint m_open) ∙ w)
+
+          later : awaits_ack (L (suc n)).endpoint ≡ false
+          later = no_ack (L (suc n)) (m_issued ∙ none ∙ sym m_acked)
+
+          ends : (g : Going n) → acked (L (suc n)) ≡ acked (L n) → ⊥
+          ends g stays =
+              let one : aired (L n) ≡ issued (L n) = aired_sent (L n) (issued (L n)) g.is_sent refl in
+              let two : issued (L n) ≡ acked (L n) + 1 =
+              ack_one (L n) g.awaits ((sound r u n).good role).low ((sound r u n).good role).window in
+              omega (
+                arith,
+                one,
+                two,
+                (slotted_in r u n role).moves.aired_up,
+                (counted r u).aired_issued role (suc n),
+                m_issued,
+                none,
+                m_acked,
+                stays,
+              )
+
+      -- its frame is due, and it sends it
+      starts : (paid used : ℕ) (s : Stage n paid used) → is_due (M n) ≡ true → is_i_frame (frame_at r n role) ≡ true →
+          (L (suc n)).is_sent ≡ true → (L (suc n)).clock ≡ r.t200 → (b : Bool) → (turn_at r n role).is_lost ≡ b →
+          Next n paid used (pending s)
+      starts paid used s due i sent c true lost = record {
+        paid_next = r.t200 - 1;
+        used_next = 0;
+        stage = failed (rw c refl) refl;
+        bound = omega (
+          arith,
+          ap one_if (due_clock (M n) due).1,
+          settle paid used s (λ g. not_yet g due),
+          ap one_if (lossy lost),
+          mul-one r.t200,
+          ap (λ k. r.t200 * k) (ap one_if (lossy lost)),
+          long,
+        );
+        repays = omega (arith, repeats_failed paid used s due, ap one_if (lossy lost));
+      }
+        where
+          lossy : (turn_at r n role).is_lost ≡ true → is_lossy r n ≡ true
+          lossy e =
+              let x = i_parts (frame_at r n role) i in
+              lossy_by r n role (loss_of (turn_at r n role).is_lost (frame_at r n role) x.0 x.1 e)
+      starts paid used s due i sent c false kept = record {
+        paid_next = 0;
+        used_next = 1;
+        stage = going (record {
+          slot = n;
+          since = 0;
+          start = first;
+          now = omega arith;
+          sent = i;
+          arrives = kept;
+          returns = λ h. absurd (omega (arith, h));
+          same = refl;
+          time = omega (arith, c);
+          early = omega arith;
+          awaits = awaits_same r u role (L (suc n)) (M n) (sym m_acked) (sym m_issued) w;
+          is_sent = sent;
+        }) refl refl;
+        bound = omega (arith, ap one_if (due_clock (M n) due).1, settle paid used s (λ g. not_yet g due));
+        repays = omega (arith, repeats_failed paid used s due);
+      }
+        where
+          w : awaits_ack (M n).endpoint ≡ true
+          w = sym (open_awaits (M n).endpoint m_open) ∙ (due_clock (M n) due).1
+
+      answers_it : is_due (M n) ≡ true → is_i_frame (frame_at r n role) ≡ false → answers_first r n role ≡ true
+      answers_it due i = rw (due, i) refl
+
+      no_poll : is_i_frame (frame_at r n role) ≡ false → is_repetition (frame_at r n role) ≡ true → ⊥
+      no_poll i h = true-false (sym (poll_is_i (frame_at r n role) h) ∙ i)
+
+      -- its frame is due, and an answer goes first
+      yields : (paid used : ℕ) (s : Stage n paid used) → is_due (M n) ≡ true → is_i_frame (frame_at r n role) ≡ false →
+          (L (suc n)).is_sent ≡ (M n).is_sent → (L (suc n)).clock ≡ (M n).clock → (b : Bool) → (M n).is_sent ≡ b →
+          Next n paid used (pending s)
+      yields paid used s due i sent c true e = record {
+        paid_next = 0;
+        used_next = 0;
+        stage = failed (omega (arith, c, (due_clock (M n) due).0)) refl;
+        bound = omega (arith, ap one_if (due_clock (M n) due).1, settle paid used s (λ g. not_yet g due), ap one_if (answers_it due i));
+        repays = omega (arith, no_repetition (no_poll i), was_failed paid used s due e);
+      }
+      yields paid used s due i sent c false e = record {
+        paid_next = 0;
+        used_next = 0;
+        stage = unsent refl refl (sent ∙ e);
+        bound = omega (arith, ap one_if (due_clock (M n) due).1, settle paid used s (λ g. not_yet g due), ap one_if (answers_it due i));
+        repays = omega (arith, no_repetition (no_poll i));
+      }
+
+      -- its frame is not due, and its clock counts
+      module _ (w : awaits_answer (M n).endpoint ≡ true) (due : is_due (M n) ≡ false) (keeps : (L (suc n)).is_sent ≡ (M n).is_sent)
+          (runs : (L (suc n)).clock ≡ (M n).clock)
+        where
+          ticks : 1 ≤ (M n).clock
+          ticks = not_due (M n) due w
+
+          m_sent : (b : Bool) → (M n).is_sent ≡ b → (M n).is_sent ≡ true
+          m_sent true e = e
+          m_sent false e = absurd (omega (arith, ticks, m_due e))
+
+          m_awaits : awaits_ack (M n).endpoint ≡ true
+          m_awaits = sym (open_awaits (M n).endpoint m_open) ∙ w
+
+          x : (awaits_ack (L n).endpoint ≡ true) × ((L n).is_sent ≡ true) × (acked (M n) ≡ acked (L n))
+              × ((M n).clock ≡ (L n).clock - 1)
+          x = waits_at r u role n m_awaits (m_sent _ refl)
+
+          stays : acked (L (suc n)) ≡ acked (L n)
+          stays = m_acked ∙ x.2
+
+          goes_on : (g : Going n) →
+              (suc (suc g.slot + r.delay) ≤ suc n → (turn_at r (suc g.slot + r.delay) (other role)).is_lost ≡ false) →
+              (h : Going (suc n)) × (h.since ≡ g.since + 1)
+          goes_on g returns = (
+            record {
+              slot = g.slot;
+              since = g.since + 1;
+              start = g.start;
+              now = omega (arith, g.now);
+              sent = g.sent;
+              arrives = g.arrives;
+              returns = returns;
+              same = g.same ∙ sym stays;
+              time = omega (arith, g.time, runs, ticks, x.3);
+              early = omega (arith, in_time g stays);
+              awaits = awaits_same r u role (L (suc n)) (M n) (sym m_acked) (sym m_issued) m_awaits;
+              is_sent = keeps ∙ m_sent _ refl;
+            },
+            refl,
+          )
+
+          silent : one_if (is_repetition (frame_at r n role)) ≡ 0
+          silent = no_repetition (λ h. absurd (omega (arith, ticks, (repeating h).1)))
+
+          goes : (paid used left : ℕ) (g : Going n) → used ≡ g.since + 1 → (h : Going (suc n)) × (h.since ≡ g.since + 1) →
+              Next n paid used left
+          goes paid used left g q (h, e) = record {
+            paid_next = 0;
+            used_next = h.since + 1;
+            stage = going h refl refl;
+            bound = omega (arith, ap one_if w, product, q, e);
+            repays = omega (arith, silent);
+          }
+
+          back_lost : (paid used left : ℕ) (g : Going n) → paid ≡ 0 → used ≡ g.since + 1 → suc g.slot + r.delay ≡ n →
+              is_lossy r n ≡ true → Next n paid used left
+          back_lost paid used left g p q at_n lossy = record {
+            paid_next = (L (suc n)).clock - 1;
+            used_next = 0;
+            stage = failed refl refl;
+            bound = omega (
+              arith,
+              ap one_if w,
+              product,
+              q,
+              g.time,
+              g.now,
+              at_n,
+              runs,
+              ticks,
+              x.3,
+              ap (λ k. r.t200 * one_if k) lossy,
+              mul-one r.t200,
+            );
+            repays = omega (arith, silent, ap one_if lossy);
+          }
+
+          loss_there : (g : Going n) → suc g.slot + r.delay ≡ n → (turn_at r (suc g.slot + r.delay) (other role)).is_lost ≡ true →
+              is_lossy r n ≡ true
+          loss_there g at_n lost =
+              let f = i_parts (frame_at r g.slot role) g.sent in
+              let answer = answered_frame r u g.slot role f.0 f.2 f.3 f.4 f.5 f.6 f.1 f.7 g.arrives
+              (opened (suc g.slot + r.delay) (omega (arith, g.start)) (omega (arith, at_n)) (other role))
+              (λ e. open_closed (sym (opened (suc (suc g.slot + r.delay)) (omega (arith, g.start)) (omega (arith, at_n))
+              (other role)) ∙ e)) in
+              rw at_n at (lossy_by r (suc g.slot + r.delay) (other role)
+              (loss_of (turn_at r (suc g.slot + r.delay) (other role)).is_lost (frame_at r (suc g.slot + r.delay) (other role)) answer.0
+              answer.1 lost))
+
+          going_on : (paid used left : ℕ) (g : Going n) → paid ≡ 0 → used ≡ g.since + 1 → (b : Bool) →
+              nat_eq (suc g.slot + r.delay) n ≡ b →
+              (c : Bool) → (turn_at r (suc g.slot + r.delay) (other role)).is_lost ≡ c → Next n paid used left
+          going_on paid used left g p q true e true lost =
+              let at_n : suc g.slot + r.delay ≡ n = eq_of (suc g.slot + r.delay) n e in
+              back_lost paid used left g p q at_n (loss_there g at_n lost)
+          going_on paid used left g p q b e false kept =
+              goes paid used left g q (goes_on g (λ late. kept))
+          going_on paid used left g p q false e true lost =
+              goes paid used left g q (goes_on g (λ late. g.returns (apart (suc g.slot + r.delay) n late e)))
+
+          ticking : (paid used : ℕ) (s : Stage n paid used) → Next n paid used (pending s)
+          ticking paid used (quiet p q a) = absurd (true-false (sym x.0 ∙ a))
+          ticking paid used (unsent p q s) = absurd (true-false (sym x.1 ∙ s))
+          ticking paid used (failed p q) = record {
+            paid_next = (L (suc n)).clock - 1;
+            used_next = 0;
+            stage = failed refl refl;
+            bound = omega (arith, ap one_if w, product, p, q, runs, ticks, x.3);
+            repays = omega (arith, silent);
+          }
+          ticking paid used (going g p q) = going_on paid used 0 g p q _ refl _ refl
+
+      -- the slot
+      next : (paid used : ℕ) (s : Stage n paid used) → Next n paid used (pending s)
+      next paid used s = by_awaits (awaits_answer (M n).endpoint) refl
+        where
+          by_way : awaits_answer (M n).endpoint ≡ true → SlotWay (M n) → Next n paid used (pending s)
+          by_way w (sends d i t c) = starts paid used s d i (ap (λ l. l.is_sent) (link_step r n role) ∙ t)
+              (ap (λ l. l.clock) (link_step r n role) ∙ c ∙ m_t200) (turn_at r n role).is_lost refl
+          by_way w (blocked x a k d f t c) =
+              yields paid used s d (ap is_i_frame f ∙ answer_no_i (M n) (M n).answer (owes_ready r u role n))
+              (ap (λ l. l.is_sent) (link_step r n role) ∙ t) (ap (λ l. l.clock) (link_step r n role) ∙ c) (M n).is_sent refl
+          by_way w (counts d t c) = ticking w d (ap (λ l. l.is_sent) (link_step r n role) ∙ t)
+              (ap (λ l. l.clock) (link_step r n role) ∙ c) paid used s
+
+          by_awaits : (b : Bool) → awaits_answer (M n).endpoint ≡ b → Next n paid used (pending s)
+          by_awaits true w = by_way w (slot_way (M n) m_open out_open)
+          by_awaits false w = rests paid used s w
+
+  -- ---- all slots
+
+  pub record Total (k m : ℕ) : Type 0 where
+    pub paid : ℕ
+    pub used : ℕ
+    pub stage : Stage m paid used
+    pub bound : waiting_slots r n0 k role + paid + round_trip r.delay * acked (L n0)
+        ≤ round_trip r.delay * acked (L m) + r.t200 * (lossy_slots r n0 k + 1) + answering_slots r n0 k role + used
+    pub repays : expiries r n0 k role + pending stage ≤ lossy_slots r n0 k + 1
+
+  at_start : Total 0 n0
+  at_start = record {
+    paid = (L n0).clock - 1;
+    used = 0;
+    stage = failed refl refl;
+    bound = omega (arith, clock_within r u role n0, mul-one r.t200);
+    repays = omega arith;
+  }
+
+  one_more : (k : ℕ) (t : Total k (n0 + k)) → Next (n0 + k) t.paid t.used (pending t.stage) → Total (suc k) (suc (n0 + k))
+  one_more k t x = record {
+    paid = x.paid_next;
+    used = x.used_next;
+    stage = x.stage;
+    bound = omega (arith, t.bound, x.bound, cost r.t200 (lossy_slots r n0 k) (one_if (is_lossy r (n0 + k))));
+    repays = omega (arith, t.repays, x.repays);
+  }
+
+  total : (k : ℕ) → AreOpen r n0 k → Total k (n0 + k)
+  total zero o = let e : n0 + 0 ≡ n0 = omega arith in rw e at_start
+  total (suc k) o =
+      let e : n0 + suc k ≡ suc (n0 + k) = omega arith in
+      let t = total k (λ j h q. o j (omega (arith, h)) q) in
+      rw e (one_more k t (next (n0 + k) (omega arith) (λ j a b q. open_at j a b q) t.paid t.used t.stage))
+    where
+      open_at : (j : ℕ) → n0 ≤ j → j ≤ suc (n0 + k) → (q : Role) → (link_at r j q).endpoint.state ≡ Open
+      open_at j a b q = let e : n0 + (j - n0) ≡ j = omega (arith, a) in rw e at (o (j - n0) (omega (arith, b)) q)
+
+  used_at_most : (m paid used : ℕ) → Stage m paid used → used ≤ round_trip r.delay
+  used_at_most m paid used (quiet p q w) = omega (arith, q)
+  used_at_most m paid used (unsent p q w) = omega (arith, q)
+  used_at_most m paid used (failed p q) = omega (arith, q)
+  used_at_most m paid used (going g p q) = omega (arith, q, g.early)
+
+  pub waits_at_most : (k : ℕ) → AreOpen r n0 k → waiting_slots r n0 k role + round_trip r.delay * acked_at r n0 role
+      ≤ round_trip r.delay * (acked_at r (n0 + k) role + 1) + r.t200 * (lossy_slots r n0 k + 1) + answering_slots r n0 k role
+  waits_at_most k o =
+      let t = total k o in
+      omega (
+        arith,
+        t.bound,
+        used_at_most (n0 + k) t.paid t.used t.stage,
+        mul-add (round_trip r.delay) (acked_at r (n0 + k) role) 1,
+        mul-one (round_trip r.delay),
+      )
+
+  pub repeats_at_most : (k : ℕ) → AreOpen r n0 k → expiries r n0 k role ≤ lossy_slots r n0 k + 1
+  repeats_at_most k o = omega (arith, (total k o).repays)

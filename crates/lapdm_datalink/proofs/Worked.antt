@@ -1,0 +1,72 @@
+-- Worked runs of the links of SAPI 0: the bound is reached, and it fails where T200 is shorter than the round trip or differs.
+use Rattle.{
+  std.specs.Prelude.{◌≡◌, refl, ℕ, zero, suc, true, false, List, [], ◌∷◌, ◌++◌, replicate, get_or},
+  lapdm_frame.specs.declared.Channel.TheVariants.Sdcch,
+  lapdm_end.specs.lapdm_window.{declared.State.TheVariants.{Open, Closed}, Ends.{Mobile, Network}, Calls.{Call, Opens, Sends}},
+  lapdm_datalink.specs.{Channels.{Run, Slot}, Progress.{link_at, waiting_slots, lossy_slots}},
+}
+
+-- slots without a call: nothing is lost, the mobile's block is lost, or the network's
+abbrev plain : Slot
+plain = record { mobile = record { calls = []; is_lost = false }; network = record { calls = []; is_lost = false } }
+
+abbrev loses_up : Slot
+loses_up = record plain { mobile = record { calls = []; is_lost = true } }
+
+abbrev loses_down : Slot
+loses_down = record plain { network = record { calls = []; is_lost = true } }
+
+-- the slot with a call of the mobile, or of the network
+abbrev mobile_asks : Call → Slot → Slot
+mobile_asks call s = record s { mobile = record s.mobile { calls = call ∷ [] } }
+
+abbrev network_asks : Call → Slot → Slot
+network_asks call s = record s { network = record s.network { calls = call ∷ [] } }
+
+-- the run with these slots and then plain ones, without a delay
+abbrev run_of : (t200 : ℕ) (slots : List Slot) → Run
+run_of t slots = record { delay = 0; t200 = t; channel = Sdcch; slot = λ n. get_or slots n plain }
+
+-- the mobile establishes, and sends a message of two segments: a round trip of two slots for each of the three frames
+abbrev quiet : Run
+quiet = run_of 2 (mobile_asks (Opens (1 ∷ [])) plain ∷ plain ∷ mobile_asks (Sends (replicate 21 9)) plain ∷ [])
+
+quiet_waits : waiting_slots quiet 0 7 Mobile ≡ 6
+quiet_waits = refl
+
+-- the first I frame is lost, and then the answer to its repetition: each loss costs T200, and no more slots are waited than the bound says
+abbrev lossy : Run
+lossy = run_of 2
+    (mobile_asks (Opens (1 ∷ [])) plain ∷ plain ∷ mobile_asks (Sends (replicate 21 9)) loses_up ∷ plain ∷ plain ∷ loses_down
+    ∷ [])
+
+lossy_waits : waiting_slots lossy 0 14 Mobile ≡ 10
+lossy_waits = refl
+
+lossy_losses : lossy_slots lossy 0 14 ≡ 2
+lossy_losses = refl
+
+-- the network's I frame waits for its UA: the bound is reached, 2 times 1 and one slot more
+abbrev early : Run
+early = run_of 2 (mobile_asks (Opens (1 ∷ [])) plain ∷ network_asks (Sends (5 ∷ [])) plain ∷ [])
+
+early_waits : waiting_slots early 0 6 Network ≡ 3
+early_waits = refl
+
+-- six lost SABMs, and the mobile gives up; after five it does not
+abbrev loses : ℕ → List Slot
+loses zero = []
+loses (suc n) = loses_up ∷ plain ∷ loses n
+
+abbrev sabms_lost : ℕ → Run
+sabms_lost n = run_of 2 (mobile_asks (Opens (1 ∷ [])) loses_up ∷ plain ∷ loses n)
+
+gives_up : (link_at (sabms_lost 5) 13 Mobile).endpoint.state ≡ Closed
+gives_up = refl
+
+holds_on : (link_at (sabms_lost 4) 13 Mobile).endpoint.state ≡ Open
+holds_on = refl
+
+-- T200 of one slot is less than the round trip: the SABM is repeated without a loss
+hasty : (link_at (run_of 1 (mobile_asks (Opens (1 ∷ [])) plain ∷ [])) 2 Mobile).endpoint.retries ≡ 1
+hasty = refl

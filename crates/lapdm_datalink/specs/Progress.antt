@@ -1,0 +1,137 @@
+-- Progress: how long a link of SAPI 0 waits for answers, and what each expiry of T200 costs the channel. These are this project's own
+-- statements; the standard has none.
+use Rattle.std.specs.Prelude.{◌≡◌, ◌≢◌, ℕ, zero, suc, ◌+◌, ◌*◌, ◌≤◌, Bool, true, false, ◌||◌, ◌⊎◌}
+use Rattle.std.specs.Prelude.{List, Option, Some, None, All}
+use Rattle.lapdm_frame.specs.Content.{Content, I, Frame}
+use Rattle.lapdm_end.specs.lapdm_window.declared.State.TheVariants.{Open}
+use Rattle.lapdm_end.specs.lapdm_window.Ends.{Role, Mobile, Network, awaits_answer}
+use Rattle.lapdm_link.specs.Events.{other}
+use Rattle.lapdm_end.specs.lapdm_window.Rules.{is_open}
+use Rattle.lapdm_datalink.specs.Links.{LinkState, is_closed, slot_outcome, after_slot, after_frame}
+use Rattle.lapdm_datalink.specs.DataLinks.{DataLinkState, data_link_outcome, after_arrival}
+use Rattle.lapdm_datalink.specs.Channels.{Run, Slot, Turn, channel_at, side_at, turn_of, before_sending, arriving, IsUse}
+
+-- the round trip in slots: a frame, its answer, and the delay of each
+abbrev pub round_trip : (delay : ℕ) → ℕ
+round_trip d = 2 + 2 * d
+
+-- the link of this role before the slot
+abbrev pub link_at : (run : Run) (slot : ℕ) (role : Role) → LinkState
+link_at r n role = (side_at role (channel_at r n)).link
+
+-- its part of the slot, and what arrives there
+abbrev pub turn_at : (run : Run) (slot : ℕ) (role : Role) → Turn
+turn_at r n role = turn_of role (r.slot n)
+
+abbrev pub arriving_at : (run : Run) (slot : ℕ) (role : Role) → Option Frame
+arriving_at r n role = arriving r.delay (side_at (other role) (channel_at r n))
+
+-- the link in the slot, before it sends
+abbrev pub ready_at : (run : Run) (slot : ℕ) (role : Role) → LinkState
+ready_at r n role = before_sending (arriving_at r n role) (turn_at r n role).calls (link_at r n role)
+
+-- the frame that it sends, if any
+abbrev pub frame_at : (run : Run) (slot : ℕ) (role : Role) → Option Frame
+frame_at r n role = (slot_outcome (ready_at r n role)).frame
+
+-- 1 for true, 0 for false
+abbrev pub one_if : Bool → ℕ
+one_if true = 1
+one_if false = 0
+
+-- W: in how many of these slots this link awaits an answer
+abbrev pub waiting_slots : (run : Run) (first slots : ℕ) (role : Role) → ℕ
+waiting_slots r n zero role = 0
+waiting_slots r n (suc k) role = waiting_slots r n k role + one_if (awaits_answer (ready_at r (n + k) role).endpoint)
+
+-- whether a frame is lost
+abbrev pub is_loss : (is_lost : Bool) (frame : Option Frame) → Bool
+is_loss lost None = false
+is_loss lost (Some f) = lost
+
+abbrev pub is_loss_at : (run : Run) (slot : ℕ) (role : Role) → Bool
+is_loss_at r n role = is_loss (turn_at r n role).is_lost (frame_at r n role)
+
+-- L: in how many of these slots a frame of SAPI 0 is lost
+abbrev pub is_lossy : (run : Run) (slot : ℕ) → Bool
+is_lossy r n = is_loss_at r n Mobile || is_loss_at r n Network
+
+abbrev pub lossy_slots : (run : Run) (first slots : ℕ) → ℕ
+lossy_slots r n zero = 0
+lossy_slots r n (suc k) = lossy_slots r n k + one_if (is_lossy r (n + k))
+
+-- layer 3 releases no link in this run
+abbrev pub IsWithoutRelease : Run → Type 0
+IsWithoutRelease r = (n : ℕ) (role : Role) → All (IsUse role) (turn_at r n role).calls
+
+-- neither side has given the link up before this slot: without a release, a link is closed only then
+abbrev pub NoneGaveUp : (run : Run) (slot : ℕ) → Type 0
+NoneGaveUp r n = (role : Role) → is_closed (link_at r n role).endpoint.state ≡ false
+
+-- whether the frame is an I frame, and whether it is one with P = 1, which repeats another because T200 has expired
+abbrev pub is_i_content : Content → Bool
+is_i_content (I ns nr p more info) = true
+is_i_content other = false
+
+abbrev pub is_i_frame : Option Frame → Bool
+is_i_frame None = false
+is_i_frame (Some f) = is_i_content f.content
+
+abbrev pub is_repeated_content : Content → Bool
+is_repeated_content (I ns nr p more info) = p
+is_repeated_content other = false
+
+abbrev pub is_repetition : Option Frame → Bool
+is_repetition None = false
+is_repetition (Some f) = is_repeated_content f.content
+
+-- The expiry of T200 in this slot is paid by a loss: the link sent the I frame T200 slots ago or earlier, and no I frame since; and that
+-- frame was lost, or the block with its answer, which leaves the other side one delay later, was. (The other side answers if it is open.)
+pub record IsPaid (r : Run) (n : ℕ) (role : Role) : Type 0 where
+  pub slot : ℕ
+  pub before : slot + r.t200 ≤ n
+  pub sent : is_i_frame (frame_at r slot role) ≡ true
+  pub last : (k : ℕ) → suc slot ≤ k → suc k ≤ n → is_i_frame (frame_at r k role) ≡ false
+  pub lost : is_open (link_at r (suc slot + r.delay) (other role)).endpoint.state ≡ true →
+      (is_loss_at r slot role ≡ true) ⊎ (is_loss_at r (suc slot + r.delay) (other role) ≡ true)
+
+-- Each expiry of T200 of an open link is paid by a loss of its own: between two of them the link sends the I frame again.
+abbrev pub PaysForExpiries : Run → Type 0
+PaysForExpiries r =
+    IsWithoutRelease r → round_trip r.delay ≤ r.t200 → (n : ℕ) → ((k : ℕ) → k ≤ n → NoneGaveUp r k) → (role : Role) →
+    is_repetition (frame_at r n role) ≡ true → IsPaid r n role
+
+-- ---- how long a link waits
+
+-- in how many of these slots this link repeats its I frame, because T200 has expired
+abbrev pub expiries : (run : Run) (first slots : ℕ) (role : Role) → ℕ
+expiries r n zero role = 0
+expiries r n (suc k) role = expiries r n k role + one_if (is_repetition (frame_at r (n + k) role))
+
+-- both links are open before each of these slots and after the last
+abbrev pub AreOpen : (run : Run) (first slots : ℕ) → Type 0
+AreOpen r n k = (j : ℕ) → j ≤ k → (role : Role) → (link_at r (n + j) role).endpoint.state ≡ Open
+
+-- the segments of this link that are acknowledged before the slot
+abbrev pub acked_at : (run : Run) (slot : ℕ) (role : Role) → ℕ
+acked_at r n role = (link_at r n role).endpoint.acked_segments
+
+-- Progress. While both links are open, whatever is lost, a link waits at most one round trip for each of its segments that is acknowledged
+-- and for one more, T200 and one slot for each slot with a loss and for what was lost before, and one delay and one slot more. T200 expires
+-- at most once for each slot with a loss, and once more.
+pub record Progress (r : Run) (n k : ℕ) (role : Role) : Type 0 where
+  pub waits : waiting_slots r n k role + round_trip r.delay * acked_at r n role
+      ≤ round_trip r.delay * (acked_at r (n + k) role + 1) + (r.t200 + 1) * (lossy_slots r n k + 1) + (r.delay + 1)
+  pub expires : expiries r n k role ≤ lossy_slots r n k + 1
+
+abbrev pub Progresses : Run → Type 0
+Progresses r =
+    IsWithoutRelease r → round_trip r.delay ≤ r.t200 → (n k : ℕ) → AreOpen r n k → (role : Role) → Progress r n k role
+
+-- The link of SAPI 0 of a data link does what it would do alone: in a slot, and when a frame arrives. If it sends a frame, the data link
+-- does.
+pub record GoesFirst (s : DataLinkState) : Type 0 where
+  pub slot : (data_link_outcome s).new_state.link0 ≡ (slot_outcome (after_slot s.link0)).link
+  pub frame : (f : Frame) → (slot_outcome (after_slot s.link0)).frame ≡ Some f → (data_link_outcome s).frame ≡ Some f
+  pub arrival : (f : Frame) → f.sapi ≡ 0 → (after_arrival f s).link0 ≡ after_frame f s.link0
+  pub other_arrival : (f : Frame) → f.sapi ≢ 0 → (after_arrival f s).link0 ≡ s.link0
