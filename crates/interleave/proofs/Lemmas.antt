@@ -312,22 +312,22 @@ IsInterleaved-any_order bursts order old new long four each every steps = record
 pub IsInterleaved-interleaved : (c : List ℕ) → length c ≡ 456 → IsInterleaved c (interleaved c)
 unfolding interleaved
 IsInterleaved-interleaved c count =
-  record {
-    coded_count = count;
-    burst_count = length-map-range_with_len (interleaved_burst c) 0 4;
-    burst_lengths = λ b d h.
-        let within : b < 4 = rw (length-map-range_with_len (interleaved_burst c) 0 4) at h in
-        ap length (get_or-map-range_with_len (interleaved_burst c) 0 4 b b d within (omega arith))
-        ∙ length-map-range_with_len (λ j. get_or c (coded_bit_number_in_burst b j) 0) 0 114;
-    positions = λ k d within.
-        let b = burst_of_bit k in
-        let j = position_in_burst k in
-        ap (λ bits. get_or bits j d) (get_or-map-range_with_len (interleaved_burst c) 0 4 b b [] (burst_of_bit-below k) (omega arith))
-        ∙ get_or-map-range_with_len (λ i. get_or c (coded_bit_number_in_burst b i) 0) 0 114 j j d (position_in_burst-below k)
-        (omega arith)
-        ∙ ap (λ i. get_or c i 0) (coded_bit_number_in_burst-inverse k within)
-        ∙ get_or_default c k 0 d (omega arith);
-  }
+    record {
+      coded_count = count;
+      burst_count = length-map-range_with_len (interleaved_burst c) 0 4;
+      burst_lengths = λ b d h.
+          let within : b < 4 = rw (length-map-range_with_len (interleaved_burst c) 0 4) at h in
+          ap length (get_or-map-range_with_len (interleaved_burst c) 0 4 b b d within (omega arith))
+          ∙ length-map-range_with_len (λ j. get_or c (coded_bit_number_in_burst b j) 0) 0 114;
+      positions = λ k d within.
+          let b = burst_of_bit k in
+          let j = position_in_burst k in
+          ap (λ bits. get_or bits j d) (get_or-map-range_with_len (interleaved_burst c) 0 4 b b [] (burst_of_bit-below k) (omega arith))
+          ∙ get_or-map-range_with_len (λ i. get_or c (coded_bit_number_in_burst b i) 0) 0 114 j j d (position_in_burst-below k)
+          (omega arith)
+          ∙ ap (λ i. get_or c i 0) (coded_bit_number_in_burst-inverse k within)
+          ∙ get_or_default c k 0 d (omega arith);
+    }
 
 pub some_spread : (c : List ℕ) → length c ≡ 456 → (parts : List (List ℕ)) × IsInterleaved c parts
 some_spread c count = (interleaved c, IsInterleaved-interleaved c count)
@@ -342,17 +342,17 @@ module _ {X : Type 0} (none : X) (parts : List (List X)) (four : length parts �
   pub IsInterleaved-deinterleaved : IsInterleaved (deinterleaved none parts) parts
   unfolding deinterleaved
   IsInterleaved-deinterleaved =
-    record {
-      coded_count = length-map-range_with_len held_at 0 456;
-      burst_count = four;
-      burst_lengths = each;
-      positions = λ k d h.
-          let within : burst_of_bit k < length parts = omega (arith, burst_of_bit-below k) in
-          let long : length (get_or parts (burst_of_bit k) []) ≡ 114 = each (burst_of_bit k) [] within in
-          let inside : position_in_burst k < length (get_or parts (burst_of_bit k) []) = omega (arith, position_in_burst-below k) in
-          get_or_default (get_or parts (burst_of_bit k) []) (position_in_burst k) d none inside
-          ∙ sym (get_or-map-range_with_len held_at 0 456 k k d h (omega arith));
-    }
+      record {
+        coded_count = length-map-range_with_len held_at 0 456;
+        burst_count = four;
+        burst_lengths = each;
+        positions = λ k d h.
+            let within : burst_of_bit k < length parts = omega (arith, burst_of_bit-below k) in
+            let long : length (get_or parts (burst_of_bit k) []) ≡ 114 = each (burst_of_bit k) [] within in
+            let inside : position_in_burst k < length (get_or parts (burst_of_bit k) []) = omega (arith, position_in_burst-below k) in
+            get_or_default (get_or parts (burst_of_bit k) []) (position_in_burst k) d none inside
+            ∙ sym (get_or-map-range_with_len held_at 0 456 k k d h (omega arith));
+      }
 
   pub some_gathered : (c : List X) × IsInterleaved c parts
   some_gathered = (deinterleaved none parts, IsInterleaved-deinterleaved)

@@ -83,6 +83,7 @@ module _ (soft : List ℤ) (n lists best : ℕ) (pairs : length soft ≡ 2 * n) 
           16 * other_number best index < 2 ^ n → RanksAfter soft (nth_input n (other_number best index)) (nth_input n second)
       placed index (inl less) below = inl less
       placed index (inr tie) below = inr (tie.0, in_order n second (other_number best index) (other_number-rises best chosen index tie.1) below)
+
       go : (index : ℕ) × (other_number best index ≡ number) × (index < lists - 1) →
           RanksAfter soft (nth_input n number) (nth_input n second)
       go (index, is, lt) =
@@ -100,7 +101,7 @@ module _ (soft : List ℤ) (n lists best : ℕ) (pairs : length soft ≡ 2 * n) 
         let same : nth_input n spelt.0 ≡ w = ap (λ k. nth_input k spelt.0) (sym length_w) ∙ spelt.2 in
         let below = rw length_w at spelt.1 in
         rw same at (behind spelt.0 (omega arith) (λ e. not_best (sym same ∙ ap (nth_input n) e))
-            (λ e. not_second (sym same ∙ ap (nth_input n) e)));
+        (λ e. not_second (sym same ∙ ap (nth_input n) e)));
   }
 
 pub IsSecondMostLikely-second_most_likely : (soft : List ℤ) (n : ℕ) → length soft ≡ 2 * n → 5 ≤ n →
@@ -113,6 +114,6 @@ IsSecondMostLikely-second_most_likely soft n pairs long =
     let some = pow_pos (n - 5) in
     let first = leads (metric_of_input soft n) (2 ^ (n - 4) - 1) in
     subst (λ k. IsSecondMostLikely soft (nth_input k (first_greatest (metric_of_input soft k) (2 ^ (k - 4) - 1)))
-        (most_likely_except soft k (first_greatest (metric_of_input soft k) (2 ^ (k - 4) - 1)))) (sym half)
+    (most_likely_except soft k (first_greatest (metric_of_input soft k) (2 ^ (k - 4) - 1)))) (sym half)
     (IsSecondMostLikely-numbered soft n (2 ^ (n - 4)) (first_greatest (metric_of_input soft n) (2 ^ (n - 4) - 1)) pairs long
     (sym parted) (omega arith) (omega (arith, first.in_range)))

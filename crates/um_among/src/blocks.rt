@@ -80,8 +80,7 @@ pub fn receive_later_among(
 {
     let mut u = [0; ENCODER_INPUT_BITS];
     u.copy_from_slice(first.u.as_slice());
-    let Some(found) = first_crc_match(soft, first.metric, max_rank, &mut u)
-    else {
+    let Some(found) = first_crc_match(soft, first.metric, max_rank, &mut u) else {
         return ListDecodedBlock {
             report: *first,
             rank: 1,

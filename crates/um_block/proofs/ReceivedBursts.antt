@@ -153,9 +153,11 @@ IsReceivedBlock-received_block bursts four each =
 
 pub some_received_block : (bursts : List (List ℤ)) → length bursts ≡ 4 → All IsBurst bursts → (r : Received)
     × IsReceivedBlock bursts r
-some_received_block bursts four each =
-    (received_block bursts, IsReceivedBlock-received_block bursts (length-map bursts coded_soft_bits ∙ four)
-    (All-map (λ part. length part ≡ 114) coded_soft_bits bursts (λ i d h. length-coded_soft_bits (get_or bursts i d) (each i d h))))
+some_received_block bursts four each = (
+  received_block bursts,
+  IsReceivedBlock-received_block bursts (length-map bursts coded_soft_bits ∙ four)
+      (All-map (λ part. length part ≡ 114) coded_soft_bits bursts (λ i d h. length-coded_soft_bits (get_or bursts i d) (each i d h))),
+)
 
 -- ---- lemmas about the reports of an access burst and of a synchronisation burst
 

@@ -18,7 +18,9 @@ refused : response code_command_rules tt (codes "#\nrach 1\n") true ≡ (Some Ba
 unfolding response code_line digits
 refused = refl
 
-access : response code_command_rules tt (codes "# x\nrach 10011010 110010\n") true ≡ (Some Done,
-    codes "a 110010 0011101001001011011111111001100110101010001111000110100000101000111110010101000001100000\n")
+access : response code_command_rules tt (codes "# x\nrach 10011010 110010\n") true ≡ (
+  Some Done,
+  codes "a 110010 0011101001001011011111111001100110101010001111000110100000101000111110010101000001100000\n",
+)
 unfolding response code_line sent_access rach_crc low_bits
 access = refl
