@@ -1,7 +1,8 @@
 -- `first_greatest` finds the greatest of several scores, and the first if several are equal.
 use Rattle.bit_blocks.specs.Greatest.{first_greatest}
 use Rattle.std.proofs.{
-  Common.{arith, false, inl, inr, int_lt, suc, true, zero, ℕ, ℤ, ◌+◌, ◌<ℤ◌, ◌<◌, ◌≡◌, ◌≢◌, ◌≤ℤ◌, ◌⊎◌},
+  Common.{arith, false, inl, inr, int_lt, suc, true, zero, ℕ, ℤ},
+  Common.{◌+◌, ◌<ℤ◌, ◌<◌, ◌≡◌, ◌≢◌, ◌≤ℤ◌, ◌⊎◌},
   lemmas.{Bool.{cases_Bool, cases_eq}, Int.{by_lt_z, ints}},
 }
 

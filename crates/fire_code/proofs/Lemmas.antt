@@ -445,7 +445,8 @@ rach_crc d p b ed word =
       add_bits_twice p b (AllBits-back d p word.bits) e,
     )
 
-pub rach_crc_word : (d b : List ℕ) → length d ≡ 8 → AllBits d → length b ≡ 6 → AllBits b → IsRachCodeword (d ++ crc_of_rach d b) b
+pub rach_crc_word : (d b : List ℕ) → length d ≡ 8 → AllBits d → length b ≡ 6 → AllBits b →
+    IsRachCodeword (d ++ crc_of_rach d b) b
 unfolding crc_of_rach
 rach_crc_word d b ed bd eb bb =
     rach_word d (check_bits 6 61 d) b ed bd (IsCrc-check_bits 6 61 d (lit< tt) (lit< tt) bd) eb bb

@@ -1,10 +1,14 @@
 -- `second_most_likely` is the second most likely encoder input.
 use Rattle.{
   bit_blocks.{proofs.Greatest.{LeadsBelow, leads}, specs.Greatest.first_greatest},
-  list_decode.specs.{Ranking.{IsCandidate, IsSecondMostLikely}, SecondWord.{metric_of_input, most_likely_except, other_number, second_most_likely}},
+  list_decode.specs.{
+    Ranking.{IsCandidate, IsSecondMostLikely},
+    SecondWord.{metric_of_input, most_likely_except, other_number, second_most_likely},
+  },
   std.{
     proofs.{
-      Common.{List, ap, arith, get_or, inl, inr, length, refl, subst, sym, ℕ, ℤ, ◌*◌, ◌+◌, ◌-◌, ◌/◌, ◌<◌, ◌^◌, ◌∙◌, ◌≡◌, ◌≢◌, ◌≤◌, ◌<ℤ◌, ◌⊎◌},
+      Common.{List, ap, arith, get_or, inl, inr, length, refl, subst, sym, ℕ, ℤ, ◌*◌, ◌+◌},
+      Common.{◌-◌, ◌/◌, ◌<◌, ◌^◌, ◌∙◌, ◌≡◌, ◌≢◌, ◌≤◌, ◌<ℤ◌, ◌⊎◌},
       Math.Nat.div-eq_of_lt,
       lemmas.{Bool.{cases_eq, cases_lt}, Nat.{pow-add, pow_pos}},
     },
@@ -48,7 +52,8 @@ other_number-at_most left_out index = grind arith
 
 -- ---- the second word
 
-module _ (soft : List ℤ) (n lists best : ℕ) (pairs : length soft ≡ 2 * n) (long : 5 ≤ n) (all : 16 * lists ≡ 2 ^ n) (some : 2 ≤ lists)
+module _ (soft : List ℤ) (n lists best : ℕ) (pairs : length soft ≡ 2 * n) (long : 5 ≤ n) (all : 16 * lists ≡ 2 ^ n)
+    (some : 2 ≤ lists)
     (within : best < lists) where
   abbrev score : ℕ → ℤ
   score index = metric_of_input soft n (other_number best index)
@@ -82,7 +87,11 @@ module _ (soft : List ℤ) (n lists best : ℕ) (pairs : length soft ≡ 2 * n) 
       placed : (index : ℕ) → (score index <ℤ score chosen) ⊎ ((score index ≡ score chosen) × (chosen < index)) →
           16 * other_number best index < 2 ^ n → RanksAfter soft (nth_input n (other_number best index)) (nth_input n second)
       placed index (inl less) below = inl less
-      placed index (inr tie) below = inr (tie.0, in_order n second (other_number best index) (other_number-rises best chosen index tie.1) below)
+      placed index (inr tie) below = inr (
+        tie.0,
+        in_order n second (other_number best index)
+            (other_number-rises best chosen index tie.1) below,
+      )
 
       go : (index : ℕ) × (other_number best index ≡ number) × (index < lists - 1) →
           RanksAfter soft (nth_input n number) (nth_input n second)

@@ -2,7 +2,8 @@
 use Rattle.{
   bit_blocks.specs.{Bits.{AllBits, IsBit}, Greatest.first_greatest, SoftValues.{bit_metric, count_wrong_bits, likelihood}},
   std.{
-    proofs.Common.{Bool, List, [], ap, ap₂, arith, drop, eqb, false, get_or, inl, inr, int_lt, leb, length, map, negsuc, of_z, pos, refl, replicate},
+    proofs.Common.{Bool, List, [], ap, ap₂, arith, drop, eqb, false, get_or, inl, inr},
+    proofs.Common.{int_lt, leb, length, map, negsuc, of_z, pos, refl, replicate},
     proofs.Common.{rules, suc, sym, tests, to_z, true, w16, zero, ℕ, ℤ, ◌%◌, ◌*ℤ◌, ◌*◌, ◌+ℤ◌, ◌+◌, ◌<ℤ◌},
     proofs.Common.{◌<◌, ◌^◌, ◌∙◌, ◌∷◌, ◌≡◌, ◌≢◌, ◌≤ℤ◌, ◌≤◌, ◌⊎◌},
     proofs.lemmas.{Bool.{cases_Bool, cases_eq}, Int.{by_lt_z, int_wrap_fits, ints, to_z-of_z, wrapping_add-bits, wrapping_mul_is}},

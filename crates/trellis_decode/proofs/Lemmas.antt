@@ -4,4 +4,5 @@ pub use Rattle.trellis_decode.proofs.Viterbi.{IsMostLikely-most_likely, some_mos
 pub use Rattle.trellis_decode.proofs.Viterbi.{lex_before-not_after, IsEncoderInput-ends, IsMostLikely-best}
 pub use Rattle.trellis_decode.proofs.Viterbi.{metric_from_state-start, IsNoBetterPath-same, metric_from_state-cons, length-traceback}
 pub use Rattle.trellis_decode.proofs.Viterbi.{IsMostLikely-chosen, less_by_test, RanksBehind-new, RanksBehind-old, lex_before-to_binary}
-pub use Rattle.trellis_decode.proofs.Viterbi.{IsEncoderInput-to_binary, RanksBehind-leads, length-to_binary, nth_likelihood, to_binary-information}
+pub use Rattle.trellis_decode.proofs.Viterbi.{IsEncoderInput-to_binary, RanksBehind-leads, length-to_binary}
+pub use Rattle.trellis_decode.proofs.Viterbi.{nth_likelihood, to_binary-information}

@@ -9,7 +9,8 @@ use Rattle.{
   },
   std.{
     proofs.{
-      Common.{Bool, List, [], ap, ap₂, arith, drop, false, get_or, inl, inr, int_lt, length, pos, refl, replicate, subst, suc, sym, take, true},
+      Common.{Bool, List, [], ap, ap₂, arith, drop, false, get_or, inl, inr, int_lt},
+      Common.{length, pos, refl, replicate, subst, suc, sym, take, true},
       Common.{zero, ℕ, ℤ, ◌%◌, ◌*◌, ◌++◌, ◌+ℤ◌, ◌+◌, ◌-ℤ◌, ◌-◌, ◌/◌, ◌<ℤ◌, ◌<◌, ◌^◌},
       Common.{◌∙◌, ◌∷◌, ◌≡◌, ◌≢◌, ◌≤ℤ◌, ◌≤◌},
       Math.Nat.{add-mul-div_left, div-div-eq-div-mul, div-eq_of_lt, div-lt_iff_lt-mul, eq-or-lt_of_le, pow-succ', pow-suc, zero-div},
@@ -21,7 +22,16 @@ use Rattle.{
   trellis_decode.{
     specs.{Lanes.{AreSignedOctets, IsSignedOctet}, Trellis.{EqualMetricButLater, HasTailBits, IsDecision, IsNoBetterPath}},
     specs.Trellis.{IsNotLexicographicallyAfter, IsSurvivor, LessMetric, branch_metric, candidate_metric, encoding_from_state},
-    specs.{MostLikely.{most_likely, nth_input}, Trellis.{first_coded_bit, metric_from_state, next_trellis_state, second_coded_bit, traceback}},
+    specs.{
+      MostLikely.{most_likely, nth_input},
+      Trellis.{
+        first_coded_bit,
+        metric_from_state,
+        next_trellis_state,
+        second_coded_bit,
+        traceback,
+      },
+    },
     specs.Words.to_binary,
     proofs.AcsSteps.each,
   },
@@ -454,7 +464,8 @@ IsMostLikely-chosen soft n chosen lists long pairs all others = record {
 
 -- ## Existence: For any soft bits, a most likely encoder input exists: the first with the greatest path metric.
 
-pub RanksBehind-leads : (soft : List ℤ) (n number chosen : ℕ) → 16 * number ≤ 2 ^ n → LeadsBelow (nth_likelihood soft n) number chosen →
+pub RanksBehind-leads : (soft : List ℤ) (n number chosen : ℕ) → 16 * number ≤ 2 ^ n →
+    LeadsBelow (nth_likelihood soft n) number chosen →
     (m : ℕ) → m < number → m ≢ chosen → RanksBehind soft n m chosen
 RanksBehind-leads soft n number chosen headroom leads m lt ne = elim (leads.others m lt ne) [
   | inl less ↦ inl less

@@ -45,7 +45,7 @@ use Rattle.{
 use Rattle.lapdm_link.specs.Events as E
 use Rattle.lapdm_link.specs.Worlds as W
 
--- ## AnswerUnique: What an event may lead to is what `air_step` computes, because coding, reception and reading each have exactly one result.
+-- ## AnswerUnique: What an event may lead to is what `air_step` computes, because coding, reception and reading have one result each.
 
 never_both : (channel : Channel) (octets : Octets) (f : Frame) (why : Refusal) → IsFrameCoding channel f octets →
     IsRefused channel octets why → ⊥

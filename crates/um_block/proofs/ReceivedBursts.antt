@@ -15,7 +15,23 @@ use Rattle.{
   std.{
     proofs.Common.{Bool, Contains, None, Option, Some, ap₂, eqb, false, if◌then◌else◌, inl, inr, int_lt, lit≤, map, nat_eq},
     proofs.Common.{negsuc, pos, suc, true, zero, ℤ, ◌%◌, ◌-◌, ◌/◌, ◌<ℤ◌, ◌||◌, ◌≢◌, ◌⊎◌},
-    proofs.{Math.Seq.take-add, lemmas.{Slice.Eq.bytes_eq-Decides, Bool.{cases_Bool, eqb-true, false≢true, Decides.nat_tests, or_cases, or_parts, ne_eqb}, Int.ints, List.append-nil}},
+    proofs.{
+      Math.Seq.take-add,
+      lemmas.{
+        Slice.Eq.bytes_eq-Decides,
+        Bool.{
+          cases_Bool,
+          eqb-true,
+          false≢true,
+          Decides.nat_tests,
+          or_cases,
+          or_parts,
+          ne_eqb,
+        },
+        Int.ints,
+        List.append-nil,
+      },
+    },
     proofs.lemmas.List.{drop-map, drop_all, get_or-append_right, get_or-drop, get_or-map, get_or-take, get_or_append_left, length-take},
     proofs.lemmas.List.{map-append, take-append-drop, take-map, take-take, Elements.{All-head, All-tail}},
     specs.{Prelude.{IfSome, MatchOption, slice_range}, Str.bytes_eq},
@@ -161,7 +177,8 @@ some_received_block bursts four each = (
 
 -- ---- lemmas about the reports of an access burst and of a synchronisation burst
 
-pub IsReceivedAccess-received_access : (burst : List ℤ) (bsic : List ℕ) → length burst ≡ 88 → length bsic ≡ 6 → AllBits bsic →
+pub IsReceivedAccess-received_access : (burst : List ℤ) (bsic : List ℕ) → length burst ≡ 88 → length bsic ≡ 6 →
+    AllBits bsic →
     IsReceivedAccess burst bsic (received_access burst bsic)
 unfolding received_access
 IsReceivedAccess-received_access burst bsic count code code_bits =
@@ -226,12 +243,14 @@ pub received_block-only : (bursts : List (List ℤ)) (r : Received) → IsReceiv
 received_block-only bursts r h =
     one_received_block bursts r _ h (IsReceivedBlock-received_block bursts h.deinterleaved.burst_count h.deinterleaved.burst_lengths)
 
-pub received_access-only : (burst : List ℤ) (bsic : List ℕ) (r : ReceivedAccess) → length burst ≡ 88 → length bsic ≡ 6 → AllBits bsic →
+pub received_access-only : (burst : List ℤ) (bsic : List ℕ) (r : ReceivedAccess) → length burst ≡ 88 → length bsic ≡ 6 →
+    AllBits bsic →
     IsReceivedAccess burst bsic r → r ≡ received_access burst bsic
 received_access-only burst bsic r count code bits h =
     one_received_access burst bsic r _ h (IsReceivedAccess-received_access burst bsic count code bits)
 
-pub received_sync-only : (burst : List ℤ) (r : ReceivedSync) → length burst ≡ 148 → IsReceivedSync burst r → r ≡ received_sync burst
+pub received_sync-only : (burst : List ℤ) (r : ReceivedSync) → length burst ≡ 148 → IsReceivedSync burst r →
+    r ≡ received_sync burst
 received_sync-only burst r count h = one_received_sync burst r _ h (IsReceivedSync-received_sync burst count)
 
 -- ## CleanBursts: If a burst is received as it was sent, each part of its soft bits consists of the soft bits of the same part of the

@@ -1,6 +1,7 @@
 -- The answer to the bursts that a line makes ready to decode is the answer to the line.
 use Rattle.{
-  std.proofs.Common.{Bool, List, Ok, Err, Some, [], ap, arith, false, length, refl, sym, true, ℕ, ℤ, ◌++◌, ◌<◌, ◌∙◌, ◌∷◌, ◌≡◌},
+  std.proofs.Common.{Bool, List, Ok, Err, Some, [], ap, arith, false, length, refl, sym},
+  std.proofs.Common.{true, ℕ, ℤ, ◌++◌, ◌<◌, ◌∙◌, ◌∷◌, ◌≡◌},
   std.proofs.lemmas.Bool.{le-ltb, lt-ltb},
   um_driver.specs.um_lines.declared.fault.LineFault.LineFault,
   um_bursts.specs.BurstRules.{BurstAnswers, answer_to_burst, answer_to_bursts, burst_rules},
@@ -29,7 +30,8 @@ module _ (a : BurstAnswers) (old new : BurstBuffer) where
   answered (Access bsic soft) next (next_is, same) = rw (next_is, same) refl
   answered (Sync soft) next (next_is, same) = rw (next_is, same) refl
 
-  pub line_answered : (line text : List ℕ) (meaning : BurstLine) (next : BurstsToDecode) → BurstLineMeans (length old.held) line meaning →
+  pub line_answered : (line text : List ℕ) (meaning : BurstLine) (next : BurstsToDecode) →
+      BurstLineMeans (length old.held) line meaning →
       GivesBurstsToDecode old meaning next new → text ≡ answer_to_bursts a next new.slots →
       (burst_rules a).step old.held line ≡ Ok (text, new.held)
   line_answered line text meaning next means gives wrote =

@@ -79,7 +79,12 @@ all_bursts held soft h long =
 pub fourth-most_likely : (held : List (List ℤ)) (soft : List ℤ) → AreHeld held → length soft ≡ 148 →
     4 ≤ length (held ++ soft ∷ []) → IsMostLikelyWord (held ++ soft ∷ []) (received_block (held ++ soft ∷ []))
 fourth-most_likely held soft h long many = best_word (held ++ soft ∷ []) _
-    (received_from_bursts (held ++ soft ∷ []) (omega (arith, h.few, many, length-append held (soft ∷ []))) (all_bursts held soft h long))
+    (received_from_bursts (held ++ soft ∷ []) (omega (
+      arith,
+      h.few,
+      many,
+      length-append held (soft ∷ []),
+    )) (all_bursts held soft h long))
 
 line_keeps : (held after : List (List ℤ)) (line text : List ℕ) → AreHeld held →
     answer_to_line replay_rules held line ≡ Ok (text, after) → AreHeld after
@@ -103,7 +108,8 @@ pub replay-most_likely : ReplayDecodesToMostLikelyWords
 replay-most_likely lines answers held line meaning runs parses =
     go meaning parses (Runs-keep replay_rules AreHeld line_keeps [] held lines answers none_held runs)
   where
-    go : (meaning : BurstLine) → burst_line (length held) line ≡ Ok meaning → AreHeld held → DecodesBurstsToMostLikelyWord held meaning
+    go : (meaning : BurstLine) → burst_line (length held) line ≡ Ok meaning → AreHeld held →
+        DecodesBurstsToMostLikelyWord held meaning
     go Skip parses h = tt
     go (Normal soft) parses h = λ many.
         let long = (normal_burst (length held) line soft (burst_line_means (length held) line (Normal soft) parses)).0 in

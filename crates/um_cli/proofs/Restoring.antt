@@ -193,7 +193,8 @@ restores-code_line line (C.Sch info) means =
     let (count, each) = can_be_sent line (C.Sch info) means in
     restores-sync info (sent_sync info) (IsSentSync-sent_sync info count each)
 
-stateless_answer : (answer : Result (List ℕ) LineFault) (text : List ℕ) (after : Unit {0}) → stateless_step answer ≡ Ok (text, after) →
+stateless_answer : (answer : Result (List ℕ) LineFault) (text : List ℕ) (after : Unit {0}) →
+    stateless_step answer ≡ Ok (text, after) →
     answer ≡ Ok text
 stateless_answer (Ok given) text after is = grind arith
 stateless_answer (Err fault) text after is = absurd (cc is)

@@ -45,7 +45,8 @@ IfReadsLines ReadsNoLines Holds = Unit {0}
 -- what was written is the response that the rules of the command prescribe for what was read, or a prefix of it; `link` and `make` use the
 -- radio for all blocks of the session
 abbrev pub IsRunOfCommand : (command : Invocation) (status : Status)
-    (unread_before unread_after written_before written_after : Option (List ℕ)) (counters_before counters_after : RadioCounters) → Type 0
+    (unread_before unread_after written_before written_after : Option (List ℕ)) (counters_before counters_after : RadioCounters) →
+    Type 0
 IsRunOfCommand (Make n tsc) status left left' taken taken' before after = IsMakeCommandRun n tsc status taken taken' before after
 IsRunOfCommand (Link tsc channel) status left left' taken taken' before after =
     IsLinkCommandRun tsc channel status left left' taken taken' before after

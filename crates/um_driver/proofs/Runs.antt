@@ -437,14 +437,16 @@ module _ {State : Type 0} {r : Rules State} {a : State} {Represents : State → 
       let (came, step) = n.not_stopped u.not_stopped in
       let (h, needs) = step.outcome in
       let at = now step in (
-        ending step false (λ e _. let no : ⊥ = cc (e, needs.ended) in absurd no) u.represents (λ e. cc e) (rw append-nil (unfinished at.reads n.valid h r a at.state at.answers at.runs needs)) (inl refl),
+        ending step false (λ e _. let no : ⊥ = cc (e, needs.ended) in absurd no) u.represents (λ e. cc e)
+            (rw append-nil (unfinished at.reads n.valid h r a at.state at.answers at.runs needs)) (inl refl),
         elim ready [ inl answer ↦ absurd (failed_unready u.valid n.valid step u.not_stopped answer) | inr none ↦ none ],
       )
 
 -- ## AfterWrites: The state of a run after a write. `EndsWithStatus` holds whether the whole text or only a prefix of it was written.
 
 -- a run that has written the whole response ends with its status
-whole_row : (status : Status) (response : Option Status × List ℕ) (q y text : List ℕ) → IsResponse status response text → y ≡ text →
+whole_row : (status : Status) (response : Option Status × List ℕ) (q y text : List ℕ) → IsResponse status response text →
+    y ≡ text →
     EndsWithStatus status response q y
 whole_row WriteFault response q y text is e = absurd is
 whole_row NoMemory response q y text is e = absurd is
@@ -640,7 +642,8 @@ Keeps-nil None b h = tt
 Keeps-nil (Some xs) None h = h
 Keeps-nil (Some xs) (Some ys) h = rw append-nil at h
 
-agrees : (s : Status) (heard due : Option Status × List ℕ) (q y : List ℕ) (taken taken' : Option (List ℕ)) → Continues heard due →
+agrees : (s : Status) (heard due : Option Status × List ℕ) (q y : List ℕ) (taken taken' : Option (List ℕ)) →
+    Continues heard due →
     EndsWithStatus s heard q y → Appends taken taken' y → WritesAsPrescribed s due taken taken'
 agrees ReadFault heard due q y taken taken' goes row written =
     (y, rw row at (Continues-prefix heard due goes), written)

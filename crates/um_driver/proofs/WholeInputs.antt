@@ -38,7 +38,8 @@ module _ {State : Type 0} (r : Rules State) where
   never_done a n [] e = absurd (cc e)
   never_done a n (line ∷ lines) e = go (answer_to_line r a line) (λ b. never_done b (n + 1) lines) e
     where
-      go : (answer : Result (List ℕ × State) LineFault) → ((b : State) → (response_to_lines r b (n + 1) lines Exceeded).0 ≡ Some Done → ⊥) →
+      go : (answer : Result (List ℕ × State) LineFault) →
+          ((b : State) → (response_to_lines r b (n + 1) lines Exceeded).0 ≡ Some Done → ⊥) →
           (response_from_answer n (λ b. response_to_lines r b (n + 1) lines Exceeded) answer).0 ≡ Some Done → ⊥
       go (Ok next) later e = later next.1 e
       go (Err fault) later e = absurd (cc e)
@@ -84,7 +85,8 @@ module _ {State : Type 0} (r : Rules State) where
   not_done_if_over a taken y end is h =
       never_done a 1 (lines_to_process taken Exceeded) (ap (λ (z : Option Status × List ℕ). z.0) (rw is at h))
 
-  answered_if_within : (a : State) (x taken y : List ℕ) (end : InputEnd) → taken ≡ x → end ≡ Ended → length x ≤ input_limit →
+  answered_if_within : (a : State) (x taken y : List ℕ) (end : InputEnd) → taken ≡ x → end ≡ Ended →
+      length x ≤ input_limit →
       response_to_lines r a 1 (lines_to_process taken end) end ≡ (Some Done, y) → AnswersWholeInput r a x y
   answered_if_within a x taken y end same is within h =
       let (ls, last, all, plain, x_is) = divide x in

@@ -33,13 +33,15 @@ pub record Machine : Type 1 where
 
 -- the answer to a line and the next state, or the reason why the line is refused: `Long` if it exceeds the line limit, otherwise what the
 -- rules give
-abbrev pub answer_to_line : {State : Type 0} (rules : Rules State) (state : State) (line : List ℕ) → Result (List ℕ × State) LineFault
+abbrev pub answer_to_line : {State : Type 0} (rules : Rules State) (state : State) (line : List ℕ) →
+    Result (List ℕ × State) LineFault
 answer_to_line r a line = if nat_lt line_limit (length line) then Err Long else r.step a line
 
 -- a command in `state` accepts `lines` in order, gives them these `answers`, and is then in the state `after`
 abbrev pub Runs : {State : Type 0} (rules : Rules State) (state : State) (lines answers : List (List ℕ)) (after : State) → Type 0
 Runs r a [] [] b = b ≡ a
-Runs {State} r a (line ∷ lines) (answer ∷ answers) b = (mid : State) × (answer_to_line r a line ≡ Ok (answer, mid)) × Runs r mid lines answers b
+Runs {State} r a (line ∷ lines) (answer ∷ answers) b = (mid : State) × (answer_to_line r a line ≡ Ok (answer, mid))
+    × Runs r mid lines answers b
 Runs r a [] (answer ∷ answers) b = ⊥
 Runs r a (line ∷ lines) [] b = ⊥
 

@@ -1,5 +1,6 @@
 -- What a run that ends has read and written, for each exit status (this project's own rule).
-use Rattle.std.specs.Prelude.{ℕ, ◌≡◌, ◌≤◌, ◌+◌, Bool, true, List, [], ◌++◌, length, Option, Some, None, IfSome, ◌⊎◌}
+use Rattle.std.specs.Prelude.{ℕ, ◌≡◌, ◌≤◌, ◌+◌, Bool, true, List}
+use Rattle.std.specs.Prelude.{[], ◌++◌, length, Option, Some, None, IfSome, ◌⊎◌}
 use Rattle.std.specs.Io.KnownBytes.{Appends, Keeps}
 use Rattle.um_io.specs.Streams.{FailureCountRose}
 use Rattle.um_io.specs.Reading.{input_limit, buffer_limit}
@@ -44,8 +45,8 @@ IsReadFromSource (Some x) left' q rest = (x ≡ q ++ rest) × (left' ≡ Some re
 abbrev pub IsRefusalOrNone : (text : List ℕ) → Type 0
 IsRefusalOrNone text = (text ≡ []) ⊎ ((number : ℕ) × (fault : LineFault) × (text ≡ refused_text number fault))
 
--- a whole run: what was read, left unread, and written; `ended` says whether the run met the end of the input. The command answered `lines`,
--- which led it to `state`; no octet was written but of their answers and of a refusal
+-- a whole run: what was read, left unread, and written; `ended` says whether the run met the end of the input. The command answered
+-- `lines`, which led it to `state`; no octet was written but of their answers and of a refusal
 pub record IsRun {State : Type 0} (rules : Rules State) (start : State) (Represents : State → Type 0) (status : Status)
     (unread_before unread_after written_before written_after : Option (List ℕ)) : Type 0 where
   pub input_read : List ℕ
@@ -84,7 +85,8 @@ SinkTakesPrefix taken taken' z = (y : List ℕ) × IsPrefixOf y z × Appends tak
 
 -- the output of a run that ends with `status`, given the status and the text that its rules prescribe: a prefix of the text after a read or
 -- write failure, nothing if memory could not be allocated, otherwise the whole text, and the two statuses agree
-abbrev pub WritesAsPrescribed : (status : Status) (prescribed : Option Status × List ℕ) (written_before written_after : Option (List ℕ))
+abbrev pub WritesAsPrescribed : (status : Status) (prescribed : Option Status × List ℕ)
+    (written_before written_after : Option (List ℕ))
     → Type 0
 WritesAsPrescribed ReadFault due taken taken' = SinkTakesPrefix taken taken' due.1
 WritesAsPrescribed WriteFault due taken taken' = SinkTakesPrefix taken taken' due.1

@@ -79,7 +79,8 @@ ReceivesBursts-received role a bursts r is =
       step_is_terminal_step = refl;
     }
 
-pub ReceivesBursts-answer_to_block : (role : Role) (a : SideState) (bursts : List (List ℤ)) → length bursts ≡ 4 → All Whole bursts →
+pub ReceivesBursts-answer_to_block : (role : Role) (a : SideState) (bursts : List (List ℤ)) → length bursts ≡ 4 →
+    All Whole bursts →
     ReceivesBursts role a bursts (answer_to_block role a bursts).0 (answer_to_block role a bursts).1
 ReceivesBursts-answer_to_block role a bursts four each =
     let (r, is) = some_received_block bursts four each in ReceivesBursts-received role a bursts r is
@@ -88,7 +89,8 @@ ReceivesBursts-answer_to_block role a bursts four each =
 
 -- the text with the burst lines of one more frame
 pub burst_lines-next : (tsc : ℕ) (os : List Octets) (i : ℕ) (old mid new : List ℕ) (block : Block) → i < length os →
-    mid ≡ old ++ burst_lines_of_frames tsc (take i os) → block ≡ sent_block (get_or os i []) tsc → new ≡ mid ++ bursts_text block →
+    mid ≡ old ++ burst_lines_of_frames tsc (take i os) → block ≡ sent_block (get_or os i []) tsc →
+    new ≡ mid ++ bursts_text block →
     new ≡ old ++ burst_lines_of_frames tsc (take (i + 1) os)
 burst_lines-next tsc os i old mid new block within before coded is =
     rw (is, before, coded, take_more os i [] within)
@@ -113,7 +115,8 @@ line_answered c s count line text meaning after st held means is =
     rw (end_command_line_meaning s.role (length s.held_bursts) line meaning (rw (st.role, st.held_bursts, ← held) means), is) refl
 
 pub line_refused : (c : EndCommand) (s : EndCommandState) (count : ℕ) (line : List ℕ) (fault : LineFault) →
-    CommandRepresents c s → count ≡ length c.held.held → Some fault ≡ end_command_line_fault (role_of_terminal c.terminal) count line →
+    CommandRepresents c s → count ≡ length c.held.held →
+    Some fault ≡ end_command_line_fault (role_of_terminal c.terminal) count line →
     end_command_rules.step s line ≡ Err fault
 line_refused c s count line fault st held bad =
     rw (end_command_line_refused s.role (length s.held_bursts) line fault (rw (st.role, st.held_bursts, ← held) (sym bad))) refl
@@ -228,7 +231,8 @@ module _ (role : Role) (tsc : ℕ) (known : tsc ≤ 7) (a : SideState) (h : AreF
       IsFitAnswer role tsc (answer_of_endpoint role a sapi (endpoint_call_of request))
   fit_request other sapi request octets = fit_answer sapi (endpoint_call_of request) _ refl (grind arith) (grind arith)
 
-  fit_event : (event : Event) → IsCallOfRole role event × EventMessageIsOctets event → IsFitAnswer role tsc (answer_to_call role a event)
+  fit_event : (event : Event) → IsCallOfRole role event × EventMessageIsOctets event →
+      IsFitAnswer role tsc (answer_to_call role a event)
   fit_event (Open info) own =
       fit_answer Zero (Opens info) _ refl own.1 (h.link0.sapi_matches, h.link0.role_matches ∙ own.0)
   fit_event (OpenBare other) own = fit_answer Three OpensWithoutInfo _ refl tt h.link3.sapi_matches

@@ -32,7 +32,8 @@ pub fn law_end_command_lines_are_terminal_steps()
 /// Law: what a terminal does with four bursts is what `answer_to_block` computes: they are received as a block, and a frame that the
 /// accepted octets encode reaches its endpoint.
 pub fn law_received_bursts_are_computed()
-    ensures holds { (role : Role) (a : SideState) (bursts : List (List ℤ)) → length bursts ≡ 4 → All (λ burst. length burst ≡ 148) bursts →
+    ensures holds { (role : Role) (a : SideState) (bursts : List (List ℤ)) → length bursts ≡ 4 →
+        All (λ burst. length burst ≡ 148) bursts →
         let next = answer_to_block role a bursts in
         ReceivesBursts role a bursts next.0 next.1 }
     ensures only { (role : Role) (a : SideState) (bursts : List (List ℤ)) (b : SideState) (step : Step) →

@@ -16,7 +16,8 @@ use Rattle.{
     proofs.{
       Common.{Bool, Err, List, None, Ok, Option, Some, [], append-nil, append_assoc, ap, arith, codes, drop, eqb, false, inl, inr},
       Common.{length-append, length, map, negsuc, not, pos, refl, replicate, set, suc, sym, take, true, ℕ, ℤ, ◌&&◌, ◌++◌},
-      Common.{◌+◌, ◌-◌, ◌<◌, ◌==◌, ◌∙◌, ◌∷◌, ◌≡◌, ◌≢◌, ◌≤◌, ◌⊎◌, if◌then◌else◌, subst},
+      Common.{◌+◌, ◌-◌, ◌<◌, ◌==◌, ◌∙◌, ◌∷◌, ◌≡◌},
+      Common.{◌≢◌, ◌≤◌, ◌⊎◌, if◌then◌else◌, subst},
       lemmas.{Bool.{Decides.nat_tests, and_right, cases_Bool, ne_eqb}, Int.ints, List.Elements.{All-cons, All-map, All-nil, All-replicate}},
       lemmas.List.{Splits.{join_with_byte-slice_split, length-slice_split}, append_cancel_right, drop_all, length-map, length-replicate},
       lemmas.{List.set_split, Slice.Eq.bytes_eq-Decides},
@@ -377,11 +378,13 @@ IsTextOfOctets-text_of_octets octets count = go (cases_eq (length octets) 23)
     go (inl count) = read (one_reading Sdcch octets count)
     go (inr other) = absurd (other count)
 
-pub text_of_octets-only : (octets text : List ℕ) → length octets ≡ 23 → IsTextOfOctets octets text → text ≡ text_of_octets octets
+pub text_of_octets-only : (octets text : List ℕ) → length octets ≡ 23 → IsTextOfOctets octets text →
+    text ≡ text_of_octets octets
 text_of_octets-only octets text count is = one_frame_text octets text _ is (IsTextOfOctets-text_of_octets octets count)
 
 -- the text that `frame_line` writes
-pub written_text : (octets text out : List ℕ) → length octets ≡ 23 → IsTextOfOctets octets text → out ≡ text → out ≡ text_of_octets octets
+pub written_text : (octets text out : List ℕ) → length octets ≡ 23 → IsTextOfOctets octets text → out ≡ text →
+    out ≡ text_of_octets octets
 written_text octets text out count is e = e ∙ text_of_octets-only octets text count is
 
 pub block_report_text-only : (r : Received) (text : List ℕ) → IfSome r.accepted (λ octets. length octets ≡ 23) →
@@ -389,7 +392,8 @@ pub block_report_text-only : (r : Received) (text : List ℕ) → IfSome r.accep
 block_report_text-only r = go (block_report_line r) r.accepted
   where
     go : (line : List ℕ) (accepted : Option (List ℕ)) (text : List ℕ) → IfSome accepted (λ octets. length octets ≡ 23) →
-        MatchOption accepted (text ≡ line) (λ octets. (second : List ℕ) × IsTextOfOctets octets second × (text ≡ line ++ second)) →
+        MatchOption accepted (text ≡ line) (λ octets. (second : List ℕ) × IsTextOfOctets octets second
+        × (text ≡ line ++ second)) →
         text ≡ line ++ text_of_accepted accepted
     go line None text count is = rw append-nil is
     go line (Some octets) text count (second, is, e) = rw (← text_of_octets-only octets second count is) e

@@ -1,5 +1,6 @@
 -- How reports on received blocks and bursts are written as lines (this project's own rule).
-use Rattle.std.specs.Prelude.{ℕ, ◌≡◌, Bool, true, false, ℤ, List, [], ◌++◌, Option, Some, None, take, drop, codes, MatchOption, is_some}
+use Rattle.std.specs.Prelude.{ℕ, ◌≡◌, Bool, true, false, ℤ, List, []}
+use Rattle.std.specs.Prelude.{◌++◌, Option, Some, None, take, drop, codes, MatchOption, is_some}
 use Rattle.std.specs.Fmt.{decimal, signed_decimal}
 use Rattle.um_lines.specs.Hex.{encode_lower}
 use Rattle.um_block.specs.bit_blocks.Octets.{octets_of}

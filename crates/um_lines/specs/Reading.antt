@@ -2,7 +2,8 @@
 use Rattle.std.specs.Prelude.{ℕ, Bool, List, Option, Result}
 use Rattle.um_lines.specs.declared.fault.LineFault.{LineFault}
 use Rattle.um_lines.specs.Fields.{Value}
-use Rattle.um_lines.specs.Forms.{LineForms, LineMeans, form_of_words, first_word_fault, meaning_of_words, fault_or_value, line_fault, line_meaning}
+use Rattle.um_lines.specs.Forms.{LineForms, LineMeans, form_of_words, first_word_fault}
+use Rattle.um_lines.specs.Forms.{meaning_of_words, fault_or_value, line_fault, line_meaning}
 use Rattle.um_lines.specs.Meanings.{IsValueOfMeaning}
 
 -- the line parses to the value `made`, which the function `make` computes from the meaning of the line

@@ -191,7 +191,8 @@ event_notices r e (Refuses why) = refl
 event_notices r (Open info) (Accepts step) = line_notices r step.who step.sapi step.notices
 event_notices r e (Accepts step) = line_notices r step.who step.sapi step.notices
 
-same_endpoint_summary : (a b : EndpointSummary) → a.messages_got ≡ b.messages_got → a.octets ≡ b.octets → a.octet_sum ≡ b.octet_sum →
+same_endpoint_summary : (a b : EndpointSummary) → a.messages_got ≡ b.messages_got → a.octets ≡ b.octets →
+    a.octet_sum ≡ b.octet_sum →
     a.acked_messages ≡ b.acked_messages → a ≡ b
 same_endpoint_summary a b messages octets octet_sum acked = grind arith
 

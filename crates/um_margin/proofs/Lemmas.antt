@@ -22,7 +22,8 @@ use Rattle.{
 
 -- ---- soft bits have at most one comparison of their two most likely words
 
-pub one_compared : (soft : List ℤ) (c d : TwoMostLikelyWords) → AreTwoMostLikelyWords soft c → AreTwoMostLikelyWords soft d → c ≡ d
+pub one_compared : (soft : List ℤ) (c d : TwoMostLikelyWords) → AreTwoMostLikelyWords soft c → AreTwoMostLikelyWords soft d →
+    c ≡ d
 one_compared soft c d h g =
     let same = both_unique soft d.best d.next c.best c.next g.best g.next h.best h.next in
     let make : List ℕ → List ℕ → ℤ → ℤ → TwoMostLikelyWords =
@@ -58,7 +59,8 @@ AreTwoMostLikelyWords-compared_words soft n pairs long =
       metric = refl;
     }
 
-pub compared_words-only : (soft : List ℤ) (n : ℕ) (c : TwoMostLikelyWords) → length soft ≡ 2 * n → 5 ≤ n → AreTwoMostLikelyWords soft c →
+pub compared_words-only : (soft : List ℤ) (n : ℕ) (c : TwoMostLikelyWords) → length soft ≡ 2 * n → 5 ≤ n →
+    AreTwoMostLikelyWords soft c →
     c ≡ compared_words soft
 compared_words-only soft n c pairs long h = one_compared soft c _ h (AreTwoMostLikelyWords-compared_words soft n pairs long)
 

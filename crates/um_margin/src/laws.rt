@@ -15,7 +15,8 @@ ghost use Rattle.um_margin.specs.Compared.{compared_words, compared_block_words}
 /// Law: `compared_words` and `compared_block_words` compare the two most likely words, and no other comparison does.
 pub fn law_comparison_is_of_two_most_likely_words()
     ensures words { (soft : List ℤ) (n : ℕ) → length soft ≡ 2 * n → 5 ≤ n → AreTwoMostLikelyWords soft (compared_words soft) }
-    ensures only { (soft : List ℤ) (c d : TwoMostLikelyWords) → AreTwoMostLikelyWords soft c → AreTwoMostLikelyWords soft d → c ≡ d }
+    ensures only { (soft : List ℤ) (c d : TwoMostLikelyWords) → AreTwoMostLikelyWords soft c → AreTwoMostLikelyWords soft d →
+        c ≡ d }
     ensures block { (bursts : List (List ℤ)) (c : TwoMostLikelyWords) → AreTwoMostLikelyBlockWords bursts c →
         c ≡ compared_block_words bursts }
 {}

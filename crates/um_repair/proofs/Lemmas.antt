@@ -67,9 +67,11 @@ IsRepairResult-repair_result w count bits = go (low_bits 224 (number_of w)) (len
     go : (v : List ℕ) (e : length v ≡ 224) (b : AllBits v) → v ≡ w → IsRepairResult w (some_answer v e b).0
     go v e b same = subst (λ x. IsRepairResult x (some_answer v e b).0) same (some_answer v e b).1
 
-pub repair_result-only : (w : List ℕ) (a : RepairAnswer) → length w ≡ 224 → AllBits w → IsRepairResult w a → a ≡ repair_result w
+pub repair_result-only : (w : List ℕ) (a : RepairAnswer) → length w ≡ 224 → AllBits w → IsRepairResult w a →
+    a ≡ repair_result w
 repair_result-only w a count bits is = one_answer w a _ is (IsRepairResult-repair_result w count bits)
 
 -- the result for the word on a line
-pub result_of_line : (line w : List ℕ) (a : RepairAnswer) → RepairLineMeans line (Word w) → IsRepairResult w a → a ≡ repair_result w
+pub result_of_line : (line w : List ℕ) (a : RepairAnswer) → RepairLineMeans line (Word w) → IsRepairResult w a →
+    a ≡ repair_result w
 result_of_line line w a means = repair_result-only w a (are_word_bits line (Word w) means).0 (are_word_bits line (Word w) means).1

@@ -116,7 +116,8 @@ module _ (tsc : ℕ) (channel : Channel) (within : tsc ≤ 7) where
       go (None, means, is) = rw is before
       go (Some event, means, is) = rw is (event_keeps s event (octet_event line event means) before)
 
-  session_of_run : (lines answers : List (List ℕ)) (b : LinkSession) → Runs link_command_rules (new_session tsc channel) lines answers b →
+  session_of_run : (lines answers : List (List ℕ)) (b : LinkSession) →
+      Runs link_command_rules (new_session tsc channel) lines answers b →
       HasOctets b × IsSessionOn tsc channel b
   session_of_run lines answers b runs =
       Runs-keep link_command_rules (λ s. HasOctets s × IsSessionOn tsc channel s) line_keeps (new_session tsc channel) b lines answers
@@ -172,14 +173,16 @@ module _ (tsc : ℕ) (channel : Channel) (before after : RadioCounters) where
   start = record { session = new_session tsc channel; initial_counters = before }
 
   pub IsLinkCommandRun-run : (Represents : SessionWithRadioCounters → Type 0) →
-      ((c : SessionWithRadioCounters) → Represents c → Reports after c) → (status : Status) (left left' taken taken' : Option (List ℕ)) →
+      ((c : SessionWithRadioCounters) → Represents c → Reports after c) →
+      (status : Status) (left left' taken taken' : Option (List ℕ)) →
       IsRun link_rules_with_radio_counters start Represents status left left' taken taken' →
       IsLinkCommandRun tsc channel status left left' taken taken' before after
   IsLinkCommandRun-run Represents tells =
       run_by session_in link_rules_with_radio_counters link_command_rules without_radio start Represents
       (λ last. RadioCountersRose last.answers before after) counted
     where
-      counted : (b : SessionWithRadioCounters) (lines answers : List (List ℕ)) → Runs link_rules_with_radio_counters start lines answers b →
+      counted : (b : SessionWithRadioCounters) (lines answers : List (List ℕ)) →
+          Runs link_rules_with_radio_counters start lines answers b →
           Represents b → RadioCountersRose b.session.answers before after
       counted b lines answers runs represents =
           let kept = Runs-keep link_rules_with_radio_counters (λ c. c.initial_counters ≡ before) (counters_kept before) start b lines

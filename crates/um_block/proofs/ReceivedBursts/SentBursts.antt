@@ -214,7 +214,8 @@ IsSentBlock-sent_block octets tsc count small known =
       layout = refl;
     }
 
-pub IsSentAccess-sent_access : (d b : List ℕ) → length d ≡ 8 → AllBits d → length b ≡ 6 → AllBits b → IsSentAccess d b (sent_access d b)
+pub IsSentAccess-sent_access : (d b : List ℕ) → length d ≡ 8 → AllBits d → length b ≡ 6 → AllBits b →
+    IsSentAccess d b (sent_access d b)
 unfolding sent_access
 IsSentAccess-sent_access d b ed bd eb bb = record {
   coded_bits = coded_word d (crc_of_rach d b);

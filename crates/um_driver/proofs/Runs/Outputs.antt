@@ -94,14 +94,16 @@ long_first line more end plain long =
     let (ls, last, all, p, e) = divide more in go ls last all p e
   where
     go : (ls : List (List ℕ)) (last : List ℕ) → All IsLine ls → IsLine last → more ≡ text_of_lines ls ++ last →
-        (next : List ℕ) × (later : List (List ℕ)) × (line_limit < length next) × (lines_to_process (line ++ more) end ≡ next ∷ later)
+        (next : List ℕ) × (later : List (List ℕ)) × (line_limit < length next)
+        × (lines_to_process (line ++ more) end ≡ next ∷ later)
     go [] last all p e =
         let far : line_limit < length (line ++ last) = omega (arith, length-append line last) in (
           line ++ last,
           [],
           far,
           ap (λ o. lines_to_process (line ++ o) end) e
-              ∙ lines_to_process-last (line ++ last) end (All-append IsNotLineFeed line last plain p) ∙ long_last (line ++ last) end far,
+              ∙ lines_to_process-last (line ++ last) end (All-append IsNotLineFeed line last plain p)
+              ∙ long_last (line ++ last) end far,
         )
     go (l ∷ ls) last all p e =
         let whole : IsLine (line ++ l) = All-append IsNotLineFeed line l plain (All-head IsLine l ls all) in
@@ -147,7 +149,8 @@ module _ {State : Type 0} (r : Rules State) where
   Runs-append a b c _ ls' _ ys' none then = absurd none
 
   -- if each step preserves a property of the state, so does the whole run
-  pub Runs-keep : (P : State → Type 0) → ((a b : State) (line answer : List ℕ) → P a → answer_to_line r a line ≡ Ok (answer, b) → P b) →
+  pub Runs-keep : (P : State → Type 0) → ((a b : State) (line answer : List ℕ) → P a →
+      answer_to_line r a line ≡ Ok (answer, b) → P b) →
       (a b : State) (ls ys : List (List ℕ)) → P a → Runs r a ls ys b → P b
   Runs-keep P keeps a b [] [] h same = rw same h
   Runs-keep P keeps a b (line ∷ ls) (y ∷ ys) h (mid, step, runs) = Runs-keep P keeps mid b ls ys (keeps a mid line y h step) runs
@@ -205,7 +208,8 @@ module _ {State : Type 0} (r : Rules State) where
 
     -- ---- the next line is refused
 
-    pub respond_line : (x line after : List ℕ) (ended : Bool) (fault : LineFault) → x ≡ text_of_lines lines ++ (line ++ 10 ∷ after) →
+    pub respond_line : (x line after : List ℕ) (ended : Bool) (fault : LineFault) →
+        x ≡ text_of_lines lines ++ (line ++ 10 ∷ after) →
         IsLine line → length (text_of_lines lines ++ line) < input_limit → answer_to_line r b line ≡ Err fault →
         response r a x ended ≡ (Some BadInput, concatenated_text answers ++ refused_text next_number fault)
     respond_line x line after ended fault split p below bad =
@@ -296,7 +300,8 @@ module _ {State : Type 0} (r : Rules State) where
 
     -- ---- the lines that the response answers begin with these
 
-    pub first_processed : (x more : List ℕ) (ended : Bool) → x ≡ text_of_lines lines ++ more → length (text_of_lines lines) ≤ input_limit →
+    pub first_processed : (x more : List ℕ) (ended : Bool) → x ≡ text_of_lines lines ++ more →
+        length (text_of_lines lines) ≤ input_limit →
         (later : List (List ℕ)) × (processed_lines x ended ≡ lines ++ later)
     unfolding processed_lines
     first_processed x more ended split within =
@@ -338,7 +343,8 @@ module _ {State : Type 0} (r : Rules State) where
       go (λ b. continued b (n + 1) lines last more end plain) (answer_to_line r a line)
     where
       go : ((b : State) → Continues (response_to_lines r b (n + 1) (lines ++ last_line last Open) Open)
-          (response_to_lines r b (n + 1) (lines ++ lines_to_process (last ++ more) end) end)) → (answer : Result (List ℕ × State) LineFault) →
+          (response_to_lines r b (n + 1) (lines ++ lines_to_process (last ++ more) end) end)) →
+          (answer : Result (List ℕ × State) LineFault) →
           Continues (response_from_answer n (λ b. response_to_lines r b (n + 1) (lines ++ last_line last Open) Open) answer)
           (response_from_answer n (λ b. response_to_lines r b (n + 1) (lines ++ lines_to_process (last ++ more) end) end) answer)
       go later (Ok next) = Continues-answer next.0 _ _ (later next.1)
@@ -368,7 +374,8 @@ module _ {State : Type 0} (r : Rules State) where
         ap (λ o. lines_to_process o Open) (take_all input_limit x short ∙ x_is)
         ∙ lines_to_process-after ls last Open all ∙ ap (λ l. ls ++ l) (lines_to_process-last last Open p) in
         let later : lines_to_process (take input_limit (x ++ more)) end ≡ ls ++ lines_to_process (last ++ take j more) end =
-        ap (λ o. lines_to_process o end) (more_is ∙ ap (λ o. o ++ take j more) x_is ∙ append_assoc (text_of_lines ls) last (take j more))
+        ap (λ o. lines_to_process o end) (more_is ∙ ap (λ o. o ++ take j more) x_is
+        ∙ append_assoc (text_of_lines ls) last (take j more))
         ∙ lines_to_process-after ls (last ++ take j more) end all in
         subst (λ e. Continues (response_to_lines r a 1 (lines_to_process (take input_limit x) e) e)
         (response_to_lines r a 1 (lines_to_process (take input_limit (x ++ more)) end) end))
@@ -469,7 +476,8 @@ module _ {S T : Type 0} (f : S → T) (r : Rules S) (r' : Rules T) (w : IsProjec
   }
 
   -- a run that ends as the rules r prescribe ends as the rules r' prescribe
-  pub prescribed_by : (a : S) (status : Status) (left taken taken' : Option (List ℕ)) → EndsAsPrescribed r a status left taken taken' →
+  pub prescribed_by : (a : S) (status : Status) (left taken taken' : Option (List ℕ)) →
+      EndsAsPrescribed r a status left taken taken' →
       EndsAsPrescribed r' (f a) status left taken taken'
   prescribed_by a status None taken taken' h = tt
   prescribed_by a status (Some x) taken taken' h = rw (whole_response_by a x true) h

@@ -302,7 +302,8 @@ line-possible Network held line meaning means =
     & (λ count values here (m, rest, is, known, none). rw is (refl, known.2)) & (λ count values here none. (refl, tt))
     & (λ count values here none. (refl, tt)) & (λ count values here none. (refl, tt)) & tt) line meaning means
 
-pub burst_of_line : (role : Role) (held : ℕ) (line : List ℕ) (soft : List ℤ) → end_command_line role held line ≡ Ok (TakesBurst soft) →
+pub burst_of_line : (role : Role) (held : ℕ) (line : List ℕ) (soft : List ℤ) →
+    end_command_line role held line ≡ Ok (TakesBurst soft) →
     length soft ≡ 148
 burst_of_line role held line soft is =
     (line-possible role held line (TakesBurst soft) (end_command_line_means role held line (TakesBurst soft) is)).0

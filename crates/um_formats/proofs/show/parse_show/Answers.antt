@@ -25,4 +25,8 @@ returns-then-line-gt-LINE_LIMIT-clause-value c =
 pub returns-then-is_skipped_line-clause-value : goal.returns-then-is_skipped_line-clause-value
 unfolding show_line
 returns-then-is_skipped_line-clause-value c =
-    rw (le-ltb 4096 (length c.args.line.now) c.if-line-gt-LINE_LIMIT.false, sym c.is_skipped_line.ensures ∙ c.if-is_skipped_line.true) refl
+    rw (
+      le-ltb 4096 (length c.args.line.now) c.if-line-gt-LINE_LIMIT.false,
+      sym c.is_skipped_line.ensures
+          ∙ c.if-is_skipped_line.true,
+    ) refl

@@ -20,7 +20,8 @@ returns-after-complete-clause-answered g c = λ held same.
       | else-complete w ↦ rw (w.if-complete.false, w.out-is) c.requires.empty
     ] in (
       new.held,
-      subst (λ (hs : List (List ℤ)). (burst_rules a).step hs c.args.line.now ≡ Ok (c.if-complete.out, new.held)) (c.self.view_is ∙ same)
+      subst (λ (hs : List (List ℤ)). (burst_rules a).step hs c.args.line.now ≡ Ok (c.if-complete.out, new.held)) (c.self.view_is
+          ∙ same)
           (line_answered a c.self.inside.held new c.args.line.now c.if-complete.out (Normal h.soft)
           (normal_burst_result c.in-Some.complete) h.means (c.in-Some.complete, refl, h.adds_burst) wrote),
       refl,
