@@ -1,10 +1,10 @@
 -- The link of SAPI 0 of a data link does what it would do alone.
 use Rattle.{
-  std.{specs.Prelude.{◌≡◌, ◌≢◌, ℕ, Bool, true, false, nat_eq, Option, Some, None}, proofs.Common.{arith, refl}},
+  std.{specs.Prelude.{◌≡◌, ◌≢◌, Bool, true, false, Option, Some, None}, proofs.Common.{arith, refl}},
   lapdm_frame.specs.Content.Frame,
   lapdm_datalink.specs.{
-    Links.{LinkState, SlotOutcome, slot_outcome, after_slot, after_frame},
-    DataLinks.{DataLinkState, data_link_outcome, after_arrival, with_sapi3, with_clocks_moved, sapi_for_frame, taken_by, takes_sapi3},
+    Links.{SlotOutcome, slot_outcome, after_slot, after_frame},
+    DataLinks.{DataLinkState, after_arrival, with_sapi3, with_clocks_moved, takes_sapi3},
     Progress.GoesFirst,
   },
 }

@@ -1,26 +1,20 @@
 -- An acknowledgement that arrives ends the wait, and an I frame that arrives is answered in the slot.
 use Rattle.{
-  std.{
-    specs.Prelude.{◌≡◌, ◌≢◌, ℕ, ◌+◌, ◌%◌, Bool, true, false, ◌||◌, ◌⊎◌, nat_eq, List, [], ◌∷◌},
-    specs.Prelude.{Option, Some, None, All},
-    proofs.{Common.{inl, inr, arith, refl, ap, sym, ◌∙◌}, lemmas.List.Elements.{All-head, All-tail}},
-  },
+  std.specs.Prelude.{◌≡◌, ◌≢◌, ℕ, Bool, true, false, ◌||◌, nat_eq, List, [], ◌∷◌, Option, Some, None, All},
+  std.proofs.{Common.{inl, inr, arith, refl, ap, ◌∙◌}, lemmas.List.Elements.{All-head, All-tail}},
   lapdm_frame.specs.Content.{Content, I, Rr, Rej, Frame},
   lapdm_end.specs.lapdm_window.{
-    declared.{Sapi.TheVariants.Zero, State.TheVariants.{Open, Closed}, Refused.Refused},
+    declared.{Sapi.TheVariants.Zero, State.TheVariants.Open, Refused.Refused},
     segmenting.Segments.Segment,
     Ends.{EndpointState, Role, vr, vs, awaits_ack, command_cr},
-    Tables.{Reply, TakesIFrame, TakesRr},
+    Tables.TakesIFrame,
     Calls.{Call, Opens, Sends, refusal_of},
   },
   lapdm_datalink.{
-    specs.{Links.{LinkState, after_frame, after_slot, after_call, slot_outcome, is_unnumbered_answer, is_due}, Slots.{nr_in, nr_of, took}},
-    specs.Channels.{after_calls, after_call_unless, IsUse},
-    proofs.{
-      ProgressSteps.{acked, issued, accepted, Good, taken, by_nr_i, by_nr_rr},
-      ProgressLink.{reply_with, is_i, is_rr, ns_in, poll_in},
-      Answering.{Says, Carries, carries, says_after_slot, says_took, stays_open},
-    },
+    specs.{Links.{LinkState, after_frame, after_slot, after_call, is_unnumbered_answer}, Slots.{nr_in, took}, Channels.after_calls},
+    specs.Channels.{after_call_unless, IsUse},
+    proofs.{ProgressSteps.{acked, issued, Good, taken, by_nr_i, by_nr_rr}, ProgressLink.{reply_with, is_i, is_rr, ns_in}, Answering.Says},
+    proofs.Answering.{Carries, carries, says_after_slot, says_took, stays_open},
   },
 }
 

@@ -1,9 +1,6 @@
 -- The sequence invariant of two links, by plain numbers: counts that never go down, and what three bits of them show.
 use Rattle.{
-  std.{
-    specs.Prelude.{◌≡◌, ℕ, zero, suc, ◌+◌, ◌-◌, ◌%◌, ◌≤◌, ◌⊎◌, Bool, true, false},
-    proofs.Common.{inl, inr, arith, refl},
-  },
+  std.{specs.Prelude.{◌≡◌, ℕ, zero, suc, ◌+◌, ◌-◌, ◌%◌, ◌≤◌, ◌⊎◌}, proofs.Common.{inl, inr, arith, refl}},
   lapdm_end.specs.lapdm_window.Ends.{Role, Mobile, Network},
   lapdm_link.specs.Events.other,
 }

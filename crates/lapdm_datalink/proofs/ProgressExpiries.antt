@@ -1,7 +1,7 @@
 -- Each expiry of T200 of an open link of SAPI 0 is paid by a loss: the last sending of its I frame, followed from slot to slot.
 use Rattle.{
-  std.specs.Prelude.{◌≡◌, ◌≢◌, ℕ, zero, suc, ◌+◌, ◌-◌, ◌*◌, ◌≤◌, Bool, true, false, ◌||◌, ◌⊎◌},
-  std.{specs.Prelude.{nat_le, List, Option, Some, None, IfSome}, proofs.Common.{inl, inr, arith, refl, ap, sym, ◌∙◌}},
+  std.specs.Prelude.{◌≡◌, ◌≢◌, ℕ, zero, suc, ◌+◌, ◌-◌, ◌≤◌, Bool, true, false, ◌⊎◌, nat_le, List, Option},
+  std.{specs.Prelude.{Some, None, IfSome}, proofs.Common.{inl, inr, arith, refl, ap, sym, ◌∙◌}},
   lapdm_frame.specs.Content.{Content, I, Frame},
   lapdm_end.specs.lapdm_window.{
     declared.State.TheVariants.{Open, Closed},
@@ -11,15 +11,15 @@ use Rattle.{
   },
   lapdm_link.specs.Events.other,
   lapdm_datalink.{
-    specs.{Links.{LinkState, slot_outcome, is_closed, is_due, first_frame, is_awaiting_kind}, Channels.{Run, after_calls, after_arriving}},
-    specs.Progress.{link_at, turn_at, arriving_at, ready_at, frame_at, is_loss, is_loss_at, IsWithoutRelease, NoneGaveUp, round_trip},
-    specs.Progress.{is_i_frame, is_i_content, is_repetition, is_repeated_content, IsPaid, PaysForExpiries},
+    specs.{Links.{LinkState, slot_outcome, is_closed, is_due, first_frame, is_awaiting_kind}, Channels.Run, Progress.{link_at, turn_at}},
+    specs.Progress.{arriving_at, ready_at, frame_at, is_loss, is_loss_at, IsWithoutRelease, is_i_frame, is_i_content, is_repetition},
+    specs.Progress.{is_repeated_content, PaysForExpiries},
     proofs.{
-      ProgressSteps.{acked, issued, accepted, IsAnswerOf, Good},
+      ProgressSteps.{acked, issued, IsAnswerOf},
       ProgressLink.{From, nowhere, owed, first, again, slot_from, slot_acked, slot_issued},
-      ProgressStart.{Settled, is_young, Ages, ages, ages_ready, ready_owed, ready_t200, slot_open},
+      ProgressStart.{is_young, Ages, ages, ages_ready, ready_owed, ready_t200, slot_open},
       ProgressWaits.{WaitsFrom, waits_ready, WaitsOver, starts, goes_on, waits_over},
-      ProgressRuns.{Sound, sound, slotted_in, link_step},
+      ProgressRuns.{sound, slotted_in, link_step},
       ProgressPaid.{acked_in_time, le_of, not_le_of, answered_frame},
     },
   },

@@ -1,25 +1,20 @@
 -- What a link of SAPI 0 does with what arrives, with the calls of layer 3, and in its slot: its counts, and what its frames say.
 use Rattle.{
-  std.{
-    specs.Prelude.{◌≡◌, ℕ, ◌+◌, ◌%◌, ◌≤◌, Bool, true, false, not, ◌||◌, ◌&&◌, ◌⊎◌, nat_eq, List, []},
-    specs.Prelude.{◌∷◌, Option, Some, None, IfSome, All, ◌≢◌},
-    proofs.{Common.{inl, inr, arith, refl, ap, sym, ◌∙◌, length-append}, lemmas.List.Elements.{All-head, All-tail}},
-  },
-  lapdm_frame.specs.Content.{Content, I, Rr, Rej, Frame},
+  std.specs.Prelude.{◌≡◌, ℕ, ◌+◌, ◌%◌, ◌≤◌, Bool, true, false, not, ◌&&◌, ◌⊎◌, List, Option, Some, None},
+  std.{specs.Prelude.{IfSome, ◌≢◌}, proofs.Common.{inl, inr, arith, refl, ap, sym, ◌∙◌}},
+  lapdm_frame.specs.Content.{Content, I, Rr, Frame},
   lapdm_end.specs.lapdm_window.{
-    declared.{Sapi.TheVariants.Zero, State.TheVariants.{Open, Closed}, Refused.Refused},
-    segmenting.Segments.Segment,
-    Ends.{EndpointState, Role, vr, vs, va, awaits_ack, command_cr},
+    declared.{Sapi.TheVariants.Zero, State.TheVariants.Open},
+    Ends.{EndpointState, vr, vs, va, command_cr},
     Tables.{Reply, TakesIFrame, TakesRr, reply_to_frame, is_command},
-    Calls.{Call, Opens, Sends, refusal_of, awaited_frame, t200_expiry, is_idle},
+    Calls.{Opens, Sends, refusal_of, awaited_frame, t200_expiry, is_idle},
   },
   lapdm_link.specs.Worlds.rej_replaced_by_rr,
   lapdm_datalink.{
     specs.Links.{LinkState, SlotOutcome, after_frame, after_slot, after_call, slot_outcome, ignores, is_due, keeps_back, first_frame},
-    specs.{Links.is_awaiting_kind, Slots.{nr_in, nr_of, IsStepOfEndpoint}, Channels.{after_arriving, after_calls, after_call_unless}},
-    specs.Channels.IsUse,
+    specs.{Links.is_awaiting_kind, Slots.{nr_in, nr_of, IsStepOfEndpoint}, Channels.after_arriving},
     proofs.ProgressSteps.{acked, issued, accepted, aired, IsAnswerOf, Good, Moves, Takes, nr_taken, ns_taken, is_rej, taken, takes},
-    proofs.{ProgressSteps.{by_nr_i, by_nr_rr}, Answering.step_of_endpoint},
+    proofs.Answering.step_of_endpoint,
   },
 }
 

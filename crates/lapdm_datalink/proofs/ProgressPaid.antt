@@ -1,32 +1,15 @@
 -- An I frame is acknowledged within a round trip if neither its slot nor that of its answer brings a loss.
 use Rattle.{
-  std.{
-    specs.Prelude.{◌≡◌, ◌≢◌, ℕ, zero, suc, ◌+◌, ◌*◌, ◌%◌, ◌≤◌, Bool, true, false, not, ◌||◌, ◌⊎◌},
-    specs.Prelude.{nat_eq, nat_le, List, [], ◌∷◌, Option, Some, None, All},
-    proofs.Common.{inl, inr, arith, refl, ap, sym, ◌∙◌},
-  },
-  lapdm_frame.specs.Content.{Content, I, Frame},
-  lapdm_end.specs.lapdm_window.{
-    declared.{Sapi.TheVariants.Zero, State.TheVariants.{Open, Closed}},
-    Ends.{Role, Mobile, Network, vr, vs, awaits_ack, command_cr},
-    Rules.is_open,
-  },
+  std.specs.Prelude.{◌≡◌, ◌≢◌, ℕ, suc, ◌+◌, ◌%◌, ◌≤◌, Bool, true, false, ◌||◌, ◌⊎◌, nat_eq, nat_le},
+  std.{specs.Prelude.{List, Option, Some, None}, proofs.Common.{inl, inr, arith, refl, ap, sym, ◌∙◌}},
+  lapdm_frame.specs.Content.{I, Frame},
+  lapdm_end.specs.lapdm_window.{declared.State.TheVariants.{Open, Closed}, Ends.{Role, Mobile, Network, vr, awaits_ack, command_cr}},
   lapdm_link.specs.Events.other,
   lapdm_datalink.{
-    specs.{
-      Links.{LinkState, slot_outcome, after_slot, after_frame, is_closed, is_due},
-      Slots.{nr_in, nr_of, took},
-      Channels.{Run, carried, after_calls, after_arriving},
-      Progress.{link_at, turn_at, arriving_at, ready_at, frame_at, is_loss, is_loss_at, IsWithoutRelease, NoneGaveUp, round_trip},
-      Progress.{is_i_frame, is_i_content, is_repetition, is_repeated_content, IsPaid, PaysForExpiries},
-    },
-    proofs.{
-      ProgressSteps.{acked, issued, accepted, aired, Good, accepts_taken},
-      ProgressLink.{Slotted, ns_in, ns_of, poll_in},
-      ProgressStart.{Settled, kept_counts},
-      ProgressAnswers.{gets_ack, i_arrives, answers},
-      ProgressRuns.{Sound, sound, slotted_in, link_step, arrived, counts, counted},
-    },
+    specs.{Links.{LinkState, slot_outcome, after_slot}, Slots.{nr_in, nr_of, took}, Channels.{Run, carried, after_calls, after_arriving}},
+    specs.Progress.{link_at, turn_at, arriving_at, ready_at, frame_at, IsWithoutRelease},
+    proofs.{ProgressSteps.{acked, issued, accepted, aired, accepts_taken}, ProgressLink.{ns_in, poll_in}, ProgressStart.kept_counts},
+    proofs.{ProgressAnswers.{gets_ack, i_arrives, answers}, ProgressRuns.{sound, slotted_in, link_step, arrived, counts, counted}},
   },
 }
 use Rattle.lapdm_datalink.proofs.ProgressCounts as C

@@ -2,12 +2,12 @@
 use Rattle.{
   std.{
     specs.Prelude.{◌≡◌, ◌≢◌, ℕ, zero, suc, ◌+◌, ◌-◌, ◌*◌, ◌≤◌, Bool, true, false, not, ◌&&◌, ◌||◌},
-    specs.Prelude.{◌⊎◌, nat_eq, nat_le, List, Option, Some, None, IfSome, All},
-    proofs.{Common.{inl, inr, arith, refl, ap, sym, ◌∙◌}, Math.Nat.{mul-add, add-mul, mul-one, one-mul}},
+    specs.Prelude.{◌⊎◌, nat_eq, nat_le, List, Option, Some, None, IfSome},
+    proofs.{Common.{inl, inr, arith, refl, ap, sym, ◌∙◌}, Math.Nat.{add-mul, one-mul}},
   },
   lapdm_frame.specs.Content.{Content, I, Rr, Rej, Frame},
   lapdm_end.specs.lapdm_window.{
-    declared.{Sapi.TheVariants.Zero, State.TheVariants.{Open, Closed}},
+    declared.State.TheVariants.{Open, Closed},
     segmenting.Segments.Segment,
     Ends.{Role, Mobile, Network, EndpointState, vr, command_cr, first_unacked_segment},
     Rules.nr_acknowledges_segment,
@@ -15,22 +15,18 @@ use Rattle.{
   },
   lapdm_link.specs.Events.other,
   lapdm_datalink.{
-    specs.{
-      Links.{LinkState, slot_outcome, is_due, keeps_back, is_plain_rr, is_awaiting_kind, first_frame, after_slot},
-      Slots.took,
-      Channels.{Run, carried, after_calls, after_arriving},
-      Progress.{link_at, turn_at, arriving_at, ready_at, frame_at, IsWithoutRelease, round_trip, one_if, is_i_frame, is_i_content},
-      Progress.{is_repetition, is_repeated_content, lossy_slots, waiting_slots, expiries, AreOpen, acked_at, Progress, Progresses},
-    },
+    specs.{Links.{LinkState, slot_outcome, is_due, keeps_back, is_plain_rr, is_awaiting_kind, first_frame}, Slots.took, Channels.Run},
+    specs.{Channels.after_arriving, Progress.{link_at, turn_at, arriving_at, ready_at, frame_at, IsWithoutRelease, round_trip, one_if}},
+    specs.Progress.{is_i_frame, is_i_content, is_repetition, is_repeated_content, lossy_slots, expiries, AreOpen, Progress, Progresses},
     proofs.{
-      ProgressSteps.{IsAnswerOf, Good, taken},
+      ProgressSteps.{IsAnswerOf, taken},
       ProgressLink.{From, nowhere, owed, first, again, slot_from, reply_with, frame_taken},
       ProgressStart.{ready_called, ready_role, slot_open},
       ProgressWaits.{SlotWay, sends, blocked, counts, slot_way},
-      ProgressRuns.{sound, slotted_in, link_step},
+      ProgressRuns.{sound, link_step},
       ProgressPaid.{in_sequence_or_polls, taken_is, arrived_other, le_of, not_le_of},
       ProgressExpiries.{true-false, owes_ready, i_parts},
-      ProgressWaiting.{answers_first, answering_slots, waits_at_most, repeats_at_most, due_clock, open_closed},
+      ProgressWaiting.{answers_first, answering_slots, waits_at_most, repeats_at_most, open_closed},
     },
   },
 }

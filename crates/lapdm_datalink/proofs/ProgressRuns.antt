@@ -1,16 +1,18 @@
 -- A run of the links of SAPI 0, slot by slot: what each link is between slots, what arrives, and the counts of both.
 use Rattle.{
-  std.specs.Prelude.{◌≡◌, ◌≢◌, ℕ, zero, suc, ◌+◌, ◌%◌, ◌≤◌, Bool, true, false, ◌⊎◌, List, [], ◌∷◌},
-  std.{specs.Prelude.{length, get_or, Option, Some, None, All}, proofs.Common.{inl, inr, arith, refl, ap, sym, ◌∙◌}},
-  std.proofs.lemmas.List.get_or_past,
+  std.specs.Prelude.{◌≡◌, ℕ, zero, suc, ◌+◌, ◌%◌, ◌≤◌, Bool, true, false, ◌⊎◌, ◌∷◌, length, get_or},
+  std.{specs.Prelude.{Option, Some, None}, proofs.{Common.{inl, inr, arith, refl, ap, sym, ◌∙◌}, lemmas.List.get_or_past}},
   lapdm_frame.specs.Content.Frame,
-  lapdm_end.specs.lapdm_window.{declared.Sapi.TheVariants.Zero, Ends.{Role, Mobile, Network, vr, vs, command_cr}, Calls.is_idle},
+  lapdm_end.specs.lapdm_window.{Ends.{Role, Mobile, Network, vr, vs}, Calls.is_idle},
   lapdm_link.specs.Events.other,
   lapdm_datalink.{
-    specs.{Links.{LinkState, slot_outcome, after_slot}, Slots.{nr_in, nr_of}, Channels.{Run, Side, channel_at, side_at, side_after}},
-    specs.{Channels.{carried, after_calls, after_arriving}, Progress.{link_at, turn_at, arriving_at, ready_at, frame_at, IsWithoutRelease}},
-    proofs.{ProgressSteps.{acked, issued, accepted, aired, Good, Moves}, ProgressLink.{Slotted, ns_in, ns_of}, ProgressStart.Settled},
-    proofs.ProgressStart.{settled, slotted_link, idle_from, idle_sends_nothing, idle_network, idle_stays, idle_silent},
+    specs.{Links.{LinkState, slot_outcome, after_slot}, Slots.{nr_in, nr_of}, Channels.{Run, channel_at, side_at, side_after, carried}},
+    specs.{Channels.{after_calls, after_arriving}, Progress.{link_at, turn_at, arriving_at, ready_at, frame_at, IsWithoutRelease}},
+    proofs.{
+      ProgressSteps.{acked, issued, accepted, aired, Good},
+      ProgressLink.{Slotted, ns_in, ns_of},
+      ProgressStart.{Settled, settled, slotted_link, idle_from, idle_sends_nothing, idle_network, idle_stays, idle_silent},
+    },
   },
 }
 use Rattle.lapdm_datalink.proofs.ProgressCounts as C

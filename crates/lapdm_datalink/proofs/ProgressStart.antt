@@ -1,10 +1,7 @@
 -- What holds of a link of SAPI 0 between slots: it owes nothing, and before it opens it has counted nothing.
 use Rattle.{
-  std.{
-    specs.Prelude.{◌≡◌, ℕ, ◌+◌, ◌-◌, ◌≤◌, Bool, true, false, ◌&&◌, ◌⊎◌, List, [], ◌∷◌, Option, Some},
-    specs.Prelude.{None, All, IfSome},
-    proofs.{Common.{inl, inr, arith, refl, ap, sym, ◌∙◌}, lemmas.List.Elements.{All-head, All-tail}},
-  },
+  std.specs.Prelude.{◌≡◌, ℕ, ◌+◌, ◌≤◌, Bool, true, false, ◌&&◌, ◌⊎◌, List, [], ◌∷◌, Option, Some, None},
+  std.{specs.Prelude.{All, IfSome}, proofs.{Common.{inl, inr, arith, refl, ap, sym, ◌∙◌}, lemmas.List.Elements.{All-head, All-tail}}},
   lapdm_frame.specs.Content.{Content, I, Rr, Rej, Frame},
   lapdm_end.specs.lapdm_window.{
     declared.{Sapi.TheVariants.Zero, State.{State, TheVariants.{Idle, Opening, Open}}, Refused.Refused},
@@ -15,8 +12,8 @@ use Rattle.{
     Calls.{Call, Opens, Sends, refusal_of, is_idle},
   },
   lapdm_datalink.{
-    specs.Links.{LinkState, after_frame, after_slot, after_call, slot_outcome, is_opening, sabm_goes_first, with_outcome, with_frame},
-    specs.{Links.{with_frames, is_awaiting_kind}, Channels.{after_calls, after_call_unless, after_arriving, IsUse}},
+    specs.Links.{LinkState, after_frame, after_slot, after_call, slot_outcome, is_opening, sabm_goes_first, with_frame, with_frames},
+    specs.{Links.is_awaiting_kind, Channels.{after_calls, after_call_unless, after_arriving, IsUse}},
     proofs.{
       ProgressSteps.{acked, issued, accepted, IsAnswerOf, Good, Moves, taken, outcome_endpoint},
       ProgressLink.{reply_with, frame_taken, Arrives, arrives, Called, then_called, then_moves, Slotted, slotted, called_nothing},

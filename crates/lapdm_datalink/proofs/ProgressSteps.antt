@@ -1,23 +1,16 @@
 -- What one link of SAPI 0 does when a frame arrives, when layer 3 makes a call, and in its slot: its counts, and what its frames say.
 use Rattle.{
-  std.{
-    specs.Prelude.{◌≡◌, ℕ, ◌+◌, ◌-◌, ◌%◌, ◌≤◌, Bool, true, false, not, ◌||◌, ◌⊎◌, if◌then◌else◌},
-    specs.Prelude.{nat_eq, length, Option, Some, None, IfSome, List, [], ◌∷◌},
-    proofs.Common.{inl, inr, arith, refl, ap, ◌∙◌, length-append},
-  },
-  lapdm_frame.specs.Content.{Content, I, Frame},
+  std.specs.Prelude.{◌≡◌, ℕ, ◌+◌, ◌≤◌, Bool, true, false, not, ◌⊎◌, if◌then◌else◌, nat_eq, length, Option},
+  std.{specs.Prelude.{Some, None, IfSome, List, [], ◌∷◌}, proofs.Common.{inl, inr, arith, refl, ap, ◌∙◌, length-append}},
+  lapdm_frame.specs.Content.Frame,
   lapdm_end.specs.lapdm_window.{
-    declared.{Sapi.TheVariants.Zero, State.TheVariants.{Idle, Opening, Open, Closing, Closed}},
+    declared.Sapi.TheVariants.Zero,
     segmenting.Segments.Segment,
-    Ends.{EndpointState, Outcome, vr, vs, va, awaits_ack, command_cr},
+    Ends.{EndpointState, Outcome, vr, vs, awaits_ack, command_cr},
     Rules.takes_i_frame,
-    Tables.{Reply, Nothing, SendsDm, SendsUa, AcceptsSabm, ConfirmsEstablishment, ClosesLink, AcceptsDisc, ReportsUiInformation},
-    Tables.{TakesIFrame, TakesRr, TakesRej, outcome_of_reply},
+    Tables.{Reply, AcceptsSabm, TakesIFrame, TakesRr, TakesRej, outcome_of_reply},
   },
-  lapdm_datalink.specs.{
-    Links.{LinkState, with_outcome, with_frame, with_frames, after_frame, after_slot, after_call, slot_outcome, is_awaiting_kind},
-    Slots.{nr_in, nr_of},
-  },
+  lapdm_datalink.specs.{Links.{LinkState, with_outcome, with_frame, with_frames, is_awaiting_kind}, Slots.nr_in},
 }
 
 -- ---- counts

@@ -1,28 +1,26 @@
 -- How long a link of SAPI 0 waits while both are open: each slot of waiting is charged to a segment, to a loss, or to an answer.
 use Rattle.{
-  std.{
-    specs.Prelude.{◌≡◌, ◌≢◌, ℕ, zero, suc, ◌+◌, ◌-◌, ◌*◌, ◌≤◌, Bool, true, false, not, ◌&&◌, ◌||◌},
-    specs.Prelude.{◌⊎◌, nat_le, nat_eq, List, Option, Some, None, IfSome},
-    proofs.{Common.{inl, inr, arith, refl, ap, sym, ◌∙◌}, Math.Nat.{mul-add, mul-one}},
-  },
-  lapdm_frame.specs.Content.{Content, I, Frame},
+  std.specs.Prelude.{◌≡◌, ◌≢◌, ℕ, zero, suc, ◌+◌, ◌-◌, ◌*◌, ◌≤◌, Bool, true, false, not, ◌&&◌},
+  std.{specs.Prelude.{◌||◌, ◌⊎◌, nat_le, nat_eq, List, Some}, proofs.Common.{inl, inr, arith, refl, ap, sym, ◌∙◌}},
+  std.proofs.Math.Nat.{mul-add, mul-one},
+  lapdm_frame.specs.Content.{I, Frame},
   lapdm_end.specs.lapdm_window.{
     declared.State.TheVariants.{Open, Closed},
     Ends.{Role, Mobile, Network, EndpointState, awaits_answer, awaits_ack},
   },
   lapdm_link.specs.Events.other,
   lapdm_datalink.{
-    specs.{Links.{LinkState, slot_outcome, is_due}, Channels.{Run, after_calls, after_arriving}, Progress.{link_at, turn_at, arriving_at}},
-    specs.Progress.{ready_at, frame_at, is_loss_at, IsWithoutRelease, round_trip, is_i_frame, is_repetition, is_lossy, one_if},
-    specs.Progress.{waiting_slots, lossy_slots, expiries, AreOpen, acked_at},
+    specs.{Links.{LinkState, slot_outcome, is_due}, Channels.Run, Progress.{link_at, turn_at, arriving_at, ready_at, frame_at, is_loss_at}},
+    specs.Progress.{IsWithoutRelease, round_trip, is_i_frame, is_repetition, is_lossy, one_if, waiting_slots, lossy_slots, expiries},
+    specs.Progress.{AreOpen, acked_at},
     proofs.{
       ProgressSteps.{acked, issued, aired, Moves},
       ProgressLink.{slot_acked, slot_issued, aired_unsent, aired_sent},
       ProgressStart.{ready_t200, ready_moves, ready_due, slot_open, clock_after},
-      ProgressWaits.{WaitsFrom, SlotWay, sends, blocked, counts, slot_way},
+      ProgressWaits.{SlotWay, sends, blocked, counts, slot_way},
       ProgressRuns.{sound, slotted_in, link_step, counted},
       ProgressPaid.{acked_in_time, answered_frame, le_of, not_le_of},
-      ProgressExpiries.{repeats, poll_is_i, answer_no_i, i_parts, loss_of, true-false, owes_ready, waits_at, awaits_differs, awaits_same},
+      ProgressExpiries.{repeats, poll_is_i, answer_no_i, i_parts, loss_of, true-false, owes_ready, waits_at, awaits_same},
     },
   },
 }

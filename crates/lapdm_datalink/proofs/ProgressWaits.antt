@@ -1,12 +1,14 @@
 -- A link of SAPI 0 whose I frame was sent and is not acknowledged: what of that stays from one slot to the next.
 use Rattle.{
-  std.specs.Prelude.{◌≡◌, ℕ, ◌+◌, ◌-◌, ◌≤◌, Bool, true, false, ◌⊎◌, nat_eq, List, [], ◌∷◌, Option, Some},
-  std.{specs.Prelude.{None, All}, proofs.{Common.{inl, inr, arith, refl, ap, sym, ◌∙◌}, lemmas.List.Elements.{All-head, All-tail}}},
+  std.{
+    specs.Prelude.{◌≡◌, ℕ, ◌-◌, ◌≤◌, Bool, true, false, ◌⊎◌, nat_eq, List, [], ◌∷◌, Option, Some, None, All},
+    proofs.{Common.{inl, inr, arith, refl, sym, ◌∙◌}, lemmas.List.Elements.{All-head, All-tail}},
+  },
   lapdm_frame.specs.Content.Frame,
   lapdm_end.specs.lapdm_window.{
-    declared.{Sapi.TheVariants.Zero, State.TheVariants.Open, Refused.Refused},
+    declared.{State.TheVariants.Open, Refused.Refused},
     segmenting.Segments.Segment,
-    Ends.{EndpointState, Role, vr, vs, awaits_ack, first_unacked_segment},
+    Ends.{Role, vr, vs, awaits_ack, first_unacked_segment},
     Tables.{Reply, TakesIFrame, TakesRr, TakesRej},
     Calls.{Call, Opens, Sends, refusal_of},
   },

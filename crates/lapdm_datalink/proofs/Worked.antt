@@ -1,6 +1,6 @@
 -- Worked runs of the links of SAPI 0: the bound is reached, and it fails where T200 is shorter than the round trip or differs.
 use Rattle.{
-  std.specs.Prelude.{◌≡◌, refl, ℕ, zero, suc, true, false, List, [], ◌∷◌, ◌++◌, replicate, get_or},
+  std.specs.Prelude.{◌≡◌, refl, ℕ, zero, suc, true, false, List, [], ◌∷◌, replicate, get_or},
   lapdm_frame.specs.declared.Channel.TheVariants.Sdcch,
   lapdm_end.specs.lapdm_window.{declared.State.TheVariants.{Open, Closed}, Ends.{Mobile, Network}, Calls.{Call, Opens, Sends}},
   lapdm_datalink.specs.{Channels.{Run, Slot}, Progress.{link_at, waiting_slots, lossy_slots}},

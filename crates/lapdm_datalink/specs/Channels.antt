@@ -1,6 +1,6 @@
 -- The links of SAPI 0 of a mobile and a network on one channel, slot by slot. In each slot each side sends one block, which arrives `delay`
 -- slots later, before the slot after that, or is lost. SAPI 0 goes first, so what else the sides send in their slots plays no part here.
-use Rattle.std.specs.Prelude.{◌≡◌, ℕ, zero, suc, Bool, true, false, if◌then◌else◌, List, [], ◌∷◌}
+use Rattle.std.specs.Prelude.{◌≡◌, ℕ, zero, suc, Bool, if◌then◌else◌, List, [], ◌∷◌}
 use Rattle.std.specs.Prelude.{get_or, Option, Some, None}
 use Rattle.lapdm_frame.specs.declared.Channel.{Channel}
 use Rattle.lapdm_frame.specs.Content.{Frame}

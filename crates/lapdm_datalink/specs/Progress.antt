@@ -1,7 +1,7 @@
 -- Progress: how long a link of SAPI 0 waits for answers, and what each expiry of T200 costs the channel. These are this project's own
 -- statements; the standard has none.
 use Rattle.std.specs.Prelude.{◌≡◌, ◌≢◌, ℕ, zero, suc, ◌+◌, ◌*◌, ◌≤◌, Bool, true, false, ◌||◌, ◌⊎◌}
-use Rattle.std.specs.Prelude.{List, Option, Some, None, All}
+use Rattle.std.specs.Prelude.{Option, Some, None, All}
 use Rattle.lapdm_frame.specs.Content.{Content, I, Frame}
 use Rattle.lapdm_end.specs.lapdm_window.declared.State.TheVariants.{Open}
 use Rattle.lapdm_end.specs.lapdm_window.Ends.{Role, Mobile, Network, awaits_answer}
@@ -9,7 +9,7 @@ use Rattle.lapdm_link.specs.Events.{other}
 use Rattle.lapdm_end.specs.lapdm_window.Rules.{is_open}
 use Rattle.lapdm_datalink.specs.Links.{LinkState, is_closed, slot_outcome, after_slot, after_frame}
 use Rattle.lapdm_datalink.specs.DataLinks.{DataLinkState, data_link_outcome, after_arrival}
-use Rattle.lapdm_datalink.specs.Channels.{Run, Slot, Turn, channel_at, side_at, turn_of, before_sending, arriving, IsUse}
+use Rattle.lapdm_datalink.specs.Channels.{Run, Turn, channel_at, side_at, turn_of, before_sending, arriving, IsUse}
 
 -- the round trip in slots: a frame, its answer, and the delay of each
 abbrev pub round_trip : (delay : ℕ) → ℕ
