@@ -1,4 +1,4 @@
--- Worked runs of the links of SAPI 0: the bound is reached, and it fails where T200 is shorter than the round trip or differs.
+-- Worked runs of the links of SAPI 0: what a round trip and a loss cost, and a T200 shorter than the round trip.
 use Rattle.{
   std.specs.Prelude.{◌≡◌, refl, ℕ, zero, suc, true, false, List, [], ◌∷◌, replicate, get_or},
   lapdm_frame.specs.declared.Channel.TheVariants.Sdcch,
