@@ -10,7 +10,7 @@ use Rattle.{
   um_cli.specs.{
     Arrivals.{LinkDecodesToMostLikelyWords, ReceivesMostLikelyWord, ReportsMostLikelyWord},
     EndAnswers.EndDecodesToMostLikelyWords,
-    Headline.{DecodesBurstsToMostLikelyWord, IsMaximumLikelihood, IsMostLikelyWord, ReplayDecodesToMostLikelyWords},
+    Decoded.{DecodesBurstsToMostLikelyWord, IsMaximumLikelihood, IsMostLikelyWord, ReplayDecodesToMostLikelyWords},
   },
   um_code.{
     proofs.um_formats.Lemmas.{access_burst, burst_line_means, normal_burst, sync_burst},
