@@ -13,23 +13,17 @@ use Rattle.{
       Queues.{IsOldestSentOrNone, Queues, empty_queues, queue_of, with_items_appended},
       Worlds.World,
       lapdm_frame.{Content.{Frame, information}, Frames.{FrameFits, IsFrameCoding, octets_of}, Refusals.IsRefused},
-      lapdm_frame.declared.{Channel.Channel, Refusal.Refusal},
+      lapdm_frame.{declared.{Channel.Channel, Refusal.Refusal}, Readings.HasUniqueReading},
       lapdm_window.{Ends.{Mobile, Network, Role}, declared.{Notice.Notice, Sapi.Sapi}},
     },
   },
   std.{
     specs.{List.AllZip, Prelude.{IfSome, unsigned_abs}},
-    proofs.{
-      Common.{All, List, None, Option, Some, [], ap, arith, drop, false, get_or, get_or-set_same, inl, inr, length, map, nat_eq, pos, refl},
-      Common.{sym, ℕ, ℤ, ◌%◌, ◌++◌, ◌-◌, ◌/◌, ◌<◌, ◌∙◌, ◌∷◌, ◌≡◌, ◌≢◌, ◌≤◌, ◌⊎◌},
-      Math.ListN.get_or-map,
-      lemmas.{
-        Bool.{Decides.nat_tests, cases_eq},
-        Slice.Zip.AllZip-long,
-        List.{get_or-append_right, get_or-set_other, get_or_append_left, get_or_default, length-map, length-set, set_past},
-        List.Elements.{All-append, All-cons, All-drop, All-head, All-map, All-nil, All-replicate, All-set, All-tail, All-take},
-      },
-    },
+    proofs.Common.{All, List, None, Option, Some, [], ap, arith, drop, false, get_or, get_or-set_same, inl, inr, length, map, nat_eq, pos},
+    proofs.Common.{refl, sym, ℕ, ℤ, ◌%◌, ◌++◌, ◌-◌, ◌/◌, ◌<◌, ◌∙◌, ◌∷◌, ◌≡◌, ◌≢◌},
+    proofs.{Common.{◌≤◌, ◌⊎◌}, Math.ListN.get_or-map, lemmas.{Bool.{Decides.nat_tests, cases_eq}, Slice.Zip.AllZip-long}},
+    proofs.lemmas.List.{get_or-append_right, get_or-set_other, get_or_append_left, get_or_default, length-map, length-set, set_past},
+    proofs.lemmas.List.Elements.{All-append, All-cons, All-drop, All-head, All-map, All-nil, All-replicate, All-set, All-tail, All-take},
   },
   um_air.specs.{
     Air.{Accepts, AirState, Answer, AreBlocksOfFrames, Block, Event, EventDelivers, IsAirRun, IsAirStep, Octets, ReadsFrame, ReceivesBlock},
@@ -37,18 +31,17 @@ use Rattle.{
     Damage.AreCorrectableBursts,
     Sessions.{AllEventsInvertFewBits, AreOctets, EventInvertsFewBits, EventMessageIsOctets, IsBenign, IsBenignFrom, IsBenignStep},
     Sessions.{answer_without_blocks, queues_after_event, session_log},
+    Computed.{air_step, frame_in, frame_in_accepted, frame_in_report, report_of, report_on_oldest},
   },
   um_block.{
     proofs.Lemmas.{accepted_count, accepted_octets, clean_gathered, coded_block_bits, few_listed_positions, listed, received_block-only},
-    proofs.Lemmas.{one_sent_block, received_place, sent_block-only, restored_block, sent_block_bits, some_received_block, some_sent_block},
+    proofs.Lemmas.{received_place, sent_block-only, restored_block, sent_block_bits, some_received_block, some_sent_block},
     proofs.{interleave.Lemmas.position_in_four_bursts-below, weight_bound.Lemmas.IsCorrectable-equal},
     specs.{Received.{IsReceivedBlock, coded_soft_bits, joined_bursts, soft_bit_of, soft_bits}, Sent.IsSentBlock, bit_blocks.Octets.IsOctet},
     specs.{declared.received.Received.Received, interleave.{Bursts.IsInterleaved, Positions.position_in_four_bursts}},
+    specs.Computed.{received_block, sent_block},
   },
 }
-use Rattle.um_air.specs.Computed.{air_step, frame_in, frame_in_accepted, frame_in_report, report_of, report_on_oldest}
-use Rattle.um_block.specs.Computed.{received_block, sent_block}
-use Rattle.lapdm_link.specs.lapdm_frame.Readings.{HasUniqueReading}
 use Rattle.lapdm_link.specs.Events as E
 use Rattle.lapdm_link.specs.Worlds as W
 
@@ -76,6 +69,7 @@ ReadsFrame-frame_in channel octets count = go (cases_eq (length octets) 23)
     ])
     read (inl (f, only)) = only.frame
     read (inr (reason, only)) = (reason, only.refused)
+
     go : (known : (length octets ≡ 23) ⊎ (length octets ≢ 23)) → ReadsFrame channel (Some octets) (elim known [
       | inl count ↦ elim (one_reading channel octets count) [ inl reading ↦ Some reading.0 | inr reading ↦ None ]
       | inr other ↦ None
@@ -102,6 +96,7 @@ frame_in-refused channel octets why h = go (cases_eq (length octets) 23)
         ◌≡◌ {A = Option Frame} (elim reading [ inl reading ↦ Some reading.0 | inr reading ↦ None ]) None
     read (inl (f, only)) = absurd (only.not_refused why h)
     read (inr refused) = refl
+
     go : (known : (length octets ≡ 23) ⊎ (length octets ≢ 23)) → ◌≡◌ {A = Option Frame} (elim known [
       | inl count ↦ elim (one_reading channel octets count) [ inl reading ↦ Some reading.0 | inr reading ↦ None ]
       | inr other ↦ None

@@ -1,13 +1,8 @@
 -- What a terminal does with a call or with bursts, and the rules of `end`, agree with the relations that are their laws.
 use Rattle.{
   lapdm_end.specs.{Sides.CarriesOutStep, declared.sides.Side.Side},
-  std.{
-    proofs.{
-      Common.{Err, Ok, Result, append-nil, append_assoc, get_or, take, ◌⊎◌},
-      lemmas.{Bool.{cases_lt, le-ltb, lt-ltb}, List.{Elements.{All-head, All-nil, All-push, All-tail}, take_more}, Grind.flat_map-append},
-    },
-    specs.{List.All, Result.IfErr},
-  },
+  std.proofs.{Common.{Err, Ok, Result, append-nil, append_assoc, get_or, take, ◌⊎◌}, lemmas.Bool.{cases_lt, le-ltb, lt-ltb}},
+  std.{proofs.lemmas.List.{Elements.{All-head, All-nil, All-push, All-tail}, take_more}, specs.{List.All, Result.IfErr}},
   um_driver.{proofs.Outputs.{meaning_of_answer, step_of_answer}, specs.Rules.Runs},
   um_end.specs.{
     Abstraction.role_of_terminal,
@@ -30,10 +25,14 @@ use Rattle.{
       um_air.Lemmas.{ReadsFrame-frame_in_accepted, frame_in-only, frame_in-refused, octets_small, same_step},
       um_block.Lemmas.{IsSentBlock-sent_block, accepted_count, received_block-only, some_received_block},
     },
-    specs.{lapdm_window.{Calls.IsCallAllowedForEndpoint, Ends.{IsValidEndpoint, initial_endpoint}}, um_air.Computed.frame_in_accepted},
-    specs.lapdm_link.{Events.{BothSides, other, side_with_role, with_side_replaced}, Queues.without_oldest_item},
-    specs.{lapdm_window.declared.{Refused.Refused, effects.Effects.Effects}, um_block.{Computed.{received_block, sent_block}}},
-    specs.{lapdm_frame.{Readings.IsOnlyRefusalReason, declared.Refusal.Refusal}, um_block.Received.IsReceivedBlock},
+    specs.{
+      lapdm_window.{Calls.IsCallAllowedForEndpoint, Ends.{IsValidEndpoint, initial_endpoint}, declared.Refused.Refused},
+      lapdm_window.declared.effects.Effects.Effects,
+      um_air.Computed.frame_in_accepted,
+      lapdm_link.{Events.{BothSides, other, side_with_role, with_side_replaced}, Queues.without_oldest_item},
+      um_block.{Computed.{received_block, sent_block}, Received.IsReceivedBlock},
+      lapdm_frame.{Readings.IsOnlyRefusalReason, declared.Refusal.Refusal},
+    },
   },
 }
 use Rattle.um_end.specs.TwoTerminals as T
@@ -246,8 +245,8 @@ module _ (role : Role) (tsc : ℕ) (known : tsc ≤ 7) (a : SideState) (h : AreF
 
 -- ---- the lines of a run
 
--- the invariant of a run of `end`: the training sequence code is valid, the endpoints satisfy `AreFit`, and at most three bursts of 148 soft
--- values are held
+-- the invariant of a run of `end`: the training sequence code is valid, the endpoints satisfy `AreFit`, and at most three bursts of 148
+-- soft values are held
 record Invariant (s : EndCommandState) : Type 0 where
   pub tsc : s.tsc ≤ 7
   pub links : AreFit s.role s.links

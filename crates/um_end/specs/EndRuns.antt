@@ -4,7 +4,7 @@ use Rattle.std.specs.List.{flat_map}
 use Rattle.um_link.specs.lapdm_window.Ends.{Role}
 use Rattle.um_formats.specs.BurstLines.{unfinished_block_fault}
 use Rattle.um_formats.specs.BurstTexts.{bursts_text}
-use Rattle.um_link.specs.um_air.Air.{Octets, Block, Event, Answer, Refuses, Accepts}
+use Rattle.um_link.specs.um_air.Air.{Octets, Block, Answer, Refuses, Accepts}
 use Rattle.um_link.specs.um_block.Computed.{sent_block}
 use Rattle.um_link.specs.Coded.{AreCodedBlocks}
 use Rattle.um_script.specs.AnswerLines.{answer_text}

@@ -1,8 +1,10 @@
 -- The line forms of `end`, derived from those of a script and of `replay`: a line that begins with an endpoint of this side is a line of a
 -- script, and every other line is a burst.
 use Rattle.{
-  std.proofs.{Common.{◌==◌, not, ◌&&◌, ◌||◌, option_map, Ok, Err}, lemmas.{Bool.{cases_Bool, le-ltb}, Slice.Eq.bytes_eq-Decides}},
-  std.specs.Str.bytes_eq,
+  std.{
+    proofs.{Common.{◌==◌, not, ◌&&◌, ◌||◌, option_map, Ok, Err}, lemmas.{Bool.{cases_Bool, le-ltb}, Slice.Eq.bytes_eq-Decides}},
+    specs.Str.bytes_eq,
+  },
   um_link.specs.Naming.spec_event_of,
   um_lines.{
     specs.{

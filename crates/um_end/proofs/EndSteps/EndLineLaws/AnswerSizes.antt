@@ -1,8 +1,12 @@
 -- A step reports at most one acknowledgement, followed by at most one other notice, so the lines of an answer fit in the output buffer.
 use Rattle.{
-  std.proofs.{Common.{All, ◌*◌, ◌^◌, nat_eq, nat_lt, nat_abs, append-nil}, lemmas.{Bool.Decides.nat_tests, Fmt.length-decimal-le}},
-  std.proofs.lemmas.List.Elements.{All-head, All-tail},
-  std.{proofs.lemmas.{Fmt.length_signed_le, List.length-map}, specs.{Int.Signed.mag, Fmt.{decimal, signed_decimal}, List.join_with_byte}},
+  std.{
+    proofs.{
+      Common.{All, ◌*◌, ◌^◌, nat_eq, nat_lt, nat_abs, append-nil},
+      lemmas.{Bool.Decides.nat_tests, Fmt.{length-decimal-le, length_signed_le}, List.{Elements.{All-head, All-tail}, length-map}},
+    },
+    specs.{Int.Signed.mag, Fmt.{decimal, signed_decimal}, List.join_with_byte},
+  },
   um_lines.{specs.{Hex.encode_lower, LineTexts.octets_word}, proofs.FormLaws.length-encode_lower},
   um_link.{
     specs.{

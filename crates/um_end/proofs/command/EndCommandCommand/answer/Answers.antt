@@ -1,13 +1,9 @@
 use Rattle.{
-  std.proofs.Common.{◌≡◌, ◌++◌, ◌∷◌, arith, refl, sym, ap, subst, ◌∙◌, ℕ, List, []},
+  std.proofs.Common.{◌≡◌, ◌++◌, ◌∷◌, arith, sym, ap, subst, ◌∙◌, ℕ, List, []},
   um_link.specs.{Naming.{spec_role_of, spec_event_of, spec_answer_of, result_with_step}, um_air.Air.Answer},
   um_end.{
-    specs.{
-      Abstraction.{Represents, role_of_terminal},
-      EndLines.{TakesBurst, Calls, Nothing},
-      EndRuns.{answer_to_burst, end_answer_text},
-      Terminals.{SideState, answer_to_call},
-    },
+    specs.{Abstraction.{Represents, role_of_terminal}, EndLines.{TakesBurst, Calls, Nothing}, EndRuns.{answer_to_burst, end_answer_text}},
+    specs.Terminals.{SideState, answer_to_call},
     proofs.EndSteps.{IsShort, call_short, line_answered, line_refused},
   },
 }

@@ -1,7 +1,7 @@
 use Rattle.{
-  std.proofs.Common.{refl, sym, ap, ◌∙◌, None, Some},
+  std.proofs.Common.{refl, sym, ap, None},
   um_link.specs.{lapdm_window.Calls.endpoint_call_of, lapdm_link.Events.as_event_refusal, um_air.Air.{Accepts, Refuses}},
-  um_end.{specs.{Terminals.layer3_call_step, Abstraction.role_of_terminal}, proofs.EndSteps.{terminal_step-is}},
+  um_end.{specs.{Terminals.layer3_call_step, Abstraction.role_of_terminal}, proofs.EndSteps.terminal_step-is},
   lapdm_end.proofs.Lemmas.represents_at,
 }
 use Rattle.um_end.proofs.terminal.Terminal.ask_into.Goals as goal

@@ -1,6 +1,6 @@
 use Rattle.{
-  std.proofs.Common.{None, Some, refl},
-  um_link.{specs.{lapdm_frame.{Content.frame_of_view, declared.Channel.TheVariants.Sdcch}}, proofs.um_air.Lemmas.frame_in-only},
+  std.proofs.Common.{Some, refl},
+  um_link.{specs.lapdm_frame.{Content.frame_of_view, declared.Channel.TheVariants.Sdcch}, proofs.um_air.Lemmas.frame_in-only},
   um_end.proofs.{EndSteps.unread, terminal.Terminal.take_received_block.Goals.{in-Some+in_default-read, in_default}},
 }
 use Rattle.um_end.proofs.terminal.Terminal.take_received_block.Goals as goal

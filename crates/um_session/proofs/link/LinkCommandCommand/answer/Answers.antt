@@ -1,14 +1,13 @@
 use Rattle.{
   std.proofs.Common.{None, Some, ap, refl, sym, ◌∙◌},
   um_link.specs.{Naming.{spec_answer_of, spec_event_of, result_with_step}, um_block.Tallies.counter_plus},
-  um_script.specs.ScriptLines.ScriptLineMeans,
+  um_link.proofs.um_air.Lemmas.air_step_only,
+  um_script.{specs.ScriptLines.ScriptLineMeans, proofs.ScriptLines.{script_line_meaning, script_line_refused}},
   um_session.{
     specs.{Courses.{sent_frame_count, blocks_received_in_step}, Sessions.session_with_step},
     proofs.Lemmas.{same_frames, same_arrivals, frames_sent-push, blocks_received-push},
   },
 }
-use Rattle.um_link.proofs.um_air.Lemmas.{air_step_only}
-use Rattle.um_script.proofs.ScriptLines.{script_line_meaning, script_line_refused}
 use Rattle.um_session.proofs.link.LinkCommandCommand.answer.Goals as goal
 
 pub returns-in-Step-clause-answered : goal.returns-in-Step-clause-answered

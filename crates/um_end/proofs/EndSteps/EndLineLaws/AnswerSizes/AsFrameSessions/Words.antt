@@ -10,7 +10,8 @@ pub use Rattle.um_lines.proofs.FormLaws.{same_meaning}
 pub use Rattle.um_link.proofs.{lapdm_link.Lemmas.AreOctets, lapdm_window.Lemmas.by_sapi, um_air.Lemmas.reads-well}
 pub use Rattle.um_link.{proofs.um_block.Lemmas.accepted_octets, specs.{Coded.AreCodedBlocks, lapdm_frame.Content.{Frame, information}}}
 pub use Rattle.um_link.specs.{lapdm_frame.{Frames.{FrameFits, octets_of}, declared.Channel.TheVariants.Sdcch}, lapdm_link.Events.Ask}
-pub use Rattle.um_link.specs.lapdm_link.Events.{BySide, EventRefusal, OpenBare, Open, Request, as_event_refusal, endpoint_call_of, Deliver, Lose}
+pub use Rattle.um_link.specs.lapdm_link.Events.{BySide, EventRefusal, OpenBare, Open, Request, as_event_refusal, endpoint_call_of}
+pub use Rattle.um_link.specs.lapdm_link.Events.{Deliver, Lose}
 pub use Rattle.um_link.specs.lapdm_window.{Calls.{Call, OpensWithoutInfo, Opens, refusal_of}, Ends.{EndpointState, Outcome, Role, Mobile}}
 pub use Rattle.um_link.specs.lapdm_window.{Ends.Network, Tables.frame_outcome, declared.Sapi.{TheVariants.{Three, Zero}, Sapi}}
 pub use Rattle.um_link.specs.um_air.{Air.{Accepts, Answer, Block, Event, Octets, ReadsFrame, Refuses, Step}, Sessions.EventMessageIsOctets}
