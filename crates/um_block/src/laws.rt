@@ -1,11 +1,16 @@
-//! The positions of a block's coded bits among the 592 bits of its bursts, as laws: a law is a function with an empty body whose contract
-//! states a theorem.
+//! Laws of blocks and bursts: a law is a function with an empty body whose contract states a theorem.
 ghost use Rattle.std.specs.Prelude.{◌≡◌, ℕ, ℤ, pos, ◌<◌, ◌≤◌, List, All, Contains, length, map, slice_index};
 ghost use Rattle.std.specs.Prelude.{slice_index_or};
 ghost use Rattle.bit_blocks.specs.SoftValues.{count_wrong_bits};
 ghost use Rattle.interleave.specs.Bursts.{IsInterleaved};
 ghost use Rattle.interleave.specs.Positions.{position_in_four_bursts};
+ghost use Rattle.bit_blocks.specs.Bits.{AllBits};
+ghost use Rattle.um_block.specs.Computed.{received_block, received_access, received_sync};
+ghost use Rattle.um_block.specs.Received.{IsReceivedBlock, IsReceivedAccess, IsReceivedSync};
 ghost use Rattle.um_block.specs.Received.{coded_soft_bits, joined_bursts, soft_bits};
+ghost use Rattle.um_block.specs.declared.received.Received.{Received as BlockReport};
+ghost use Rattle.um_block.specs.declared.received.ReceivedAccess.{ReceivedAccess as AccessReport};
+ghost use Rattle.um_block.specs.declared.received.ReceivedSync.{ReceivedSync as SyncReport};
 ghost use Rattle.um_block.specs.Sent.{IsCodedBlock, IsSentBlock};
 
 use bit_blocks::CODED_BITS;
@@ -33,4 +38,19 @@ pub fn law_coded_errors_at_most_burst_errors()
         ((q : ℕ) → q < 592 → ¬ Contains places q →
         slice_index_or (joined_bursts bursts) q (pos 0) ≡ slice_index_or (joined_bursts (map soft_bits sent)) q (pos 0)) →
         count_wrong_bits soft c ≤ length places }
+{}
+
+/// Law: the reports that `received_block`, `received_access` and `received_sync` compute are those of the definition of reception, and no
+/// others are.
+pub fn law_computed_reports_are_those_of_reception()
+    ensures block { (bursts : List (List ℤ)) → length bursts ≡ 4 → All (λ burst. length burst ≡ BURST_BITS) bursts →
+        IsReceivedBlock bursts (received_block bursts) }
+    ensures only_block { (bursts : List (List ℤ)) (other : BlockReport) → IsReceivedBlock bursts other → other ≡ received_block bursts }
+    ensures access { (burst : List ℤ) (bsic : List ℕ) → length burst ≡ 88 → length bsic ≡ 6 → AllBits bsic →
+        IsReceivedAccess burst bsic (received_access burst bsic) }
+    ensures only_access { (burst : List ℤ) (bsic : List ℕ) (other : AccessReport) → length burst ≡ 88 → length bsic ≡ 6 → AllBits bsic →
+        IsReceivedAccess burst bsic other → other ≡ received_access burst bsic }
+    ensures sync { (burst : List ℤ) → length burst ≡ BURST_BITS → IsReceivedSync burst (received_sync burst) }
+    ensures only_sync { (burst : List ℤ) (other : SyncReport) → length burst ≡ BURST_BITS → IsReceivedSync burst other →
+        other ≡ received_sync burst }
 {}

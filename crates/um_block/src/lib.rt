@@ -16,7 +16,10 @@ pub use bit_blocks::{
 pub use burst_map::{AccessView, BURST_BITS, SyncView};
 pub use counting::{wrong_access_bits, wrong_block_bits, wrong_coded_bits, wrong_sync_bits};
 pub use fire_code::{rach_holds, sch_holds, xcch_holds};
-pub use laws::{law_coded_bits_are_at_burst_positions, law_coded_errors_at_most_burst_errors};
+pub use laws::{
+    law_coded_bits_are_at_burst_positions, law_coded_errors_at_most_burst_errors,
+    law_computed_reports_are_those_of_reception,
+};
 pub use radio::{PlainRadio, Radio};
 pub use received::{Received, ReceivedAccess, ReceivedSync};
 pub use receiving::{

@@ -10,7 +10,7 @@ use Rattle.{
   um_cli.specs.{
     Arrivals.{LinkDecodesToMostLikelyWords, ReceivesMostLikelyWord, ReportsMostLikelyWord},
     EndAnswers.EndDecodesToMostLikelyWords,
-    Headline.{DecodesBurstsToMostLikelyWord, IsMaximumLikelihood, IsMostLikelyWord, ReplayDecodesToMostLikelyWords},
+    Decoded.{DecodesBurstsToMostLikelyWord, IsMaximumLikelihood, IsMostLikelyWord, ReplayDecodesToMostLikelyWords},
   },
   um_code.{
     proofs.um_formats.Lemmas.{access_burst, burst_line_means, normal_burst, sync_burst},
@@ -19,7 +19,7 @@ use Rattle.{
   um_driver.{proofs.Outputs.{Runs-keep, meaning_of_answer, step_of_answer}, specs.Rules.{Runs, answer_to_line}},
   um_end.{
     proofs.{EndSteps.{EndLineLaws.burst_of_line, held_are_bursts}, um_block.Lemmas.IsReceivedAccess-received_access},
-    proofs.um_block.{Lemmas.{IsReceivedSync-received_sync, received_block-only, some_received_block}, conv_code.Lemmas.length-coded},
+    proofs.um_block.{Lemmas.IsReceivedSync-received_sync, ComputedReports.block_computed, conv_code.Lemmas.length-coded},
     specs.{lapdm_frame.{Content.Frame, declared.Channel.Channel}, um_block.{Computed.received_block, Received.IsReceivedBlock}},
     specs.um_block.{Received.soft_bits, conv_code.{Code.encoding, Likelihood.{IsMostLikely, likelihood}}},
     specs.{um_block.declared.received.Received.Received, um_link.{lapdm_link.Events.Deliver, lapdm_window.Ends.Role}},
@@ -53,13 +53,6 @@ best_word bursts r received = record {
   accepted = received.accepted;
 }
 
--- the report on four bursts of 148 soft values
-received_from_bursts : (bursts : List (List ℤ)) → length bursts ≡ 4 → All (λ (burst : List ℤ). length burst ≡ 148) bursts →
-    IsReceivedBlock bursts (received_block bursts)
-received_from_bursts bursts four each =
-    let received = some_received_block bursts four each in
-    rw (← received_block-only bursts received.0 received.1) received.1
-
 -- ---- `replay`
 
 -- fewer than four bursts are held, each with 148 soft values
@@ -79,12 +72,7 @@ all_bursts held soft h long =
 pub fourth-most_likely : (held : List (List ℤ)) (soft : List ℤ) → AreHeld held → length soft ≡ 148 →
     4 ≤ length (held ++ soft ∷ []) → IsMostLikelyWord (held ++ soft ∷ []) (received_block (held ++ soft ∷ []))
 fourth-most_likely held soft h long many = best_word (held ++ soft ∷ []) _
-    (received_from_bursts (held ++ soft ∷ []) (omega (
-      arith,
-      h.few,
-      many,
-      length-append held (soft ∷ []),
-    )) (all_bursts held soft h long))
+    (block_computed (held ++ soft ∷ []) (omega (arith, h.few, many, length-append held (soft ∷ []))) (all_bursts held soft h long))
 
 line_keeps : (held after : List (List ℤ)) (line text : List ℕ) → AreHeld held →
     answer_to_line replay_rules held line ≡ Ok (text, after) → AreHeld after
@@ -108,8 +96,7 @@ pub replay-most_likely : ReplayDecodesToMostLikelyWords
 replay-most_likely lines answers held line meaning runs parses =
     go meaning parses (Runs-keep replay_rules AreHeld line_keeps [] held lines answers none_held runs)
   where
-    go : (meaning : BurstLine) → burst_line (length held) line ≡ Ok meaning → AreHeld held →
-        DecodesBurstsToMostLikelyWord held meaning
+    go : (meaning : BurstLine) → burst_line (length held) line ≡ Ok meaning → AreHeld held → DecodesBurstsToMostLikelyWord held meaning
     go Skip parses h = tt
     go (Normal soft) parses h = λ many.
         let long = (normal_burst (length held) line soft (burst_line_means (length held) line (Normal soft) parses)).0 in

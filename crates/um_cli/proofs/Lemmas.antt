@@ -11,7 +11,7 @@ use Rattle.{
   um_cli.{
     proofs.Deciding.{end-most_likely, link-most_likely, replay-most_likely},
     specs.{
-      Claims.{DecodesToMostLikelyWords, EverySessionDelivers},
+      Headline.{DecodesToMostLikelyWords, EverySessionDelivers},
       Machines.{CommandEndsAsPrescribed, IsRunOfCommand},
       Shapes.{HasValidOperands, command_of_words, message_count_of_word},
       declared.words.Invocation.{TheVariants.{Code, End, Link, Make, Margin, Repair, Replay, Show}, Invocation},

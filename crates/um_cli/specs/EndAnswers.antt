@@ -6,7 +6,7 @@ use Rattle.um_end.specs.um_block.Computed.{received_block}
 use Rattle.um_end.specs.um_link.lapdm_window.Ends.{Role}
 use Rattle.um_end.specs.EndLines.{TakesBurst, end_command_line}
 use Rattle.um_end.specs.EndRuns.{EndCommandState, initial_end_command_state, end_command_rules}
-use Rattle.um_cli.specs.Headline.{IsMostLikelyWord}
+use Rattle.um_cli.specs.Decoded.{IsMostLikelyWord}
 
 -- whatever lines `end` has answered, the block that the burst of the next line completes is decoded to a most likely word
 abbrev pub EndDecodesToMostLikelyWords : (role : Role) (tsc : ℕ) → Type 0

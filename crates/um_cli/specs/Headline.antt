@@ -1,62 +1,25 @@
--- Each decoded word is a codeword that is at least as likely as any other, given the soft values received, and its data is accepted if and
--- only if its CRC holds (this project's own rule).
-use Rattle.std.specs.Prelude.{ℕ, ℤ, ◌≡◌, ◌≤◌, ◌≤ℤ◌, List, []}
-use Rattle.std.specs.Prelude.{◌∷◌, ◌++◌, length, map, take, MatchOption, Ok}
-use Rattle.um_end.specs.um_block.fire_code.Words.{IsXcchCodeword, IsRachCodeword, IsSchCodeword}
-use Rattle.um_end.specs.um_block.conv_code.Code.{encoding, IsCodeword}
-use Rattle.um_end.specs.um_block.conv_code.Likelihood.{likelihood}
-use Rattle.um_end.specs.um_block.interleave.Bursts.{IsInterleaved}
-use Rattle.um_end.specs.um_block.bit_blocks.Octets.{octets_of}
-use Rattle.um_end.specs.um_block.Received.{coded_soft_bits, access_soft_bits, sync_soft_bits}
-use Rattle.um_end.specs.um_block.Computed.{received_block, received_access, received_sync}
-use Rattle.um_end.specs.um_block.declared.received.Received.{Received}
-use Rattle.um_end.specs.um_block.declared.received.ReceivedAccess.{ReceivedAccess}
-use Rattle.um_end.specs.um_block.declared.received.ReceivedSync.{ReceivedSync}
-use Rattle.um_code.specs.um_formats.declared.burst_lines.BurstLine.{BurstLine}
-use Rattle.um_code.specs.um_formats.declared.burst_lines.BurstLine.TheVariants.{Skip, Normal, Access, Sync}
-use Rattle.um_code.specs.um_formats.BurstLines.{burst_line}
+-- What the answers of a command mean: the two halves of the main theorem, as laws of the functions that prescribe the answers (this
+-- project's own rule).
+use Rattle.std.specs.Prelude.{ℕ, List}
+use Rattle.um_end.specs.lapdm_frame.declared.Channel.{Channel}
+use Rattle.um_end.specs.um_link.Naming.{spec_role_of}
 use Rattle.um_driver.specs.Rules.{Runs}
-use Rattle.um_bursts.specs.Replay.{replay_rules}
+use Rattle.um_session.specs.Sessions.{LinkSession, new_session, link_command_rules}
+use Rattle.um_session.specs.Promises.{DeliveryLawsHold}
+use Rattle.um_cli.specs.Arrivals.{LinkDecodesToMostLikelyWords}
+use Rattle.um_cli.specs.EndAnswers.{EndDecodesToMostLikelyWords}
+use Rattle.um_cli.specs.Decoded.{ReplayDecodesToMostLikelyWords}
+use Rattle.um_cli.specs.declared.words.Invocation.{Invocation}
+use Rattle.um_cli.specs.declared.words.Invocation.TheVariants.{Replay, Link, End}
 
--- the encoding of the encoder input `word` is a codeword, and no codeword of the same length is more likely for the soft values `soft`
-pub record IsMaximumLikelihood (soft : List ℤ) (word : List ℕ) : Type 0 where
-  pub codeword : IsCodeword (encoding word) (length word)
-  pub same_length : length soft ≡ length (encoding word)
-  pub none_more_likely : (c : List ℕ) → IsCodeword c (length word) → likelihood soft c ≤ℤ likelihood soft (encoding word)
+-- whatever lines the command has answered, it decodes what the next line lets it receive to a most likely word
+abbrev pub DecodesToMostLikelyWords : Invocation → Type 0
+DecodesToMostLikelyWords Replay = ReplayDecodesToMostLikelyWords
+DecodesToMostLikelyWords (Link tsc channel) = LinkDecodesToMostLikelyWords tsc channel
+DecodesToMostLikelyWords (End side tsc) = EndDecodesToMostLikelyWords (spec_role_of side) tsc
+DecodesToMostLikelyWords command = Unit {0}
 
--- the four `bursts` of a block are decoded to a most likely word; its first 184 bits are accepted as the data if and only if the CRC in its
--- first 224 bits holds
-pub record IsMostLikelyWord (bursts : List (List ℤ)) (report : Received) : Type 0 where
-  pub soft : List ℤ
-  pub deinterleaved : IsInterleaved soft (map coded_soft_bits bursts)
-  pub max_likelihood : IsMaximumLikelihood soft report.u
-  pub accepted : MatchOption report.accepted
-      (¬ IsXcchCodeword (take 224 report.u))
-      (λ octets. IsXcchCodeword (take 224 report.u) × (octets ≡ octets_of (take 184 report.u)))
-
--- an access burst is decoded to a most likely word, and accepted if and only if its CRC holds for `bsic`
-pub record IsMostLikelyAccessWord (burst : List ℤ) (bsic : List ℕ) (report : ReceivedAccess) : Type 0 where
-  pub max_likelihood : IsMaximumLikelihood (access_soft_bits burst) report.u
-  pub accepted : MatchOption report.accepted
-      (¬ IsRachCodeword (take 14 report.u) bsic)
-      (λ info. IsRachCodeword (take 14 report.u) bsic × (info ≡ take 8 report.u))
-
--- a synchronisation burst is decoded to a most likely word, and accepted if and only if its CRC holds
-pub record IsMostLikelySyncWord (burst : List ℤ) (report : ReceivedSync) : Type 0 where
-  pub max_likelihood : IsMaximumLikelihood (sync_soft_bits burst) report.u
-  pub accepted : MatchOption report.accepted
-      (¬ IsSchCodeword (take 35 report.u))
-      (λ info. IsSchCodeword (take 35 report.u) × (info ≡ take 25 report.u))
-
--- the bursts that a line of `replay` completes are decoded to a most likely word
-abbrev pub DecodesBurstsToMostLikelyWord : (held : List (List ℤ)) (line : BurstLine) → Type 0
-DecodesBurstsToMostLikelyWord held Skip = Unit {0}
-DecodesBurstsToMostLikelyWord held (Normal soft) = 4 ≤ length (held ++ soft ∷ []) →
-    IsMostLikelyWord (held ++ soft ∷ []) (received_block (held ++ soft ∷ []))
-DecodesBurstsToMostLikelyWord held (Access bsic soft) = IsMostLikelyAccessWord soft bsic (received_access soft bsic)
-DecodesBurstsToMostLikelyWord held (Sync soft) = IsMostLikelySyncWord soft (received_sync soft)
-
--- whatever lines `replay` has answered, it decodes the bursts that the next line completes to a most likely word
-abbrev pub ReplayDecodesToMostLikelyWords : Type 0
-ReplayDecodesToMostLikelyWords = (lines answers : List (List ℕ)) (held : List (List ℤ)) (line : List ℕ) (meaning : BurstLine) →
-    Runs replay_rules [] lines answers held → burst_line (length held) line ≡ Ok meaning → DecodesBurstsToMostLikelyWord held meaning
+-- whatever lines `link` has answered, the claims about order and delivery hold for the session after them
+abbrev pub EverySessionDelivers : (tsc : ℕ) (channel : Channel) → Type 0
+EverySessionDelivers tsc channel = (lines answers : List (List ℕ)) (session : LinkSession) →
+    Runs link_command_rules (new_session tsc channel) lines answers session → DeliveryLawsHold session

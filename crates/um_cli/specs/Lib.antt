@@ -1,6 +1,6 @@
 -- The definitions that the contracts of this crate cite.
+pub mod Decoded
 pub mod Headline
-pub mod Claims
 pub mod Make
 pub mod Restored
 pub mod Machines

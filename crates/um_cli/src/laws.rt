@@ -1,6 +1,6 @@
 //! Laws of the commands, which the contract of `run` rests on. A law does nothing at run time; its contract states a theorem.
 ghost use Rattle.std.specs.Prelude.{ℕ, ◌≤◌, List};
-ghost use Rattle.um_cli.specs.Claims.{DecodesToMostLikelyWords, EverySessionDelivers};
+ghost use Rattle.um_cli.specs.Headline.{DecodesToMostLikelyWords, EverySessionDelivers};
 ghost use Rattle.um_cli.specs.Restored.{ReplayRecoversCodeInput};
 ghost use Rattle.um_cli.specs.Shapes.{HasValidOperands};
 ghost use Rattle.um_cli.specs.declared.words.Invocation.{Invocation};

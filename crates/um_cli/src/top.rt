@@ -1,7 +1,7 @@
 //! The function `run`, which the program `um` calls.
 ghost use Rattle.std.specs.Prelude.{◌≡◌, ◌↔◌, ℕ, Some, None};
 ghost use Rattle.um_driver.specs.Table.{FailureCountsMatch};
-ghost use Rattle.um_cli.specs.Claims.{DecodesToMostLikelyWords, EverySessionDelivers};
+ghost use Rattle.um_cli.specs.Headline.{DecodesToMostLikelyWords, EverySessionDelivers};
 ghost use Rattle.um_cli.specs.Machines.{IsRunOfCommand, CommandEndsAsPrescribed, LeavesUnused};
 ghost use Rattle.um_cli.specs.Shapes.{command_of_words};
 ghost use Rattle.um_end.specs.lapdm_frame.declared.Channel.{Channel as ChannelOf};
