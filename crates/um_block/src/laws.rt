@@ -45,10 +45,12 @@ pub fn law_coded_errors_at_most_burst_errors()
 pub fn law_computed_reports_are_those_of_reception()
     ensures block { (bursts : List (List ℤ)) → length bursts ≡ 4 → All (λ burst. length burst ≡ BURST_BITS) bursts →
         IsReceivedBlock bursts (received_block bursts) }
-    ensures only_block { (bursts : List (List ℤ)) (other : BlockReport) → IsReceivedBlock bursts other → other ≡ received_block bursts }
+    ensures only_block { (bursts : List (List ℤ)) (other : BlockReport) → IsReceivedBlock bursts other →
+        other ≡ received_block bursts }
     ensures access { (burst : List ℤ) (bsic : List ℕ) → length burst ≡ 88 → length bsic ≡ 6 → AllBits bsic →
         IsReceivedAccess burst bsic (received_access burst bsic) }
-    ensures only_access { (burst : List ℤ) (bsic : List ℕ) (other : AccessReport) → length burst ≡ 88 → length bsic ≡ 6 → AllBits bsic →
+    ensures only_access { (burst : List ℤ) (bsic : List ℕ) (other : AccessReport) → length burst ≡ 88 → length bsic ≡ 6 →
+        AllBits bsic →
         IsReceivedAccess burst bsic other → other ≡ received_access burst bsic }
     ensures sync { (burst : List ℤ) → length burst ≡ BURST_BITS → IsReceivedSync burst (received_sync burst) }
     ensures only_sync { (burst : List ℤ) (other : SyncReport) → length burst ≡ BURST_BITS → IsReceivedSync burst other →

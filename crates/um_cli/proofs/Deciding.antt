@@ -96,7 +96,8 @@ pub replay-most_likely : ReplayDecodesToMostLikelyWords
 replay-most_likely lines answers held line meaning runs parses =
     go meaning parses (Runs-keep replay_rules AreHeld line_keeps [] held lines answers none_held runs)
   where
-    go : (meaning : BurstLine) → burst_line (length held) line ≡ Ok meaning → AreHeld held → DecodesBurstsToMostLikelyWord held meaning
+    go : (meaning : BurstLine) → burst_line (length held) line ≡ Ok meaning → AreHeld held →
+        DecodesBurstsToMostLikelyWord held meaning
     go Skip parses h = tt
     go (Normal soft) parses h = λ many.
         let long = (normal_burst (length held) line soft (burst_line_means (length held) line (Normal soft) parses)).0 in

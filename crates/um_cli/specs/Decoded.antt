@@ -1,6 +1,7 @@
 -- Each decoded word is a codeword that is at least as likely as any other, given the soft values received, and its data is accepted if and
 -- only if its CRC holds (this project's own rule).
-use Rattle.std.specs.Prelude.{ℕ, ℤ, ◌≡◌, ◌≤◌, ◌≤ℤ◌, List, [], ◌∷◌, ◌++◌, length, map, take, MatchOption, Ok}
+use Rattle.std.specs.Prelude.{ℕ, ℤ, ◌≡◌, ◌≤◌, ◌≤ℤ◌, List, []}
+use Rattle.std.specs.Prelude.{◌∷◌, ◌++◌, length, map, take, MatchOption, Ok}
 use Rattle.um_end.specs.um_block.fire_code.Words.{IsXcchCodeword, IsRachCodeword, IsSchCodeword}
 use Rattle.um_end.specs.um_block.conv_code.Code.{encoding, IsCodeword}
 use Rattle.um_end.specs.um_block.conv_code.Likelihood.{likelihood}
