@@ -315,7 +315,7 @@ export class LinkView {
     write($("l-air"), this.session.altered
       ? `${plural(this.session.altered, "block")} passed the CRC with wrong octets. The claims do not cover such a radio path.`
       : `Every block was lost, discarded, or accepted as it was sent. ${this.loop
-        ? "Each call of a data link is proved; that the claims hold for two of them is tested."
+        ? "It is proved that the claims hold for two data links, while each link is opened once."
         : "It is proved that the claims hold in every such session."}`);
   }
 
