@@ -17,6 +17,15 @@ frame_first : (o : SlotOutcome) (x : Option Frame) (s : DataLinkState) (f : Fram
 frame_first o None s f e = absurd cc
 frame_first o (Some g) s f e = e
 
+none_first : (o : SlotOutcome) (x : Option Frame) (s : DataLinkState) → x ≡ None →
+    (with_sapi3 o x s).frame ≡ (slot_outcome s.link3).frame
+none_first o None s e = refl
+none_first o (Some g) s e = absurd cc
+
+notices_first : (o : SlotOutcome) (x : Option Frame) (s : DataLinkState) → (with_sapi3 o x s).notices0 ≡ o.notices
+notices_first o None s = refl
+notices_first o (Some f) s = refl
+
 module _ (s : DataLinkState) (f : Frame) where
   arrives_first : f.sapi ≡ 0 → (after_arrival f s).link0 ≡ after_frame f s.link0
   arrives_first e = grind (arith, e)
@@ -29,6 +38,8 @@ pub sapi_0_goes_first : (s : DataLinkState) → GoesFirst s
 sapi_0_goes_first s = record {
   slot = link_first (slot_outcome (after_slot s.link0)) (slot_outcome (after_slot s.link0)).frame (with_clocks_moved s);
   frame = λ f e. frame_first (slot_outcome (after_slot s.link0)) (slot_outcome (after_slot s.link0)).frame (with_clocks_moved s) f e;
+  none = λ e. none_first (slot_outcome (after_slot s.link0)) (slot_outcome (after_slot s.link0)).frame (with_clocks_moved s) e;
+  notices = notices_first (slot_outcome (after_slot s.link0)) (slot_outcome (after_slot s.link0)).frame (with_clocks_moved s);
   arrival = λ f e. arrives_first s f e;
   other_arrival = λ f e. arrives_else s f _ refl e;
 }

@@ -8,7 +8,7 @@ use Rattle.lapdm_end.specs.lapdm_window.Ends.{Role, Mobile, Network, awaits_answ
 use Rattle.lapdm_link.specs.Events.{other}
 use Rattle.lapdm_end.specs.lapdm_window.Rules.{is_open}
 use Rattle.lapdm_datalink.specs.Links.{LinkState, is_closed, slot_outcome, after_slot, after_frame}
-use Rattle.lapdm_datalink.specs.DataLinks.{DataLinkState, data_link_outcome, after_arrival}
+use Rattle.lapdm_datalink.specs.DataLinks.{DataLinkState, data_link_outcome, after_arrival, with_clocks_moved}
 use Rattle.lapdm_datalink.specs.Channels.{Run, Turn, channel_at, side_at, turn_of, before_sending, arriving, IsUse}
 
 -- the round trip in slots: a frame, its answer, and the delay of each
@@ -129,9 +129,12 @@ Progresses r =
     IsWithoutRelease r → round_trip r.delay ≤ r.t200 → (n k : ℕ) → AreOpen r n k → (role : Role) → Progress r n k role
 
 -- The link of SAPI 0 of a data link does what it would do alone: in a slot, and when a frame arrives. If it sends a frame, the data link
--- does.
+-- does; if it sends none, the link of SAPI 3 has the slot.
 pub record GoesFirst (s : DataLinkState) : Type 0 where
   pub slot : (data_link_outcome s).new_state.link0 ≡ (slot_outcome (after_slot s.link0)).link
   pub frame : (f : Frame) → (slot_outcome (after_slot s.link0)).frame ≡ Some f → (data_link_outcome s).frame ≡ Some f
+  pub none : (slot_outcome (after_slot s.link0)).frame ≡ None →
+      (data_link_outcome s).frame ≡ (slot_outcome (with_clocks_moved s).link3).frame
+  pub notices : (data_link_outcome s).notices0 ≡ (slot_outcome (after_slot s.link0)).notices
   pub arrival : (f : Frame) → f.sapi ≡ 0 → (after_arrival f s).link0 ≡ after_frame f s.link0
   pub other_arrival : (f : Frame) → f.sapi ≢ 0 → (after_arrival f s).link0 ≡ s.link0

@@ -37,9 +37,10 @@ pub fn law_i_frame_is_answered_in_the_next_slot()
         ⊎ ((slot_outcome (after_slot (took ns nr poll segment l))).link.endpoint.state ≡ Closed) }
 {}
 
-/// Law: in a run of two data links on one channel, in which frames arrive in order, late or not at all, and each link is opened at most
-/// once, each side delivers a prefix of the messages that the other accepted for sending, and reports a message as acknowledged only after
-/// the other side has delivered it. Each link is closed at most once, and messages are delivered and acknowledged only while it is open.
+/// Law: in a run of two data links on one channel, in which frames arrive in order, late or not at all, and no closed link is opened again,
+/// by a call or by a late SABM, each side delivers a prefix of the messages that the other accepted for sending, and reports a message as
+/// acknowledged only after the other side has delivered it. Each link is closed at most once, and messages are delivered and acknowledged
+/// only while it is open.
 pub fn law_data_links_deliver_in_order()
     ensures delivery { (channel : Channel) (t200 : Role → Sapi → ℕ) (events : List RunEvent) →
         IsRun events (initial_run channel t200)
@@ -52,20 +53,23 @@ pub fn law_data_links_deliver_in_order()
         → HasNoticesInOrder (run_log events (initial_run channel t200)) }
 {}
 
-/// Law: SAPI 0 goes first. What the link of SAPI 0 does in a slot, and when a frame arrives, does not depend on the link of SAPI 3.
+/// Law: SAPI 0 goes first. What the link of SAPI 0 does in a slot, and when a frame arrives, is what it does alone. A slot in which it
+/// sends nothing is that of SAPI 3.
 #[tactic(auto, using(crate::proofs::ProgressAlone::sapi_0_goes_first))]
 pub fn law_sapi_0_goes_first()
     ensures { (s : DataLinkState) → GoesFirst s }
 {}
 
-/// Law: while both links of SAPI 0 are open, each waits at most a round trip for each of its segments, and T200 and one slot for each slot
-/// with a loss. The premises are those of `law_data_links_pay_for_expiries`.
+/// Law: while two links of SAPI 0 on a channel are open, with one T200 of at least the round trip and no release in the whole run, each
+/// waits at most a round trip for each segment acknowledged and one more, T200 and one slot for each slot with a loss and one more, and one
+/// delay and one slot.
 pub fn law_data_links_progress()
     ensures { (r : Run) → Progresses r }
 {}
 
-/// Law: each expiry of T200 of an open link of SAPI 0 is paid by a loss of its own, if both sides have the same T200, and it is at least
-/// the round trip.
+/// Law: each repeat of an I frame whose last copy reached an open link has a slot with a loss, that of the copy or that of its answer; two
+/// repeats of one link have different ones. Both links of SAPI 0 have one T200 of at least the round trip; there is no release in the run,
+/// and nobody has given up so far.
 #[tactic(auto, using(crate::proofs::ProgressExpiries::pays_for_expiries))]
 pub fn law_data_links_pay_for_expiries()
     ensures { (r : Run) → PaysForExpiries r }

@@ -492,9 +492,10 @@ module _ {State : Type 0} {r : Rules State} {a : State} {held : List ℕ} {answe
         (later : List (List ℕ)) × (processed_lines at.input_read seen_end ≡ at.lines ++ later) →
         (seen_end ≡ true → SourceHasEnded left left') →
         EndsWithStatus status (response r a at.input_read seen_end) at.input_read at.output →
-        (refusal : List ℕ) → IsRefusalOrNone refusal → IsPrefixOf at.output (concatenated_text at.answers ++ refusal) →
-        IsRun r a Represents status left left' taken taken'
-    run_ends_here seen_end represents first ends row refusal is_refusal begun = record {
+        (refusal : List ℕ) → IsRefusalOrNone refusal →
+        (refusal ≡ []) ⊎ ((response r a at.input_read seen_end).1 ≡ concatenated_text at.answers ++ refusal) →
+        IsPrefixOf at.output (concatenated_text at.answers ++ refusal) → IsRun r a Represents status left left' taken taken'
+    run_ends_here seen_end represents first ends row refusal is_refusal due begun = record {
       input_read = at.input_read;
       unread = rest;
       output = at.output;
@@ -513,6 +514,7 @@ module _ {State : Type 0} {r : Rules State} {a : State} {held : List ℕ} {answe
       represents = represents;
       refusal = refusal;
       is_refusal = is_refusal;
+      is_due = due;
       answers_begun = begun;
     }
 
@@ -522,7 +524,8 @@ module _ {State : Type 0} {r : Rules State} {a : State} {held : List ℕ} {answe
     ends_within_answers represents more e =
         let (seen_end, ends, last, front) = starts_with_answers at.reads r a at.state at.answers at.runs in
         run_ends_here seen_end represents (lines_processed at.reads r a at.state at.answers at.runs seen_end last) ends
-        (IsPrefixOf-append at.output (concatenated_text at.answers) _ (more, e) front) [] (inl refl) (more, rw append-nil e)
+        (IsPrefixOf-append at.output (concatenated_text at.answers) _ (more, e) front) [] (inl refl) (inl refl)
+        (more, rw append-nil e)
 
 module _ {State : Type 0} {r : Rules State} {a : State} {Represents : State → Type 0} {left left' taken mid taken' : Option (List ℕ)}
     {gathered : List ℕ} where
@@ -552,7 +555,7 @@ module _ {State : Type 0} {r : Rules State} {a : State} {Represents : State → 
         let at = after_write h.point (gathered ++ text) written in
         let split : at.output ≡ concatenated_text at.answers ++ text = rw (h.output, append_assoc) refl in
         run_ends_here at h.seen_end h.represents h.first_lines h.source_ended (whole_row status _ _ _ _ h.prescribed split)
-        text h.is_refusal ([], rw (split, append-nil) refl)
+        text h.is_refusal (inr (response_text status _ _ h.prescribed)) ([], rw (split, append-nil) refl)
 
     -- if the sink fails after it has taken a prefix of the pending output and the final text, the run ends with `WriteFault`
     ending_cut : SinkTakesPrefix mid taken' (gathered ++ text) → IsRun r a Represents WriteFault left left' taken taken'
@@ -561,7 +564,7 @@ module _ {State : Type 0} {r : Rules State} {a : State} {Represents : State → 
         let whole : at.output ++ more ≡ concatenated_text at.answers ++ text =
         rw (append_assoc, ← text_is, h.output, append_assoc) refl in
         run_ends_here at h.seen_end h.represents h.first_lines h.source_ended (more, response_text status _ _ h.prescribed ∙ sym whole)
-        text h.is_refusal (more, sym whole)
+        text h.is_refusal (inr (response_text status _ _ h.prescribed)) (more, sym whole)
 
     ending_concludes : (result : Status) → ((result ≡ status) × Appends mid taken' (gathered ++ text))
         ⊎ ((result ≡ WriteFault) × SinkTakesPrefix mid taken' (gathered ++ text)) →
@@ -625,7 +628,7 @@ pub without_memory : {State : Type 0} (r : Rules State) (a : State) (Represents 
     Represents a → IsRun r a Represents NoMemory left left taken taken
 without_memory r a Represents left taken represents =
     run_ends_here (before_any_read r a left taken) false represents (processed_lines [] false, refl) (λ e. cc e) (refl, refl) []
-    (inl refl) ([], refl)
+    (inl refl) (inl refl) ([], refl)
 
 -- `IsLastWriteResult` holds if the whole text was written, or if the sink failed after it had taken a prefix of the text
 pub last_written : (status : Status) (text : List ℕ) (taken taken' : Option (List ℕ)) (result : Status) →

@@ -67,6 +67,8 @@ pub record IsRun {State : Type 0} (rules : Rules State) (start : State) (Represe
   pub represents : Represents state
   pub refusal : List ℕ
   pub is_refusal : IsRefusalOrNone refusal
+  -- a refusal ends the response, and the answers are all that comes before it
+  pub is_due : (refusal ≡ []) ⊎ ((response rules start input_read ended).1 ≡ concatenated_text answers ++ refusal)
   pub answers_begun : IsPrefixOf output (concatenated_text answers ++ refusal)
 
 -- the failure count of the source has risen if the status is `ReadFault`, that of the sink if it is `WriteFault`; otherwise both are

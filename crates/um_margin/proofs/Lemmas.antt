@@ -5,13 +5,14 @@ use Rattle.{
     proofs.weight_bound.Lemmas.{Between, all_places, at_least_seven},
     specs.{Ranking.{HasTiedWord, IsCandidate}, SecondWord.second_most_likely, weight_bound.Distance.distance},
   },
-  std.proofs.Common.{List, [], ap, ap₂, arith, inl, inr, length, pos, refl, sym, ℕ, ℤ, ◌*◌, ◌+ℤ◌, ◌-ℤ◌, ◌-◌},
+  std.proofs.Common.{List, [], ap, ap₂, arith, inl, inr, length, map, pos, refl, sym, ℕ, ℤ, ◌*◌, ◌+ℤ◌, ◌-ℤ◌, ◌-◌},
   std.proofs.{Common.{◌∙◌, ◌≡◌, ◌≢◌, ◌≤◌}, Math.Logic.◌↔◌, lemmas.{Int.ints, List.Elements.All-weaker}},
   std.specs.{List.All, Prelude.{unsigned_abs, ◌≤ℤ◌}},
   um_block.{
     proofs.{conv_code.Lemmas.{AllBits-coded, IsMostLikely-only, length-coded}, interleave.Lemmas.{IsInterleaved-deinterleaved, same_coded}},
-    proofs.trellis_decode.Lemmas.IsMostLikely-most_likely,
-    specs.{Received.IsReceivedBlock, bit_blocks.SoftValues.{count_wrong_bits, likelihood}, interleave.Bursts.IsInterleaved},
+    proofs.{ComputedReports.block_computed, trellis_decode.Lemmas.IsMostLikely-most_likely},
+    specs.{Received.{IsReceivedBlock, coded_soft_bits}, bit_blocks.SoftValues.{count_wrong_bits, likelihood}},
+    specs.interleave.Bursts.IsInterleaved,
     specs.{interleave.Bursts.deinterleaved, conv_code.{Code.encoding, Likelihood.IsMostLikely}, declared.received.Received.Received},
     specs.trellis_decode.MostLikely.most_likely,
   },
@@ -74,6 +75,16 @@ pub compared_block_words-only : (bursts : List (List ℤ)) (c : TwoMostLikelyWor
 compared_block_words-only bursts c h =
     compared_words-only h.soft 228 c h.deinterleaved.coded_count (omega arith) h.compared
     ∙ ap compared_words (deinterleaved-only h.soft _ h.deinterleaved)
+
+pub AreTwoMostLikelyBlockWords-compared_block_words : (bursts : List (List ℤ)) → length bursts ≡ 4 →
+    All (λ burst. length burst ≡ 148) bursts → AreTwoMostLikelyBlockWords bursts (compared_block_words bursts)
+AreTwoMostLikelyBlockWords-compared_block_words bursts four each =
+    let parts = (block_computed bursts four each).deinterleaved in
+    let spread = IsInterleaved-deinterleaved (pos 0) (map coded_soft_bits bursts) parts.burst_count parts.burst_lengths in record {
+      soft = deinterleaved (pos 0) (map coded_soft_bits bursts);
+      deinterleaved = spread;
+      compared = AreTwoMostLikelyWords-compared_words _ 228 spread.coded_count (omega arith);
+    }
 
 -- ## Ahead: The margin of the most likely word is 0 if and only if another word has the same path metric. For hard bits with few errors,
 -- the margin is large: two codewords differ in at least seven bits, and each wrong bit cancels a correct one.

@@ -17,7 +17,9 @@ pub fn law_comparison_is_of_two_most_likely_words()
     ensures words { (soft : List ℤ) (n : ℕ) → length soft ≡ 2 * n → 5 ≤ n → AreTwoMostLikelyWords soft (compared_words soft) }
     ensures only { (soft : List ℤ) (c d : TwoMostLikelyWords) → AreTwoMostLikelyWords soft c → AreTwoMostLikelyWords soft d →
         c ≡ d }
-    ensures block { (bursts : List (List ℤ)) (c : TwoMostLikelyWords) → AreTwoMostLikelyBlockWords bursts c →
+    ensures block { (bursts : List (List ℤ)) → length bursts ≡ 4 → All (λ burst. length burst ≡ 148) bursts →
+        AreTwoMostLikelyBlockWords bursts (compared_block_words bursts) }
+    ensures only_block { (bursts : List (List ℤ)) (c : TwoMostLikelyWords) → AreTwoMostLikelyBlockWords bursts c →
         c ≡ compared_block_words bursts }
 {}
 

@@ -472,6 +472,7 @@ module _ {S T : Type 0} (f : S → T) (r : Rules S) (r' : Rules T) (w : IsProjec
     represents = implies h.state h.lines h.answers h.runs h.represents;
     refusal = h.refusal;
     is_refusal = h.is_refusal;
+    is_due = rw (whole_response_by a h.input_read h.ended) h.is_due;
     answers_begun = h.answers_begun;
   }
 
