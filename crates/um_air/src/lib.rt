@@ -2,16 +2,24 @@
 //! it to use its contract in a proof.
 #![tactic(auto)]
 
-ghost use Rattle.std.specs.Prelude.{◌≡◌, ℕ, ℤ, ◌<◌, ◌≤◌, List, ◌∷◌, [], ◌++◌, map, length, All, Some};
+ghost use Rattle.std.specs.Prelude.{◌≡◌, ◌↔◌, ℕ, ℤ, ◌<◌, ◌≤◌, List, ◌∷◌, [], ◌++◌, map, length, All, Option, Some, IfSome};
 ghost use Rattle.lapdm_link.specs.lapdm_frame.declared.Channel.{Channel};
+ghost use Rattle.lapdm_link.specs.lapdm_frame.Content.{Frame};
 ghost use Rattle.um_block.specs.Sent.{IsSentBlock};
 ghost use Rattle.um_block.specs.Received.{soft_bits, IsReceivedBlock};
 ghost use Rattle.um_block.specs.declared.received.Received.{Received};
 ghost use Rattle.lapdm_link.specs.Claims.{Claims, HasNoticesInOrder, AckedAtMostDelivered};
-ghost use Rattle.um_air.specs.Air.{Event, Answer, AirState, initial_session, IsAirStep, IsAirRun, Block, with_bits_inverted};
-ghost use Rattle.um_air.specs.Computed.{air_step};
+ghost use Rattle.um_air.specs.Air.{Event, Answer, AirState, initial_session, IsAirStep, IsAirRun, Block, Octets, with_bits_inverted};
+ghost use Rattle.um_air.specs.Air.{ReadsFrame};
+ghost use Rattle.um_air.specs.Computed.{air_step, frame_in_accepted};
 ghost use Rattle.um_air.specs.Damage.{AreCorrectableBursts};
 ghost use Rattle.um_air.specs.Sessions.{session_log, IsBenign, EventMessageIsOctets, AllEventsInvertFewBits};
+
+/// Law: the frame that `frame_in_accepted` gives is read from the accepted octets, of which there are 23, and no other frame is.
+pub fn law_frame_in_block_is_the_one_read()
+    ensures { (channel : Channel) (accepted : Option Octets) (read : Option Frame) → IfSome accepted (λ octets. length octets ≡ 23) →
+        (frame_in_accepted channel accepted ≡ read) ↔ ReadsFrame channel accepted read }
+{}
 
 /// Law: an event leads to no state and has no answer but those that `air_step` computes.
 #[tactic(auto, using(crate::proofs::Lemmas::air_step_only))]
