@@ -1,4 +1,4 @@
--- A step of a session as a function; `IsAirStep` is its law.
+-- A step of a session as a function: if `IsAirStep` allows an answer to an event, it is this one, with this next state.
 use Rattle.std.specs.Prelude.{ℕ, List, [], ◌∷◌, map, length, Option, Some, None}
 use Rattle.std.proofs.Common.{inl, inr}
 use Rattle.std.proofs.lemmas.Bool.{cases_eq}
@@ -13,7 +13,7 @@ use Rattle.um_block.specs.Received.{soft_bits}
 use Rattle.um_block.specs.declared.received.Received.{Received}
 use Rattle.um_air.specs.Air.{AirState, Answer, Accepts, Refuses, Block, Event, Octets, event_with_frame, refusal, with_bits_inverted}
 
--- the frame in 23 octets, if they encode one
+-- the frame in 23 octets, if they encode one; `ReadsFrame` is its law
 unfoldable pub frame_in : (channel : Channel) (octets : Octets) → Option Frame
 frame_in channel octets = elim (cases_eq (length octets) 23) [
   | inl count ↦ elim (one_reading channel octets count) [ inl reading ↦ Some reading.0 | inr reading ↦ None ]

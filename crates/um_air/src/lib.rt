@@ -2,7 +2,8 @@
 //! it to use its contract in a proof.
 #![tactic(auto)]
 
-ghost use Rattle.std.specs.Prelude.{◌≡◌, ◌↔◌, ℕ, ℤ, ◌<◌, ◌≤◌, List, ◌∷◌, [], ◌++◌, map, length, All, Option, Some, IfSome};
+ghost use Rattle.std.specs.Prelude.{◌≡◌, ◌↔◌, ℕ, ℤ, ◌<◌, ◌≤◌, List, ◌∷◌, [], ◌++◌, map, length, All};
+ghost use Rattle.std.specs.Prelude.{Option, Some, IfSome};
 ghost use Rattle.lapdm_link.specs.lapdm_frame.declared.Channel.{Channel};
 ghost use Rattle.lapdm_link.specs.lapdm_frame.Content.{Frame};
 ghost use Rattle.um_block.specs.Sent.{IsSentBlock};

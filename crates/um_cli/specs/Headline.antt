@@ -19,7 +19,8 @@ DecodesToMostLikelyWords (Link tsc channel) = LinkDecodesToMostLikelyWords tsc c
 DecodesToMostLikelyWords (End side tsc) = EndDecodesToMostLikelyWords (spec_role_of side) tsc
 DecodesToMostLikelyWords command = Unit {0}
 
--- whatever lines `link` has answered, the claims about order and delivery hold for the session after them
+-- whatever lines `link` has answered, the session after them has an ordered log, delivers in order if it is benign, and is benign if no
+-- event inverts more than three bits of a block (`DeliveryLawsHold`)
 abbrev pub EverySessionDelivers : (tsc : ℕ) (channel : Channel) → Type 0
 EverySessionDelivers tsc channel = (lines answers : List (List ℕ)) (session : LinkSession) →
     Runs link_command_rules (new_session tsc channel) lines answers session → DeliveryLawsHold session

@@ -12,7 +12,8 @@ pub fn law_decoded_words_are_most_likely()
     ensures { (command : Invocation) → HasValidOperands command → DecodesToMostLikelyWords command }
 {}
 
-/// Law: the claims about order and delivery hold for the session after any lines that `link` answers.
+/// Law: after any lines that `link` answers, the log of the session is ordered, and the claims about delivery hold if the session is
+/// benign, as it is if no event inverts more than three bits of a block.
 pub fn law_every_session_delivers()
     ensures { (tsc : ℕ) (channel : Channel) → tsc ≤ 7 → EverySessionDelivers tsc channel }
 {}

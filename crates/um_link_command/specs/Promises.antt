@@ -26,7 +26,8 @@ pub record RadioCountersRose (answers : List Answer) (before after : RadioCounte
   pub sent_rose : after.sent_blocks ≡ counter_plus (total_frames_sent answers) before.sent_blocks
   pub received_rose : after.received_blocks ≡ counter_plus (total_blocks_received answers) before.received_blocks
 
--- a run of the `link` command by its rules; the radio counted the blocks of all lines that were answered
+-- a run of the `link` command by its rules; the radio counted the blocks of the answers that `IsRun` names: nothing else was written, but a
+-- refusal
 abbrev pub IsLinkCommandRun : (tsc : ℕ) (channel : Channel) (status : Status)
     (input_before input_after output_before output_after : Option (List ℕ)) (before after : RadioCounters) → Type 0
 IsLinkCommandRun tsc channel status left left' taken taken' before after =

@@ -7,8 +7,9 @@ ghost use Rattle.um_driver.specs.Rules.{Runs};
 ghost use Rattle.um_script.specs.ScriptLines.{ScriptLineMeans, script_line};
 ghost use Rattle.um_link_command.specs.Sessions.{LinkSession, new_session, link_command_rules};
 
-/// Law: after any lines that `link` has answered, what the next line's event leads to is a step of the session
-/// (`law_event_answer_is_air_step` of `um_air`: there is no other); and a line that is read as an event means it.
+/// Law: after any lines that `link` has answered, the state and the answer that `air_step` gives for the event of the next line are a step
+/// of the session. By `law_event_answer_is_air_step` of `um_air` no others are. What `script_line` reads in a line, an event or nothing, is
+/// what the line means.
 pub fn law_link_answers_are_air_steps()
     ensures step { (tsc : ℕ) (channel : Channel) (lines answers : List (List ℕ)) (session : LinkSession) (line : List ℕ)
         (event : Event) → tsc ≤ 7 → Runs link_command_rules (new_session tsc channel) lines answers session →

@@ -1,5 +1,4 @@
-use Rattle.std.proofs.Common.{subst, sym}
-use Rattle.um_air.{proofs.Lemmas.{ReadsFrame-frame_in_accepted, frame_in-only}, specs.Air.{ReadsFrame}}
+use Rattle.{std.proofs.Common.{subst, sym}, um_air.{proofs.Lemmas.{ReadsFrame-frame_in_accepted, frame_in-only}, specs.Air.ReadsFrame}}
 use Rattle.um_air.proofs.law_frame_in_block_is_the_one_read.Goals as goal
 
 pub returns : goal.returns
