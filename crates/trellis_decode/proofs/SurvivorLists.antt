@@ -13,10 +13,11 @@ use Rattle.{
     specs.List.All,
   },
   conv_code.specs.bit_blocks.Bits.{AllBits, IsBit},
+  lanes.proofs.Lanes.{each, same_below},
   trellis_decode.{
-    proofs.{AcsSteps.{each, even_metric, IsDecision-lower_bound, odd_metric, same_below}, Viterbi.AllBits-encoding_from_state},
-    proofs.Viterbi.{lex_not_after-refl, IsSurvivor-bit, IsSurvivor-tail_bit, IsSurvivor-more, IsSurvivor-same, candidate-survivor},
-    proofs.Viterbi.{traceback-tail_rows, length-traceback, length-to_binary, likelihood_bound, metric_from_state-cons, traceback-zeros},
+    proofs.{AcsSteps.{even_metric, IsDecision-lower_bound, odd_metric}, Viterbi.{AllBits-encoding_from_state, lex_not_after-refl}},
+    proofs.Viterbi.{IsSurvivor-bit, IsSurvivor-tail_bit, IsSurvivor-more, IsSurvivor-same, candidate-survivor, traceback-tail_rows},
+    proofs.Viterbi.{length-traceback, length-to_binary, likelihood_bound, metric_from_state-cons, traceback-zeros},
     specs.{
       AcsLanes.{DifferByAtMost4096, HaveHeadroom16, three_bits_reversed, path_metric_of_lane, lane_of_state, metrics_of_lanes},
       Decisions.HasDecisionsAndMetrics,

@@ -1,14 +1,11 @@
 use Rattle.{
-  std.proofs.Common.{◌≡◌, suc, ◌+◌, ◌*◌, ◌-◌, drop, replicate, negsuc, refl, ap, sym, ◌∙◌, lit≤, arith},
+  std.proofs.Common.{◌≡◌, suc, ◌+◌, ◌*◌, ◌-◌, drop, replicate, negsuc, refl, ap, sym, ◌∙◌, lit≤, arith, w8},
   std.proofs.lemmas.{Int.ints, List.drop_all},
+  lanes.proofs.Lanes.AreSigned-splat,
   trellis_decode.{
     specs.Hard.hard_lane_metrics,
-    proofs.{
-      AcsSteps.{pair_at, pair_and_after, AreInt8-splat, HaveHeadroom8-within, hard_octets, hard_metrics-lane, start-metric},
-      AcsSteps.bit_0_candidate-metric,
-      Viterbi.{IsSurvivor-none, IsSurvivor-same},
-      SurvivorLists.{AreMetricsWithin-best, IsSurvivor-zero_tail},
-    },
+    proofs.AcsSteps.{pair_at, pair_and_after, HaveHeadroom8-within, hard_octets, hard_metric-at, start-metric, bit_0_candidate-metric},
+    proofs.{Viterbi.{IsSurvivor-none, IsSurvivor-same}, SurvivorLists.{AreMetricsWithin-best, IsSurvivor-zero_tail}},
   },
 }
 use Rattle.trellis_decode.proofs.hard.hard_path_metrics_before_tail.Goals as goal
@@ -18,7 +15,7 @@ loop-k-init c =
     let soft = c.args.soft.now in
     record {
       best = λ s lt. IsSurvivor-same s refl (sym (drop_all 8 soft (omega arith))) (sym (start-metric s lt)) (IsSurvivor-none s);
-      lanes = AreInt8-splat (negsuc 119) (omega (arith, ints));
+      lanes = AreSigned-splat w8 16 (negsuc 119) (omega (arith, ints));
     }
 
 pub bit_0_candidates-values-requires-clause-headroom : goal.bit_0_candidates-values-requires-clause-headroom
@@ -44,7 +41,7 @@ loop-k-preserved c =
           (IsSurvivor-zero_tail (hard_lane_metrics c.loop-k.values.lanes) (hard_lane_metrics values) (pair_at soft (2 * before))
           (drop (2 * k) soft)
           (4 - k) has.count (omega arith) c.loop-k.invariant.best
-          (λ s lt. hard_metrics-lane values s lt
+          (λ s lt. hard_metric-at values s lt
           ∙ bit_0_candidate-metric c.loop-k.values.lanes _ _ has values c.bit_0_candidates-values.ensures.each s lt) s lt);
       lanes = c.bit_0_candidates-values.ensures.lanes;
     }
