@@ -170,8 +170,11 @@ pair_at-take_drop soft from n i j inside e =
 
 -- ## Steps: One Viterbi step (add, compare, select) in lanes of any width. Each state has its lane of a survivor map.
 
-pub inside : (s : ℕ) → s < 16 → lane_of_state s < 16
-inside s lt = omega arith
+pub lane_of_state-inside : (s : ℕ) → s < 16 → lane_of_state s < 16
+lane_of_state-inside s lt = omega arith
+
+pub lane_of_state-twice : (s : ℕ) → s < 16 → lane_of_state (lane_of_state s) ≡ s
+lane_of_state-twice = same_below _ _ refl
 
 pub in_state_order-at : {A : Type 0} (value : ℕ → A) (d : A) (s : ℕ) → s < 16 →
     get_or (in_state_order value) s d ≡ value (lane_of_state s)
@@ -185,7 +188,7 @@ module _ (metric : ℤ → ℤ) (same_order : (x y : ℤ) →
     (best : (k : ℕ) → k < 16 → values k ≡ (if int_lt (zeros k) (ones k) then ones k else zeros k)) where
   pub IsDecision-lanes : (s : ℕ) → s < 16 → IsDecision after pair s (metric (values (lane_of_state s)))
       (if int_lt (zeros (lane_of_state s)) (ones (lane_of_state s)) then 1 else 0)
-  IsDecision-lanes s lt = rw (best _ (inside s lt)) (by _ (same_order (zeros (lane_of_state s)) (ones (lane_of_state s))))
+  IsDecision-lanes s lt = rw (best _ (lane_of_state-inside s lt)) (by _ (same_order (zeros (lane_of_state s)) (ones (lane_of_state s))))
     where
       by : (t : Bool) → int_lt (metric (zeros (lane_of_state s))) (metric (ones (lane_of_state s))) ≡ t →
           IsDecision after pair s (metric (if t then ones (lane_of_state s) else zeros (lane_of_state s))) (if t then 1 else 0)
@@ -218,12 +221,12 @@ step_metric low high = same_below _ _ refl
 each_state : (P : ℕ → ℕ → Type 0) → ((k : ℕ) → k < 8 → P (three_bits_reversed k) k) →
     ((k : ℕ) → k < 8 → P (8 + three_bits_reversed k) (8 + k)) → (s : ℕ) → s < 16 → P s (lane_of_state s)
 each_state P low high s lt =
-    subst (λ s'. P s' (lane_of_state s)) (same_below (λ s. lane_of_state (lane_of_state s)) (λ s. s) refl s lt)
+    subst (λ s'. P s' (lane_of_state s)) (lane_of_state-twice s lt)
     (by_two (λ k. P (lane_of_state k) k) 8 8
     (λ k lt. subst (λ s. P s k) (sym (same_below lane_of_state three_bits_reversed refl k lt)) (low k lt))
     (λ k lt. subst (λ s. P s (8 + k)) (sym (same_below (λ k. lane_of_state (8 + k)) (λ k. 8 + three_bits_reversed k) refl k lt))
     (high k lt))
-    (lane_of_state s) (inside s lt))
+    (lane_of_state s) (lane_of_state-inside s lt))
 
 -- in each lane, the sums and differences of path metrics and branch metrics are the candidate metrics of two states
 module _ (even odd branch_metrics pair : List ℤ) (has : HasBranchMetrics branch_metrics pair) (low high : List ℤ) where
@@ -306,7 +309,7 @@ module _ (even odd branch_metrics pair : List ℤ) (has : HasBranchMetrics branc
   IsDecision-candidates low high low_decisions high_decisions best decided s lt =
       rw (
         in_state_order-at (λ k. lane_decision (lane_of_two 8 low_decisions high_decisions k)) 0 s lt,
-        decided _ (inside s lt),
+        decided _ (lane_of_state-inside s lt),
         if_map lane_decision (int_lt (zeros (lane_of_state s)) (ones (lane_of_state s))) {x = 1} {y = 0} refl refl,
       )
       (IsDecision-lanes path_metric_of_lane path_metric_of_lane-order (metrics_of_lanes even odd) pair zeros ones (lane_of_two 8 low high)
@@ -394,14 +397,14 @@ module _ (even odd branch_metrics : List ℤ) (candidates : Candidates) (is : Ar
         rw ordered (record {
           subtract_lanes = record {
             count = refl;
-            lower_bound = λ s lt. rw (lead_at s lt) (fit _ (inside s lt)).0;
-            upper_bound = λ s lt. rw (lead_at s lt) (fit _ (inside s lt)).1;
+            lower_bound = λ s lt. rw (lead_at s lt) (fit _ (lane_of_state-inside s lt)).0;
+            upper_bound = λ s lt. rw (lead_at s lt) (fit _ (lane_of_state-inside s lt)).1;
           };
           each = λ pair has s lt. omega (
             arith,
             ints,
             lead_at s lt,
-            lanewise_of_two ◌-ℤ◌ 8 8 _ _ low _ _ high low_lane high_lane (lane_of_state s) (inside s lt),
+            lanewise_of_two ◌-ℤ◌ 8 8 _ _ low _ _ high low_lane high_lane (lane_of_state s) (lane_of_state-inside s lt),
             zeros-are even odd branch_metrics pair has candidates is s lt,
             ones-are even odd branch_metrics pair has candidates is s lt,
           );
@@ -437,10 +440,10 @@ module _ (low high : List ℤ) (hl : AreDecisionLanes low) (hh : AreDecisionLane
       ≡ get_or (lane_decisions low high) s 0
   joined-decision s lt =
       rw (
-        joined_at _ (inside s lt),
-        same_below (lane none) (λ k. pos 0) refl _ (inside s lt),
+        joined_at _ (lane_of_state-inside s lt),
+        same_below (lane none) (λ k. pos 0) refl _ (lane_of_state-inside s lt),
         in_state_order-at (λ k. lane_decision (lane_of_two 8 low high k)) 0 s lt,
-      ) (sign _ (decision_at _ (inside s lt)))
+      ) (sign _ (decision_at _ (lane_of_state-inside s lt)))
     where
       sign : (x : ℤ) → (negsuc 0 ≤ℤ x) × (x ≤ℤ pos 0) → (if int_lt x (pos 0) then 1 else 0) ≡ lane_decision x
       sign x within = grind (arith, ints)
@@ -472,7 +475,8 @@ module _ (after branch_metrics pair : List ℤ) (has : HasHardBranchMetrics bran
       candidate_metric (hard_lane_metrics after) pair s 0
   unfolding candidate_metric
   bit_0_candidate-metric candidates are s lt =
-      let is = are _ (inside s lt) ∙ ap (λ k. lane after k +ℤ lane branch_metrics (lane_of_state s)) (next_state_0-lane s lt) in
+      let is = are _ (lane_of_state-inside s lt)
+      ∙ ap (λ k. lane after k +ℤ lane branch_metrics (lane_of_state s)) (next_state_0-lane s lt) in
       omega (arith, ints, hard_metric-at after (next_trellis_state s 0) (omega arith), has.at_state s lt)
 
   one_candidate : (candidates : List ℤ) → ((k : ℕ) → k < 16 →
@@ -481,7 +485,8 @@ module _ (after branch_metrics pair : List ℤ) (has : HasHardBranchMetrics bran
       candidate_metric (hard_lane_metrics after) pair s 1
   unfolding candidate_metric
   one_candidate candidates are s lt =
-      let is = are _ (inside s lt) ∙ ap (λ k. lane after k -ℤ lane branch_metrics (lane_of_state s)) (next_state_1-lane s lt) in
+      let is = are _ (lane_of_state-inside s lt)
+      ∙ ap (λ k. lane after k -ℤ lane branch_metrics (lane_of_state s)) (next_state_1-lane s lt) in
       omega (
         arith,
         ints,
@@ -514,8 +519,8 @@ pub HaveHeadroom8-within : (lanes : List ℤ) (most : ℕ) → most ≤ 60000 �
     AreMetricsWithin most (hard_lane_metrics lanes) → HaveHeadroom8 lanes
 HaveHeadroom8-within lanes most few count within = record {
   count = count;
-  lower_bound = λ k lt. omega (arith, ints, metric_at k lt, within.lower_bound _ (inside k lt));
-  upper_bound = λ k lt. omega (arith, ints, metric_at k lt, within.upper_bound _ (inside k lt));
+  lower_bound = λ k lt. omega (arith, ints, metric_at k lt, within.lower_bound _ (lane_of_state-inside k lt));
+  upper_bound = λ k lt. omega (arith, ints, metric_at k lt, within.upper_bound _ (lane_of_state-inside k lt));
 } where
   metric_at : (k : ℕ) → k < 16 → lane (hard_lane_metrics lanes) (lane_of_state k) ≡ metric_of_hard_lane (lane lanes k)
   metric_at = same_below _ _ refl
