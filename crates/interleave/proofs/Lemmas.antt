@@ -11,6 +11,7 @@ use Rattle.{
     Positions.{burst_of_bit, position_in_burst, position_in_four_bursts},
     declared.table.TheConstants.HALF_BURST_CODED_BIT_NUMBERS,
   },
+  lanes.proofs.Lanes.{each, lanewise-at, length-lanewise},
   std.{
     proofs.{
       Common.{All, Bool, Contains, Fits, List, [], ap, ap₂, arith, below_more, bit_and, drop, eqb, get_or-set_other, get_or-set_same},
@@ -18,11 +19,14 @@ use Rattle.{
       Common.{zero-add, zero, ℕ, ℤ, ◌%◌, ◌&&◌, ◌*◌, ◌++◌, ◌+◌, ◌-◌, ◌/◌, ◌<◌, ◌^◌, ◌∙◌},
       Common.{◌∷◌, ◌≡◌, ◌≢◌, ◌≤◌},
       Math.{Arith.digits_lt, ListN.set, Nat.{mul_comm, pow-suc, pow-zero}},
-      lemmas.{Bool.{Decides.Decides-eqb, cases_eq, cases_lt}, List.Edits.{get_or-between, length-between}},
-      lemmas.List.{FromFn.{get_or-map-range_with_len, length-map-range_with_len}, append-nil, drop_all, drop_at, ext_get_or},
-      lemmas.List.{get_or-append_right, get_or-map, get_or-take, get_or_append_left, get_or_default, length-map, length-take, same_lists},
-      lemmas.{List.take_at, Nat.{Bits.and_high_mask, and_mask, pow_pos}, Simd.{Each1-chunk, below_from_Fits, chunk-fits, get_or-chunk}},
-      lemmas.Simd.{get_or-replicate, get_or-zip2, get_or_wider, length-chunk, length-replicate, length-zip2, put_chunk_is},
+      lemmas.{
+        Bool.{Decides.Decides-eqb, cases_eq, cases_lt},
+        List.{Edits.{get_or-between, length-between}, FromFn.{get_or-map-range_with_len, length-map-range_with_len}, append-nil, drop_all},
+        List.{drop_at, ext_get_or, get_or-append_right, get_or-map, get_or-take, get_or_append_left, get_or_default, length-map},
+        List.{length-take, same_lists, take_at},
+        Nat.{Bits.and_high_mask, and_mask, pow_pos},
+        Simd.{Each1-chunk, below_from_Fits, chunk-fits, get_or-chunk, get_or_wider, length-chunk, put_chunk_is},
+      },
     },
     specs.{List.range_with_len, Prelude.slice_range},
   },
@@ -406,17 +410,8 @@ in_column k h = grind arith
 -- ## JoinedLanes: Interleaving the lanes of two vectors and reading the result as lanes of twice the width joins lanes in pairs. Three such
 -- steps transpose eight rows of eight octets.
 
-abbrev pub EachBelow : (ℕ → Type 0) → ℕ → Type 0
-EachBelow P zero = Unit {0}
-EachBelow P (suc n) = P 0 × EachBelow (λ k. P (suc k)) n
-
-pub each_below : (P : ℕ → Type 0) (n : ℕ) → EachBelow P n → (k : ℕ) → k < n → P k
-each_below P zero h k lt = absurd (omega arith)
-each_below P (suc n) h zero lt = h.0
-each_below P (suc n) h (suc k) lt = each_below _ n h.1 k (omega arith)
-
 pub each_below_8 : (P : ℕ → Type 0) → P 0 → P 1 → P 2 → P 3 → P 4 → P 5 → P 6 → P 7 → (k : ℕ) → k < 8 → P k
-each_below_8 P a b c d e f g h = each_below P 8 (a, (b, (c, (d, (e, (f, (g, (h, tt))))))))
+each_below_8 P a b c d e f g h = each P 8 ((((((((tt, a), b), c), d), e), f), g), h)
 
 number_l-pair : (p : ℕ) (xs : List ℕ) (i : ℕ) → suc i < length xs →
     number_l p (chunk i 2 xs) ≡ get_or xs i 0 + p * get_or xs (suc i) 0
@@ -437,8 +432,7 @@ number_l-below p (x ∷ xs) h = omega (arith, digits_lt (number_l-below p xs h.1
 
 pub octet_of_joined : (e : ℕ → ℕ) → ((r : ℕ) → e r < 256) → (r : ℕ) → r < 8 →
     (e 0 + 256 * e 1 + 65536 * (e 2 + 256 * e 3) + 2 ^ 32 * (e 4 + 256 * e 5 + 65536 * (e 6 + 256 * e 7))) / 256 ^ r % 256 ≡ e r
-octet_of_joined e h = each_below _ 8
-    (omega arith)
+octet_of_joined e h = each _ 8 (omega arith)
 
 -- two adjacent lanes, read as one lane of twice the width, form a number whose lower half is the first lane
 lane_of_two_lanes : (p q n : ℕ) (lanes : List ℕ) → q ≡ p ^ 2 → p ^ length lanes ≡ 256 ^ 16 → Each1 (λ x. x < p) lanes →
@@ -488,21 +482,17 @@ paired_lane w q n m x y square long fits_x fits_y order j s whole h within hs fi
     (at (suc (2 * j)) within ∙ ap (λ k. get_or (x ++ y) k 0) second)
     ∙ get_or-append_pair p m x y long s hs
 
-lane_by : (f : ℕ → ℕ → ℕ) (x : List ℕ) (m n s : ℕ) → length x ≡ m → s < m →
-    get_or (zip2 f x (replicate m n)) s 0 ≡ f (get_or x s 0) n
-lane_by f x m n s long h =
-    get_or-zip2 f x _ s 0 0 0 (omega arith) (omega (arith, length-replicate m n))
-    ∙ ap (f (get_or x s 0)) (get_or-replicate m s n 0 h)
+-- a splat combined with each of two vectors, and both results added
+abbrev sum_of_splats : (f g : ℕ → ℕ → ℕ) (m n : ℕ) → ℕ → List ℕ → List ℕ → List ℕ
+sum_of_splats f g m n k x y = zip2 (λ a b. (a + b) % 2 ^ 16) (zip2 f x (replicate k m)) (zip2 g y (replicate k n))
 
 module _ (x y : List ℕ) (long_x : length x ≡ 8) (long_y : length y ≡ 8) where
   sum_lane : (f g : ℕ → ℕ → ℕ) (m n s : ℕ) → s < 8 →
-      get_or (zip2 (λ a b. (a + b) % 2 ^ 16) (zip2 f x (replicate 8 m)) (zip2 g y (replicate 8 n))) s 0
-      ≡ (f (get_or x s 0) m + g (get_or y s 0) n) % 2 ^ 16
-  sum_lane f g m n s h =
-      let long_f : length (zip2 f x (replicate 8 m)) ≡ 8 = length-zip2 f x (replicate 8 m) long_x ∙ long_x in
-      let long_g : length (zip2 g y (replicate 8 n)) ≡ 8 = length-zip2 g y (replicate 8 n) long_y ∙ long_y in
-      get_or-zip2 _ _ _ s 0 0 0 (omega arith) (omega arith)
-      ∙ ap₂ (λ a b. (a + b) % 2 ^ 16) (lane_by f x 8 m s long_x h) (lane_by g y 8 n s long_y h)
+      get_or (sum_of_splats f g m n 8 x y) s 0 ≡ (f (get_or x s 0) m + g (get_or y s 0) n) % 2 ^ 16
+  sum_lane f g m n s h = lanewise-at (sum_of_splats f g m n) _ refl (λ k a b xs ys. refl) 8 x y long_x long_y s h 0 0 0
+
+  pub length-joined_octets : (f g : ℕ → ℕ → ℕ) (m n : ℕ) → length (sum_of_splats f g m n 8 x y) ≡ 8
+  length-joined_octets f g m n = length-lanewise (sum_of_splats f g m n) _ refl (λ k a b xs ys. refl) 8 x y long_x long_y
 
   pub join_lower_octets-lane : (s : ℕ) → s < 8 →
       get_or (zip2 (λ a b. (a + b) % 2 ^ 16) (zip2 bit_and x (replicate 8 255)) (zip2 (λ a b. a * 2 ^ b % 2 ^ 16) y (replicate 8 8))) s 0
@@ -521,13 +511,6 @@ module _ (x y : List ℕ) (long_x : length x ≡ 8) (long_y : length y ≡ 8) wh
       sum_lane (λ a b. a / 2 ^ b) bit_and 8 65280 s h
       ∙ ap (λ b. (get_or x s 0 / 256 + b) % 65536) (and_high_mask 16 8 (omega arith) (get_or y s 0) small_y)
       ∙ omega arith
-
-  pub length-joined_octets : (f g : ℕ → ℕ → ℕ) (m n : ℕ) →
-      length (zip2 (λ a b. (a + b) % 2 ^ 16) (zip2 f x (replicate 8 m)) (zip2 g y (replicate 8 n))) ≡ 8
-  length-joined_octets f g m n =
-      let long_f : length (zip2 f x (replicate 8 m)) ≡ 8 = length-zip2 f x (replicate 8 m) long_x ∙ long_x in
-      let long_g : length (zip2 g y (replicate 8 n)) ≡ 8 = length-zip2 g y (replicate 8 n) long_y ∙ long_y in
-      length-zip2 _ _ _ (long_f ∙ sym long_g) ∙ long_f
 
 pub octet_pairs-lane : (octets : List ℕ) (from s : ℕ) → from + 16 ≤ length octets →
     ((k : ℕ) → Fits w8 (get_or octets k 0)) →
@@ -609,28 +592,22 @@ pub row_bit : (coded columns : List ℕ) (b place p : ℕ) → AreColumnsOfCoded
 unfolding coded_bit_number_in_burst
 row_bit _ _ b _ p are hb hj hp = grind arith
 
--- lemmas about a vector that holds bit i of each of sixteen octets
+-- a vector that holds bit i of each of sixteen octets
 module _ (octets : List ℕ) (i : ℕ) (long : length octets ≡ 16) where
-  abbrev lanes : List ℕ
-  lanes = zip2 bit_and (zip2 (λ a b. a / 2 ^ b) (chunk 0 16 octets) (replicate 16 i)) (replicate 16 1)
+  abbrev bit_lanes : ℕ → List ℕ → List ℕ → List ℕ
+  bit_lanes n xs ys = zip2 bit_and (zip2 (λ a b. a / 2 ^ b) xs (replicate n i)) (replicate n 1)
 
-  length-shifted : length (zip2 (λ a b. a / 2 ^ b) (chunk 0 16 octets) (replicate 16 i)) ≡ 16
-  length-shifted =
-      let read : length (chunk 0 16 octets) ≡ 16 = length-chunk 0 16 _ (omega arith) in
-      length-zip2 _ _ _ read ∙ read
+  read : length (chunk 0 16 octets) ≡ 16
+  read = length-chunk 0 16 _ (omega arith)
 
-  pub length-bit_lanes : length lanes ≡ 16
-  length-bit_lanes =
-      length-zip2 _ _ _ length-shifted ∙ length-shifted
+  pub length-bit_lanes : length (bit_lanes 16 (chunk 0 16 octets) octets) ≡ 16
+  length-bit_lanes = length-lanewise bit_lanes _ refl (λ n x y xs ys. refl) 16 _ octets read long
 
-  pub bit_lane : (p : ℕ) → p < 16 → get_or lanes p 0 ≡ bit_of (get_or octets p 0) i
+  pub bit_lane : (p : ℕ) → p < 16 → get_or (bit_lanes 16 (chunk 0 16 octets) octets) p 0 ≡ bit_of (get_or octets p 0) i
   bit_lane p hp =
-      let read : length (chunk 0 16 octets) ≡ 16 = length-chunk 0 16 _ (omega arith) in
-      lane_by _ _ 16 1 p length-shifted hp
+      lanewise-at bit_lanes _ refl (λ n x y xs ys. refl) 16 _ octets read long p hp 0 0 0
       ∙ and_mask _ 1
-      ∙ ap (λ a. a % 2)
-      (lane_by _ _ 16 i p read hp
-      ∙ ap (λ a. a / 2 ^ i) (get_or-chunk 0 16 octets p 0 hp ∙ ap (λ k. get_or octets k 0) (zero-add p)))
+      ∙ ap (λ a. a / 2 ^ i % 2) (get_or-chunk 0 16 octets p 0 hp ∙ ap (λ k. get_or octets k 0) (zero-add p))
 
 -- the lane order that interleaves two vectors of sixteen lanes
 abbrev alternating_lanes : List ℕ

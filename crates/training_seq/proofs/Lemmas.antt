@@ -1,13 +1,15 @@
 -- Correlations with the training sequences, and the greatest of them.
 use Rattle.{
+  lanes.proofs.Lanes.{cast_lanes-each, lanewise-at, length-lanewise},
   bit_blocks.specs.{Bits.{AllBits, IsBit}, Greatest.first_greatest, SoftValues.{bit_metric, count_wrong_bits, likelihood}},
   std.{
-    proofs.Common.{Bool, List, [], ap, ap₂, arith, drop, eqb, false, get_or, inl, inr},
-    proofs.Common.{int_lt, leb, length, map, negsuc, of_z, pos, refl, replicate},
-    proofs.Common.{rules, suc, sym, tests, to_z, true, w16, zero, ℕ, ℤ, ◌%◌, ◌*ℤ◌, ◌*◌, ◌+ℤ◌, ◌+◌, ◌<ℤ◌},
-    proofs.Common.{◌<◌, ◌^◌, ◌∙◌, ◌∷◌, ◌≡◌, ◌≢◌, ◌≤ℤ◌, ◌≤◌, ◌⊎◌},
-    proofs.lemmas.{Bool.{cases_Bool, cases_eq}, Int.{by_lt_z, int_wrap_fits, ints, to_z-of_z, wrapping_add-bits, wrapping_mul_is}},
-    proofs.lemmas.List.{Elements.{All-head, All-tail}, Sums.AllPass-from_list_all, drop_more, get_or-map},
+    proofs.{
+      Common.{Bool, List, [], ap, ap₂, arith, drop, eqb, get_or, inl, inr, leb, length, map, negsuc, of_z, pos, refl, replicate, rules},
+      Common.{suc, sym, tests, to_z, w16, zero, ℕ, ℤ, ◌%◌, ◌*ℤ◌, ◌*◌, ◌+ℤ◌, ◌+◌, ◌<◌, ◌^◌, ◌∙◌},
+      Common.{◌∷◌, ◌≡◌, ◌≤◌},
+      lemmas.{Bool.cases_eq, Int.{int_wrap_fits, ints, to_z-of_z, wrapping_add-bits, wrapping_mul_is}, List.Elements.{All-head, All-tail}},
+      lemmas.List.{Sums.AllPass-from_list_all, drop_more, get_or-map},
+    },
     specs.{Int.int_wrap, List.list_all},
   },
   training_seq.specs.{
@@ -91,33 +93,25 @@ one_lane total value sign t v s =
     ∙ int_wrap_fits w16 (value *ℤ sign) (omega (arith, ints)))
     ∙ int_wrap_fits w16 (total +ℤ value *ℤ sign) (omega (arith, ints))
 
-pub length-with_product : (n : ℕ) (totals : List ℤ) (value : ℤ) (signs : List ℤ) → length totals ≡ n → length signs ≡ n
-    → length (with_product n totals value signs) ≡ n
-length-with_product zero [] value [] e e' = refl
-length-with_product (suc n) (total ∷ totals) value (sign ∷ signs) e e' =
-    ap suc (length-with_product n totals value signs (omega arith) (omega arith))
-length-with_product n totals value signs e e' = absurd (omega arith)
+module _ (totals : List ℤ) (value : ℤ) (signs : List ℤ) (long : length totals ≡ 8) (long' : length signs ≡ 8) where
+  pub length-with_product : length (with_product 8 totals value signs) ≡ 8
+  length-with_product =
+      length-lanewise (λ n xs ys. with_product n xs value ys) _ refl (λ n x y xs ys. refl) 8 totals signs long long'
 
-at : (n : ℕ) (totals : List ℤ) (value : ℤ) (signs : List ℤ) (k : ℕ) → length totals ≡ n → length signs ≡ n → k < n
-    → get_or (with_product n totals value signs) k (pos 0)
-    ≡ to_z w16 (plus (of_z w16 (get_or totals k (pos 0))) (times (of_z w16 value) (of_z w16 (get_or signs k (pos 0)))))
-at (suc n) (total ∷ totals) value (sign ∷ signs) zero e e' lt = refl
-at (suc n) (total ∷ totals) value (sign ∷ signs) (suc k) e e' lt = at n totals value signs k (omega arith) (omega arith) (omega arith)
-at n totals value signs k e e' lt = absurd (omega arith)
+  pub total_with_product : (k : ℕ) → k < 8 → IsMagnitudeWithin 12800 (get_or totals k (pos 0)) → IsMagnitudeWithin 512 value →
+      IsMagnitudeWithin 1 (get_or signs k (pos 0)) →
+      get_or (with_product 8 totals value signs) k (pos 0) ≡ get_or totals k (pos 0) +ℤ value *ℤ get_or signs k (pos 0)
+  total_with_product k lt t v s =
+      lanewise-at (λ n xs ys. with_product n xs value ys) _ refl (λ n x y xs ys. refl) 8 totals signs long long' k lt
+      (pos 0) (pos 0) (pos 0)
+      ∙ one_lane (get_or totals k (pos 0)) value (get_or signs k (pos 0)) t v s
 
-pub total_with_product : (totals : List ℤ) (value : ℤ) (signs : List ℤ) (k : ℕ) → length totals ≡ 8 → length signs ≡ 8
-    → k < 8
-    → IsMagnitudeWithin 12800 (get_or totals k (pos 0)) → IsMagnitudeWithin 512 value → IsMagnitudeWithin 1 (get_or signs k (pos 0))
-    → get_or (with_product 8 totals value signs) k (pos 0) ≡ get_or totals k (pos 0) +ℤ value *ℤ get_or signs k (pos 0)
-total_with_product totals value signs k e e' lt t v s =
-    at 8 totals value signs k e e' lt ∙ one_lane (get_or totals k (pos 0)) value (get_or signs k (pos 0)) t v s
-
--- a total that is at most 13312 in absolute value is unchanged by conversion to 16 bits and back
-pub passed : (n : ℕ) (totals : List ℤ) (k : ℕ) → length totals ≡ n → k < n → IsMagnitudeWithin 13312 (get_or totals k (pos 0))
-    → get_or (map (to_z w16) (map (of_z w16) totals)) k (pos 0) ≡ get_or totals k (pos 0)
-passed (suc n) (total ∷ totals) zero e lt h = to_z-of_z w16 total (omega (arith, ints))
-passed (suc n) (total ∷ totals) (suc k) e lt h = passed n totals k (omega arith) (omega arith) h
-passed n totals k e lt h = absurd (omega arith)
+-- totals that are at most 13312 in absolute value are unchanged by conversion to 16 bits and back
+pub passed : (totals : List ℤ) → length totals ≡ 8 → ((k : ℕ) → k ≤ 7 →
+    IsMagnitudeWithin 13312 (get_or totals k (pos 0))) →
+    map (to_z w16) (map (of_z w16) totals) ≡ totals
+passed totals long within =
+    cast_lanes-each w16 8 totals (record { count = long; fits = λ k lt. omega (arith, ints, within k (omega arith)) })
 
 -- ## Correlations: How one more soft bit changes a correlation, and the correlation of a sum of soft bits.
 

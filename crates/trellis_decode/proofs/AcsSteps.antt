@@ -3,53 +3,36 @@ use Rattle.{
   conv_code.specs.Likelihood.bit_metric,
   std.{
     proofs.{
-      Common.{Bool, FitsSigned, List, [], ap, ap₂, arith, below_more, drop, false, get_or, if◌then◌else◌, inl, inr, int_lt, length},
-      Common.{lit≤, map, negsuc, pos, refl, replicate, subst, suc, sym, take, true, w16, w8, zero, ℕ, ℤ, ◌%◌, ◌*◌, ◌++◌},
+      Common.{Bool, FitsSigned, List, [], ap, ap₂, arith, drop, false, get_or, if◌then◌else◌, inl, inr, int_lt, length, lit≤},
+      Common.{map, negsuc, pos, refl, replicate, subst, suc, sym, take, true, w16, w8, zero, ℕ, ℤ, ◌%◌, ◌*◌, ◌++◌},
       Common.{◌+ℤ◌, ◌+◌, ◌-ℤ◌, ◌-◌, ◌<◌, ◌∙◌, ◌/◌, ◌∷◌, ◌≡◌, ◌≤ℤ◌, ◌≤◌},
-      Common.◌⊎◌,
-      Math.IntN.one,
-      lemmas.{Bool.cases_lt, Int.{ints, of_z-to_z}, List.{Elements.{All-drop, All-head, All-tail, All-take}, drop-drop, drop-take}},
-      lemmas.List.{take-append-drop, take-take, get_or_append_left, get_or-append-add},
+      lemmas.{Int.{ints, of_z-to_z}, List.{Elements.{All-drop, All-head, All-tail, All-take}, drop-drop, drop-take, take-append-drop}},
+      lemmas.List.take-take,
     },
     specs.{Int.{cast_signed, cast_unsigned}, List.All},
   },
-  trellis_decode.{
-    proofs.AcsVectors.{difference-lane, sum-lane, at_is},
-    specs.{
-      AcsLanes.{AbsFit16Bits, AreBranchMetrics, AreDecisionLanes, DifferByAtMost4096, DifferencesFit16Bits, HasBranchMetrics},
-      AcsLanes.{three_bits_reversed, interleaved_lanes, lane_decisions, lane_decision, path_metric_of_lane, lane_of_state},
-      AcsLanes.{lanes_in_state_order, metrics_of_lanes},
-      Candidates.AreAcsCandidates,
-      Hard.{AreInt8, HaveMagnitudeAtMostOne, HasHardBranchMetrics, HaveHeadroom8, IsHardBit, hard_lane_metrics, lane_after_bit_0},
-      Hard.{lane_after_bit_1, metric_of_hard_lane, sign_bit_of},
-      Lanes.{AreSignedOctets, IsSignedOctet, lane},
-      SurvivorPaths.AreMetricsWithin,
-      Trellis.{IsDecision, branch_metric, candidate_metric, next_trellis_state, first_coded_bit, second_coded_bit},
-      declared.acs_step.Candidates.Candidates,
-    },
+  lanes.{
+    specs.Lanes.{AreSigned, DifferencesFit, lane, lane_of_two},
+    proofs.Lanes.{AreSigned-between, between_of_two, by_two, each, if_map, lane_of_two-first, lane_of_two-second, lanewise_of_two},
+    proofs.Lanes.{same_below, shuffled, taken, wrapped_difference, wrapped_sum},
+  },
+  trellis_decode.specs.{
+    AcsLanes.{AbsFit16Bits, AreBranchMetrics, AreDecisionLanes, DifferByAtMost4096, HasBranchMetrics, three_bits_reversed},
+    AcsLanes.{interleaved_lanes, lane_decisions, lane_decision, path_metric_of_lane, lane_of_state, in_state_order, lanes_in_state_order},
+    AcsLanes.metrics_of_lanes,
+    Candidates.AreAcsCandidates,
+    Hard.{AreInt8, HaveMagnitudeAtMostOne, HasHardBranchMetrics, HaveHeadroom8, IsHardBit, hard_lane_metrics, lane_after_bit_0},
+    Hard.{lane_after_bit_1, metric_of_hard_lane, sign_bit_of},
+    Lanes.{AreSignedOctets, IsSignedOctet},
+    SurvivorPaths.AreMetricsWithin,
+    Trellis.{IsDecision, branch_metric, candidate_metric, next_trellis_state, first_coded_bit, second_coded_bit},
+    declared.acs_step.Candidates.Candidates,
   },
 }
 use lib.Lanes.{Each1}
 
 -- ## BranchMetricLanes: The branch metric of bit 1 is the negative of that of bit 0. The branch metric of bit 0 in state s + 8 is the
 -- negative of that in state s.
-
-abbrev pub EachBelow : (ℕ → Type 0) → ℕ → Type 0
-EachBelow P zero = Unit {0}
-EachBelow P (suc n) = EachBelow P n × P n
-
-pub each : (P : ℕ → Type 0) (n : ℕ) → EachBelow P n → (s : ℕ) → s < n → P s
-each P zero h s lt = absurd (omega arith)
-each P (suc n) h s lt = below_more P n (each P n h.0) h.1 s (omega arith)
-
-abbrev values : {A : Type 0} → (ℕ → A) → ℕ → List A
-values f zero = []
-values f (suc n) = f n ∷ values f n
-
--- two functions agree for all numbers below n if the lists of their values are equal; `refl` proves this equality by computation
-pub same_below : {A : Type 0} (f g : ℕ → A) {n : ℕ} → values f n ≡ values g n → (k : ℕ) → k < n → f k ≡ g k
-same_below f g {n = zero} h = λ k lt. absurd (omega arith)
-same_below f g {n = suc n} h = λ k lt. below_more (λ k. f k ≡ g k) n (same_below f g (cc)) (cc) k (omega arith)
 
 pub bit_metric-zero : (p : ℤ) → bit_metric p 0 ≡ p
 bit_metric-zero p = omega (arith, ints)
@@ -113,7 +96,7 @@ negated-cast_signed : (x : ℕ) → x < 65536 → negsuc 32766 ≤ℤ cast_signe
 negated-cast_signed x small low =
     cc (
       of_z-to_z w16 x small,
-      difference-lane (pos 0) (cast_signed w16 x) (omega (arith, ints)) (omega (arith, ints)) (omega
+      wrapped_difference w16 (pos 0) (cast_signed w16 x) (omega (arith, ints)) (omega (arith, ints)) (omega
           (arith, ints)),
     )
 
@@ -124,8 +107,8 @@ metrics_of_pair-are : (p q : ℤ) → IsSignedOctet p → IsSignedOctet q →
     HasBranchMetrics (metrics_of_pair p q) (p ∷ q ∷ []) × AreBranchMetrics (metrics_of_pair p q)
 unfolding branch_metric
 metrics_of_pair-are p q hp hq =
-    let a = sum-lane p q (omega (arith, ints)) (omega (arith, ints)) (omega (arith, ints)) in
-    let b = difference-lane p q (omega (arith, ints)) (omega (arith, ints)) (omega (arith, ints)) in
+    let a = wrapped_sum w16 p q (omega (arith, ints)) (omega (arith, ints)) (omega (arith, ints)) in
+    let b = wrapped_difference w16 p q (omega (arith, ints)) (omega (arith, ints)) (omega (arith, ints)) in
     let c = negated-cast_signed ((cast_unsigned w16 p + cast_unsigned w16 q) % 65536) (omega arith) (omega (arith, ints)) in
     let d = negated-cast_signed ((cast_unsigned w16 p + (65536 - cast_unsigned w16 q)) % 65536) (omega arith) (omega (arith, ints)) in (
       record {
@@ -185,49 +168,38 @@ pair_at-take_drop soft from n i j inside e =
     ∙ take-take 2 (n - i) _ (omega arith)
     ∙ ap (take 2) (cc (drop-drop i _ _, e))
 
--- ## AcsSteps: One Viterbi step (add, compare, select) in two vectors of eight 16-bit lanes. The states are in bit-reversed order, so that
--- the next states after bit 0 are one whole vector, and those after bit 1 the other.
+-- ## Steps: One Viterbi step (add, compare, select) in lanes of any width. Each state has its lane of a survivor map.
 
-pub IsDecision-lane : (after pair : List ℤ) (s : ℕ) (z o value taken : ℤ) →
-    path_metric_of_lane z ≡ candidate_metric after pair s 0 →
-    path_metric_of_lane o ≡ candidate_metric after pair s 1 → value ≡ (if int_lt z o then o else z) →
-    taken ≡ (if int_lt z o then negsuc 0 else pos 0) → IsDecision after pair s (path_metric_of_lane value) (lane_decision taken)
-IsDecision-lane after pair s z o value taken zero_is one_is chosen bit = rw (chosen, bit) (by _ refl) where
-  by : (t : Bool) → int_lt z o ≡ t →
-      IsDecision after pair s (path_metric_of_lane (if t then o else z)) (lane_decision (if t then negsuc 0 else pos 0))
-  by true e = inr (refl, one_is, omega (arith, ints))
-  by false e = inl (refl, zero_is, omega (arith, ints))
+pub lane_of_state-inside : (s : ℕ) → s < 16 → lane_of_state s < 16
+lane_of_state-inside s lt = omega arith
 
--- ---- lemmas about the lanes of the states in two vectors
+pub lane_of_state-twice : (s : ℕ) → s < 16 → lane_of_state (lane_of_state s) ≡ s
+lane_of_state-twice = same_below _ _ refl
 
-bit_reversed_twice : (k : ℕ) → k < 8 → three_bits_reversed (three_bits_reversed k) ≡ k
-bit_reversed_twice = same_below _ _ refl
+pub in_state_order-at : {A : Type 0} (value : ℕ → A) (d : A) (s : ℕ) → s < 16 →
+    get_or (in_state_order value) s d ≡ value (lane_of_state s)
+in_state_order-at value d = same_below _ _ refl
 
-halves : (P : ℕ → Type 0) → ((k : ℕ) → k < 8 → P k) → ((k : ℕ) → k < 8 → P (8 + k)) → (k : ℕ) → k < 16 → P k
-halves P low high k lt =
-    elim (cases_lt k 8) [ inl below ↦ low k below | inr from ↦ subst P (omega arith) (high (k - 8) (omega arith)) ]
+-- the lanes hold the candidate metrics of bit 0 and of bit 1, lowered and scaled, and the greater of both
+module _ (metric : ℤ → ℤ) (same_order : (x y : ℤ) →
+    int_lt (metric x) (metric y) ≡ int_lt x y) (after pair : List ℤ) (zeros ones values : ℕ → ℤ)
+    (zero_is : (s : ℕ) → s < 16 → metric (zeros (lane_of_state s)) ≡ candidate_metric after pair s 0)
+    (one_is : (s : ℕ) → s < 16 → metric (ones (lane_of_state s)) ≡ candidate_metric after pair s 1)
+    (best : (k : ℕ) → k < 16 → values k ≡ (if int_lt (zeros k) (ones k) then ones k else zeros k)) where
+  pub IsDecision-lanes : (s : ℕ) → s < 16 → IsDecision after pair s (metric (values (lane_of_state s)))
+      (if int_lt (zeros (lane_of_state s)) (ones (lane_of_state s)) then 1 else 0)
+  IsDecision-lanes s lt = rw (best _ (lane_of_state-inside s lt)) (by _ (same_order (zeros (lane_of_state s)) (ones (lane_of_state s))))
+    where
+      by : (t : Bool) → int_lt (metric (zeros (lane_of_state s))) (metric (ones (lane_of_state s))) ≡ t →
+          IsDecision after pair s (metric (if t then ones (lane_of_state s) else zeros (lane_of_state s))) (if t then 1 else 0)
+      by true e = inr (refl, one_is s lt, omega (arith, ints, zero_is s lt, one_is s lt))
+      by false e = inl (refl, zero_is s lt, omega (arith, ints, zero_is s lt, one_is s lt))
 
-pub each_state : (P : ℕ → Type 0) → ((k : ℕ) → k < 8 → P (three_bits_reversed k)) →
-    ((k : ℕ) → k < 8 → P (8 + three_bits_reversed k)) → (s : ℕ) → s < 16 → P s
-each_state P low high =
-    halves P (λ k lt. subst P (bit_reversed_twice k lt) (low _ (omega arith)))
-    (λ k lt. rw (← bit_reversed_twice k lt) (high _ (omega arith)))
+-- ## AcsSteps: The step in two vectors of eight 16-bit lanes. The states are in bit-reversed order, so that the next states after bit 0 are
+-- one whole vector, and those after bit 1 the other.
 
-low_in_order : (low high : List ℤ) (k : ℕ) → k < 8 →
-    lane (lanes_in_state_order low high) (three_bits_reversed k) ≡ lane low k
-low_in_order low high = same_below _ _ refl
-
-high_in_order : (low high : List ℤ) (k : ℕ) → k < 8 →
-    lane (lanes_in_state_order low high) (8 + three_bits_reversed k) ≡ lane high k
-high_in_order low high = same_below _ _ refl
-
-pub low_choice : (low high : List ℤ) (k : ℕ) → k < 8 → get_or (lane_decisions low high) (three_bits_reversed k) 0 ≡
-    lane_decision (lane low k)
-low_choice low high = same_below _ _ refl
-
-pub high_choice : (low high : List ℤ) (k : ℕ) → k < 8 →
-    get_or (lane_decisions low high) (8 + three_bits_reversed k) 0 ≡ lane_decision (lane high k)
-high_choice low high = same_below _ _ refl
+path_metric_of_lane-order : (x y : ℤ) → int_lt (path_metric_of_lane x) (path_metric_of_lane y) ≡ int_lt x y
+path_metric_of_lane-order x y = grind (arith, ints)
 
 pub even_metric : (even odd : List ℤ) (k : ℕ) → k < 8 →
     lane (metrics_of_lanes even odd) (next_trellis_state (three_bits_reversed k) 0) ≡
@@ -240,45 +212,108 @@ pub odd_metric : (even odd : List ℤ) (k : ℕ) → k < 8 →
 odd_metric _ odd = same_below _ _ refl
 
 -- the path metrics that result from a step, from the lanes of states 0 to 7 (low) and 8 to 15 (high)
-abbrev pub step_metrics : List ℤ → List ℤ → List ℤ
-step_metrics low high = metrics_of_lanes (interleaved_lanes low high 0 1 2 3) (interleaved_lanes low high 4 5 6 7)
+pub step_metric : (low high : List ℤ) (s : ℕ) → s < 16 →
+    lane (metrics_of_lanes (interleaved_lanes low high 0 1 2 3) (interleaved_lanes low high 4 5 6 7)) s
+    ≡ path_metric_of_lane (lane_of_two 8 low high (lane_of_state s))
+step_metric low high = same_below _ _ refl
 
-pub low_metric : (low high : List ℤ) (k : ℕ) → k < 8 →
-    lane (step_metrics low high) (three_bits_reversed k) ≡ path_metric_of_lane (lane low k)
-low_metric low high = same_below _ _ refl
-
-pub high_metric : (low high : List ℤ) (k : ℕ) → k < 8 →
-    lane (step_metrics low high) (8 + three_bits_reversed k) ≡ path_metric_of_lane (lane high k)
-high_metric low high = same_below _ _ refl
+-- a property of the lane of each state, from the lanes of states 0 to 7 and of states 8 to 15
+each_state : (P : ℕ → ℕ → Type 0) → ((k : ℕ) → k < 8 → P (three_bits_reversed k) k) →
+    ((k : ℕ) → k < 8 → P (8 + three_bits_reversed k) (8 + k)) → (s : ℕ) → s < 16 → P s (lane_of_state s)
+each_state P low high s lt =
+    subst (λ s'. P s' (lane_of_state s)) (lane_of_state-twice s lt)
+    (by_two (λ k. P (lane_of_state k) k) 8 8
+    (λ k lt. subst (λ s. P s k) (sym (same_below lane_of_state three_bits_reversed refl k lt)) (low k lt))
+    (λ k lt. subst (λ s. P s (8 + k)) (sym (same_below (λ k. lane_of_state (8 + k)) (λ k. 8 + three_bits_reversed k) refl k lt))
+    (high k lt))
+    (lane_of_state s) (lane_of_state-inside s lt))
 
 -- in each lane, the sums and differences of path metrics and branch metrics are the candidate metrics of two states
-module _ (even odd branch_metrics pair : List ℤ) (has : HasBranchMetrics branch_metrics pair) where
+module _ (even odd branch_metrics pair : List ℤ) (has : HasBranchMetrics branch_metrics pair) (low high : List ℤ) where
   abbrev candidate_at : ℕ → ℕ → ℤ
   candidate_at = candidate_metric (metrics_of_lanes even odd) pair
 
-  pub candidate_at-lanes : (k : ℕ) → k < 8 →
-      (path_metric_of_lane (lane even k +ℤ lane branch_metrics k) ≡ candidate_at (three_bits_reversed k) 0)
-      × (path_metric_of_lane (lane odd k -ℤ lane branch_metrics k) ≡ candidate_at (three_bits_reversed k) 1)
-      × (path_metric_of_lane (lane even k -ℤ lane branch_metrics k) ≡ candidate_at (8 + three_bits_reversed k) 0)
-      × (path_metric_of_lane (lane odd k +ℤ lane branch_metrics k) ≡ candidate_at (8 + three_bits_reversed k) 1)
+  pub candidates_of_bit_0 : ((k : ℕ) → k < 8 → lane low k ≡ lane even k +ℤ lane branch_metrics k) →
+      ((k : ℕ) → k < 8 → lane high k ≡ lane even k -ℤ lane branch_metrics k) →
+      (s : ℕ) → s < 16 → path_metric_of_lane (lane_of_two 8 low high (lane_of_state s)) ≡ candidate_at s 0
   unfolding candidate_metric
-  candidate_at-lanes k lt =
-      omega (
+  candidates_of_bit_0 sum difference = each_state (λ s k. path_metric_of_lane (lane_of_two 8 low high k) ≡ candidate_at s 0)
+      (λ k lt. omega (
         arith,
         ints,
+        lane_of_two-first 8 low high k lt,
+        sum k lt,
         has.each_lane k lt,
         even_metric even odd k lt,
-        odd_metric even odd k lt,
+      ))
+      (λ k lt. omega (
+        arith,
+        ints,
+        lane_of_two-second 8 low high k,
+        difference k lt,
+        has.each_lane k lt,
         same_below (λ k. lane (metrics_of_lanes even odd) (next_trellis_state (8 + three_bits_reversed k) 0))
-            (λ k. path_metric_of_lane (lane even k))
-            refl k lt,
-        same_below (λ k. lane (metrics_of_lanes even odd) (next_trellis_state (8 + three_bits_reversed k) 1))
-            (λ k. path_metric_of_lane (lane odd k))
-            refl k lt,
+            (λ k. path_metric_of_lane (lane even k)) refl k lt,
+        branch_metric-high pair has.count (three_bits_reversed k) (omega arith),
+      ))
+
+  pub candidates_of_bit_1 : ((k : ℕ) → k < 8 → lane low k ≡ lane odd k -ℤ lane branch_metrics k) →
+      ((k : ℕ) → k < 8 → lane high k ≡ lane odd k +ℤ lane branch_metrics k) →
+      (s : ℕ) → s < 16 → path_metric_of_lane (lane_of_two 8 low high (lane_of_state s)) ≡ candidate_at s 1
+  unfolding candidate_metric
+  candidates_of_bit_1 difference sum = each_state (λ s k. path_metric_of_lane (lane_of_two 8 low high k) ≡ candidate_at s 1)
+      (λ k lt. omega (
+        arith,
+        ints,
+        lane_of_two-first 8 low high k lt,
+        difference k lt,
+        has.each_lane k lt,
+        odd_metric even odd k lt,
         branch_metric-one pair has.count (three_bits_reversed k),
+      ))
+      (λ k lt. omega (
+        arith,
+        ints,
+        lane_of_two-second 8 low high k,
+        sum k lt,
+        has.each_lane k lt,
+        same_below (λ k. lane (metrics_of_lanes even odd) (next_trellis_state (8 + three_bits_reversed k) 1))
+            (λ k. path_metric_of_lane (lane odd k)) refl k lt,
         branch_metric-one pair has.count (8 + three_bits_reversed k),
         branch_metric-high pair has.count (three_bits_reversed k) (omega arith),
+      ))
+
+module _ (even odd branch_metrics pair : List ℤ) (has : HasBranchMetrics branch_metrics pair) (candidates : Candidates)
+    (are : AreAcsCandidates even odd branch_metrics candidates) where
+  abbrev pub zeros : ℕ → ℤ
+  zeros = lane_of_two 8 candidates.low_states_bit_0.lanes candidates.high_states_bit_0.lanes
+
+  abbrev pub ones : ℕ → ℤ
+  ones = lane_of_two 8 candidates.low_states_bit_1.lanes candidates.high_states_bit_1.lanes
+
+  pub zeros-are : (s : ℕ) → s < 16 →
+      path_metric_of_lane (zeros (lane_of_state s)) ≡ candidate_metric (metrics_of_lanes even odd) pair s 0
+  zeros-are = candidates_of_bit_0 even odd branch_metrics pair has _ _ are.low_states_bit_0_sums are.high_states_bit_0_differences
+
+  pub ones-are : (s : ℕ) → s < 16 →
+      path_metric_of_lane (ones (lane_of_state s)) ≡ candidate_metric (metrics_of_lanes even odd) pair s 1
+  ones-are = candidates_of_bit_1 even odd branch_metrics pair has _ _ are.low_states_bit_1_differences are.high_states_bit_1_sums
+
+  -- `low` and `high` are the greater candidates, and `low_decisions` and `high_decisions` tell which they are
+  pub IsDecision-candidates : (low high low_decisions high_decisions : List ℤ) →
+      ((k : ℕ) → k < 16 → lane_of_two 8 low high k ≡ (if int_lt (zeros k) (ones k) then ones k else zeros k)) →
+      ((k : ℕ) → k < 16 → lane_of_two 8 low_decisions high_decisions k
+      ≡ (if int_lt (zeros k) (ones k) then negsuc 0 else pos 0)) →
+      (s : ℕ) → s < 16 → IsDecision (metrics_of_lanes even odd) pair s
+      (path_metric_of_lane (lane_of_two 8 low high (lane_of_state s))) (get_or (lane_decisions low_decisions high_decisions) s 0)
+  IsDecision-candidates low high low_decisions high_decisions best decided s lt =
+      rw (
+        in_state_order-at (λ k. lane_decision (lane_of_two 8 low_decisions high_decisions k)) 0 s lt,
+        decided _ (lane_of_state-inside s lt),
+        if_map lane_decision (int_lt (zeros (lane_of_state s)) (ones (lane_of_state s))) {x = 1} {y = 0} refl refl,
       )
+      (IsDecision-lanes path_metric_of_lane path_metric_of_lane-order (metrics_of_lanes even odd) pair zeros ones (lane_of_two 8 low high)
+      zeros-are ones-are best s lt)
 
 -- a path metric is no less than the smaller path metric of the two next states, since one of the two branch metrics is not negative
 pub IsDecision-lower_bound : (after pair : List ℤ) (s bit : ℕ) (value floor : ℤ) → length pair ≡ 2 → s < 16 →
@@ -337,11 +372,11 @@ module _ (even odd branch_metrics : List ℤ) (candidates : Candidates) (is : Ar
     bounded.upper_bound k,
   )
 
-  pub low_differences_fit : DifferencesFit16Bits candidates.low_states_bit_0.lanes candidates.low_states_bit_1.lanes
-  low_differences_fit = record { fits = λ k lt. omega (arith, ints, low_fits k lt) }
+  pub low_differences_fit : DifferencesFit w16 8 candidates.low_states_bit_0.lanes candidates.low_states_bit_1.lanes
+  low_differences_fit k lt = omega (arith, ints, low_fits k lt)
 
-  pub high_differences_fit : DifferencesFit16Bits candidates.high_states_bit_0.lanes candidates.high_states_bit_1.lanes
-  high_differences_fit = record { fits = λ k lt. omega (arith, ints, high_fits k lt) }
+  pub high_differences_fit : DifferencesFit w16 8 candidates.high_states_bit_0.lanes candidates.high_states_bit_1.lanes
+  high_differences_fit k lt = omega (arith, ints, high_fits k lt)
 
   module _ (low high leads : List ℤ)
       (low_lane : (k : ℕ) → k < 8 → lane low k ≡ lane candidates.low_states_bit_0.lanes k -ℤ lane
@@ -349,89 +384,74 @@ module _ (even odd branch_metrics : List ℤ) (candidates : Candidates) (is : Ar
       (high_lane : (k : ℕ) → k < 8 → lane high k ≡ lane candidates.high_states_bit_0.lanes k -ℤ lane
       candidates.high_states_bit_1.lanes k)
       (ordered : leads ≡ lanes_in_state_order low high) where
+    fit : (k : ℕ) → k < 16 → Fits (lane_of_two 8 low high k)
+    fit = by_two (λ k. Fits (lane_of_two 8 low high k)) 8 8
+        (λ k lt. rw (lane_of_two-first 8 low high k lt, low_lane k lt) (low_fits k lt))
+        (λ k lt. rw (lane_of_two-second 8 low high k, high_lane k lt) (high_fits k lt))
+
+    lead_at : (s : ℕ) → s < 16 → lane (lanes_in_state_order low high) s ≡ lane_of_two 8 low high (lane_of_state s)
+    lead_at = in_state_order-at (lane_of_two 8 low high) (pos 0)
+
     pub leads-subtract_lanes : AreLeads even odd branch_metrics leads
     leads-subtract_lanes =
-        let fit = each_state (λ s. Fits (lane (lanes_in_state_order low high) s))
-        (λ k lt. rw (low_in_order low high k lt, low_lane k lt) (low_fits k lt))
-        (λ k lt. rw (high_in_order low high k lt, high_lane k lt) (high_fits k lt)) in
         rw ordered (record {
-          subtract_lanes = record { count = refl; lower_bound = λ s lt. (fit s lt).0; upper_bound = λ s lt. (fit s lt).1 };
-          each = λ pair has. each_state _
-              (λ k lt. rw (low_in_order low high k lt) (let at = candidate_at-lanes even odd branch_metrics pair has k lt in
-              omega (arith, ints, low_lane k lt, is.low_states_bit_0_sums k lt, is.low_states_bit_1_differences k lt)))
-              (λ k lt. rw (high_in_order low high k lt) (let at = candidate_at-lanes even odd branch_metrics pair has k lt in
-              omega (arith, ints, high_lane k lt, is.high_states_bit_0_differences k lt, is.high_states_bit_1_sums k lt)));
+          subtract_lanes = record {
+            count = refl;
+            lower_bound = λ s lt. rw (lead_at s lt) (fit _ (lane_of_state-inside s lt)).0;
+            upper_bound = λ s lt. rw (lead_at s lt) (fit _ (lane_of_state-inside s lt)).1;
+          };
+          each = λ pair has s lt. omega (
+            arith,
+            ints,
+            lead_at s lt,
+            lanewise_of_two ◌-ℤ◌ 8 8 _ _ low _ _ high low_lane high_lane (lane_of_state s) (lane_of_state-inside s lt),
+            zeros-are even odd branch_metrics pair has candidates is s lt,
+            ones-are even odd branch_metrics pair has candidates is s lt,
+          );
         })
 
 -- ## Followed: The decisions of the sixteen states, in one vector of lanes, select the entries of the extended survivor map.
 
-small : (x : ℤ) → (x ≡ negsuc 0) ⊎ (x ≡ pos 0) → FitsSigned w8 x
-small x h = grind arith
-
-lane_decision-sign : (x : ℤ) → (x ≡ negsuc 0) ⊎ (x ≡ pos 0) → (if int_lt x (pos 0) then 1 else 0) ≡ lane_decision x
-lane_decision-sign x (inl is) = rw is refl
-lane_decision-sign x (inr is) = rw is refl
-
 abbrev pub none : List ℤ
 none = replicate 16 (pos 0)
 
-zero_lanes-at : (k : ℕ) → k < 16 → lane none k ≡ pos 0
-zero_lanes-at = same_below _ _ refl
-
-pub AreInt8-splat : (x : ℤ) → FitsSigned w8 x → AreInt8 (replicate 16 x)
-AreInt8-splat x fits = record { count = refl; fits = λ k lt. rw (same_below (lane (replicate 16 x)) (λ _. x) refl k lt) fits }
-
-lane_of_state-low : (k : ℕ) → k < 8 → lane_of_state (three_bits_reversed k) ≡ k
-lane_of_state-low = same_below _ _ refl
-
-lane_of_state-high : (k : ℕ) → k < 8 → lane_of_state (8 + three_bits_reversed k) ≡ 8 + k
-lane_of_state-high = same_below _ _ refl
+AreDecisionLanes-signed : (a : List ℤ) → AreDecisionLanes a → AreSigned w8 8 a
+AreDecisionLanes-signed a = AreSigned-between w8 (omega (arith, ints)) (omega (arith, ints))
 
 module _ (low high : List ℤ) (hl : AreDecisionLanes low) (hh : AreDecisionLanes high) where
-  abbrev at : ℕ → ℤ
-  at k = cast_signed w8 (get_or (map (cast_unsigned w8) low ++ map (cast_unsigned w8) high) k 0)
+  abbrev indexes : List ℕ
+  indexes = 0 ∷ 1 ∷ 2 ∷ 3 ∷ 4 ∷ 5 ∷ 6 ∷ 7 ∷ 8 ∷ 9 ∷ 10 ∷ 11 ∷ 12 ∷ 13 ∷ 14 ∷ 15 ∷ []
 
   abbrev pub joined : List ℤ
-  joined = at 0 ∷ at 1 ∷ at 2 ∷ at 3 ∷ at 4 ∷ at 5 ∷ at 6 ∷ at 7 ∷ at 8 ∷ at 9 ∷ at 10 ∷ at 11 ∷ at 12 ∷ at 13
-      ∷ at 14 ∷ at 15 ∷ []
+  joined = map (taken w8 low high) indexes
 
-  joined_at : (k : ℕ) → k < 16 → lane joined k ≡ lane (low ++ high) k
+  joined_at : (k : ℕ) → k < 16 → lane joined k ≡ lane_of_two 8 low high k
   joined_at k lt =
-      same_below (lane joined) at refl k lt
-      ∙ at_is w8 refl low high (λ k lt. small _ (hl.each_lane k (omega (arith, hl.count)))) (λ k lt. small _ (hh.each_lane k (omega (
-        arith,
-        hh.count,
-      )))) k
+      ap (λ l. lane l k) (shuffled w8 refl 8 8 low high (AreDecisionLanes-signed low hl) (AreDecisionLanes-signed high hh) indexes)
+      ∙ same_below (lane (map (lane_of_two 8 low high) indexes)) (lane_of_two 8 low high) refl k lt
 
-  low_at : (k : ℕ) → k < 8 → lane joined k ≡ lane low k
-  low_at k lt = joined_at k (omega arith) ∙ get_or_append_left low high (pos 0) k (omega (arith, hl.count))
-
-  high_at : (k : ℕ) → k < 8 → lane joined (8 + k) ≡ lane high k
-  high_at k lt =
-      joined_at _ (omega arith) ∙ ap (λ n. lane (low ++ high) (n + k)) (sym hl.count) ∙ get_or-append-add low high k (pos 0)
+  decision_at : (k : ℕ) → k < 16 → (negsuc 0 ≤ℤ lane_of_two 8 low high k) × (lane_of_two 8 low high k ≤ℤ pos 0)
+  decision_at = between_of_two hl hh
 
   pub AreInt8-joined : AreInt8 joined
-  AreInt8-joined = record {
-    count = refl;
-    fits = halves _ (λ k lt. rw (low_at k lt) (small _ (hl.each_lane k lt))) (λ k lt. rw (high_at k lt) (small _ (hh.each_lane k lt)));
-  }
+  AreInt8-joined = record { count = refl; fits = λ k lt. rw (joined_at k lt) (omega (arith, ints, decision_at k lt)) }
 
   pub joined-decision : (s : ℕ) → s < 16 → (if int_lt (lane joined (lane_of_state s)) (lane none (lane_of_state s)) then 1 else 0)
       ≡ get_or (lane_decisions low high) s 0
-  joined-decision = each_state _
-      (λ k lt. rw (lane_of_state-low k lt, low_at k lt, zero_lanes-at k (omega arith), low_choice low high k lt)
-      (lane_decision-sign _ (hl.each_lane k lt)))
-      (λ k lt. rw (lane_of_state-high k lt, high_at k lt, zero_lanes-at (8 + k) (omega arith), high_choice low high k lt)
-      (lane_decision-sign _ (hh.each_lane k lt)))
+  joined-decision s lt =
+      rw (
+        joined_at _ (lane_of_state-inside s lt),
+        same_below (lane none) (λ k. pos 0) refl _ (lane_of_state-inside s lt),
+        in_state_order-at (λ k. lane_decision (lane_of_two 8 low high k)) 0 s lt,
+      ) (sign _ (decision_at _ (lane_of_state-inside s lt)))
+    where
+      sign : (x : ℤ) → (negsuc 0 ≤ℤ x) × (x ≤ℤ pos 0) → (if int_lt x (pos 0) then 1 else 0) ≡ lane_decision x
+      sign x within = grind (arith, ints)
 
 -- ## HardSteps: One Viterbi step (add, compare, select) for hard bits, in sixteen 8-bit lanes. The branch metrics are a table indexed by
 -- the signs of the two soft bits, which is checked by computation.
 
 -- ---- lemmas about states and their lanes
-
-pub hard_metrics-lane : (lanes : List ℤ) (s : ℕ) → s < 16 →
-    lane (hard_lane_metrics lanes) s ≡ metric_of_hard_lane (lane lanes (lane_of_state s))
-hard_metrics-lane lanes = same_below _ _ refl
 
 next_state_0-lane : (s : ℕ) → s < 16 → lane_after_bit_0 (lane_of_state s) ≡ lane_of_state (next_trellis_state s 0)
 next_state_0-lane = same_below _ _ refl
@@ -439,20 +459,14 @@ next_state_0-lane = same_below _ _ refl
 next_state_1-lane : (s : ℕ) → s < 16 → lane_after_bit_1 (lane_of_state s) ≡ lane_of_state (next_trellis_state s 1)
 next_state_1-lane = same_below _ _ refl
 
-pub inside : (s : ℕ) → s < 16 → lane_of_state s < 16
-inside s lt = omega arith
+metric_of_hard_lane-order : (x y : ℤ) → int_lt (metric_of_hard_lane x) (metric_of_hard_lane y) ≡ int_lt x y
+metric_of_hard_lane-order x y = grind (arith, ints)
+
+pub hard_metric-at : (lanes : List ℤ) (s : ℕ) → s < 16 →
+    lane (hard_lane_metrics lanes) s ≡ metric_of_hard_lane (lane lanes (lane_of_state s))
+hard_metric-at lanes = in_state_order-at (λ k. metric_of_hard_lane (lane lanes k)) (pos 0)
 
 -- ---- lemmas about the candidate metrics of bit 0 and of bit 1
-
-IsDecision-hard_lane : (after pair : List ℤ) (s : ℕ) (z o value : ℤ) → metric_of_hard_lane z ≡ candidate_metric after pair s 0 →
-    metric_of_hard_lane o ≡ candidate_metric after pair s 1 →
-    value ≡ (if int_lt z o then o else z) → IsDecision after pair s (metric_of_hard_lane value) (if int_lt z o then 1 else 0)
-IsDecision-hard_lane after pair s z o value zero_is one_is is =
-    rw is (by _ refl)
-  where
-    by : (t : Bool) → int_lt z o ≡ t → IsDecision after pair s (metric_of_hard_lane (if t then o else z)) (if t then 1 else 0)
-    by true e = inr (refl, one_is, omega (arith, ints))
-    by false e = inl (refl, zero_is, omega (arith, ints))
 
 module _ (after branch_metrics pair : List ℤ) (has : HasHardBranchMetrics branch_metrics pair) where
   pub bit_0_candidate-metric : (candidates : List ℤ) → ((k : ℕ) → k < 16 →
@@ -461,8 +475,9 @@ module _ (after branch_metrics pair : List ℤ) (has : HasHardBranchMetrics bran
       candidate_metric (hard_lane_metrics after) pair s 0
   unfolding candidate_metric
   bit_0_candidate-metric candidates are s lt =
-      let is = are _ (inside s lt) ∙ ap (λ k. lane after k +ℤ lane branch_metrics (lane_of_state s)) (next_state_0-lane s lt) in
-      omega (arith, ints, hard_metrics-lane after (next_trellis_state s 0) (omega arith), has.at_state s lt)
+      let is = are _ (lane_of_state-inside s lt)
+      ∙ ap (λ k. lane after k +ℤ lane branch_metrics (lane_of_state s)) (next_state_0-lane s lt) in
+      omega (arith, ints, hard_metric-at after (next_trellis_state s 0) (omega arith), has.at_state s lt)
 
   one_candidate : (candidates : List ℤ) → ((k : ℕ) → k < 16 →
       lane candidates k ≡ lane after (lane_after_bit_1 k) -ℤ lane branch_metrics k) →
@@ -470,11 +485,12 @@ module _ (after branch_metrics pair : List ℤ) (has : HasHardBranchMetrics bran
       candidate_metric (hard_lane_metrics after) pair s 1
   unfolding candidate_metric
   one_candidate candidates are s lt =
-      let is = are _ (inside s lt) ∙ ap (λ k. lane after k -ℤ lane branch_metrics (lane_of_state s)) (next_state_1-lane s lt) in
+      let is = are _ (lane_of_state-inside s lt)
+      ∙ ap (λ k. lane after k -ℤ lane branch_metrics (lane_of_state s)) (next_state_1-lane s lt) in
       omega (
         arith,
         ints,
-        hard_metrics-lane after (next_trellis_state s 1) (omega arith),
+        hard_metric-at after (next_trellis_state s 1) (omega arith),
         has.at_state s lt,
         branch_metric-one pair
             has.count s,
@@ -487,9 +503,9 @@ module _ (after branch_metrics pair : List ℤ) (has : HasHardBranchMetrics bran
       (s : ℕ) → s < 16 → IsDecision (hard_lane_metrics after) pair s (lane (hard_lane_metrics values) s)
       (if int_lt (lane zeros (lane_of_state s)) (lane ones (lane_of_state s)) then 1 else 0)
   IsDecision-hard zeros ones values zeros-candidates ones-candidates better s lt =
-      rw (hard_metrics-lane values s lt) (IsDecision-hard_lane _ pair s (lane zeros (lane_of_state s)) (lane ones (lane_of_state s)) _
-      (bit_0_candidate-metric zeros zeros-candidates s lt) (one_candidate ones ones-candidates s lt)
-      (better _ (inside s lt)))
+      rw (hard_metric-at values s lt) (IsDecision-lanes metric_of_hard_lane metric_of_hard_lane-order (hard_lane_metrics after) pair
+      (lane zeros) (lane ones) (lane values) (bit_0_candidate-metric zeros zeros-candidates)
+      (one_candidate ones ones-candidates) better s lt)
 
 pub next_lane-state : (s : ℕ) → s < 16 → (t : Bool) →
     (if t then lane_after_bit_1 (lane_of_state s) else lane_after_bit_0 (lane_of_state s))
@@ -503,8 +519,8 @@ pub HaveHeadroom8-within : (lanes : List ℤ) (most : ℕ) → most ≤ 60000 �
     AreMetricsWithin most (hard_lane_metrics lanes) → HaveHeadroom8 lanes
 HaveHeadroom8-within lanes most few count within = record {
   count = count;
-  lower_bound = λ k lt. omega (arith, ints, metric_at k lt, within.lower_bound _ (inside k lt));
-  upper_bound = λ k lt. omega (arith, ints, metric_at k lt, within.upper_bound _ (inside k lt));
+  lower_bound = λ k lt. omega (arith, ints, metric_at k lt, within.lower_bound _ (lane_of_state-inside k lt));
+  upper_bound = λ k lt. omega (arith, ints, metric_at k lt, within.upper_bound _ (lane_of_state-inside k lt));
 } where
   metric_at : (k : ℕ) → k < 16 → lane (hard_lane_metrics lanes) (lane_of_state k) ≡ metric_of_hard_lane (lane lanes k)
   metric_at = same_below _ _ refl

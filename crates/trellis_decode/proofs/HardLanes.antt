@@ -1,123 +1,84 @@
--- What the SIMD operations on sixteen 8-bit lanes do in each lane. The operations themselves are defined on unsigned lanes.
+-- What the operations of a step in sixteen 8-bit lanes do in each lane, beyond those that `lanes` states for any width.
 use Rattle.{
   std.{
     proofs.{
       Common.{◌≡◌, ℕ, ◌+◌, ◌-◌, ◌%◌, ◌<◌, Bool, false, true, if◌then◌else◌, ℤ, pos, ◌+ℤ◌},
-      Common.{◌≤ℤ◌, replicate},
-      Common.{◌-ℤ◌, List, [], ◌∷◌, ◌++◌, map, length, get_or, refl, ap, ap₂, sym, ◌∙◌, arith, int_lt, w8},
-      Common.FitsSigned,
-      lemmas.{Int.{ints, wrapping_add_is, wrapping_sub_is, int_wrap_fits}, List.{length-map, get_or-map, get_or_append_left}},
-      lemmas.Simd.{length-sel_l, get_or-sel_l},
+      Common.{◌≤ℤ◌, replicate, ◌-ℤ◌, List, [], ◌∷◌, ◌++◌, map, length, get_or, refl, ap, ap₂, sym, ◌∙◌},
+      Common.{arith, int_lt, w8, FitsSigned},
+      lemmas.{Int.ints, List.{get_or_append_left, length-map}, Simd.{length-sel_l, get_or-sel_l}},
     },
-    specs.Int.{cast_signed, cast_unsigned},
+    specs.Int.cast_signed,
   },
-  trellis_decode.{
-    specs.{
-      Lanes.lane,
-      Hard.{AreInt8, DifferByAtMost, HaveMagnitudeAtMostOne, HaveHeadroom8, lane_after_bit_1, lane_after_bit_0},
-    },
-    proofs.{
-      AcsSteps.same_below,
-      AcsVectors.{FitEach, Lanewise, Lanewise-by_lane, compared, if_either, if_map, lanewise-at, length-lanewise, tested},
-    },
+  lanes.{
+    specs.Lanes.{DifferencesFit, lane, lane_of_two},
+    proofs.Lanes.{bits_of, differences, if_either, if_map, length-less_lanes, less_lanes, less_lanes-at, same_below, shuffled_bits, sums},
   },
+  trellis_decode.specs.Hard.{AreInt8, DifferByAtMost, HaveMagnitudeAtMostOne, HaveHeadroom8, lane_after_bit_1, lane_after_bit_0},
 }
-use lib.Lanes.{zip2, sel_l, top}
-
-abbrev bits : List ℤ → List ℕ
-bits = map (cast_unsigned w8)
-
-abbrev sum : ℕ → ℕ → ℕ
-sum x y = (x + y) % 256
-
-abbrev difference : ℕ → ℕ → ℕ
-difference x y = (x + (256 - y)) % 256
+use lib.Lanes.{pick_l, sel_l, zip2}
 
 -- ---- lemmas about the candidate metrics of bit 0 and of bit 1
 
--- a vector permuted so that the lane of each state holds the lane of its next state, after bit 0 (`next_zero`) or bit 1 (`next_one`)
-abbrev pub next_zero : List ℕ → List ℕ
-next_zero xs =
-    get_or xs 0 0 ∷ get_or xs 8 0 ∷ get_or xs 1 0 ∷ get_or xs 9 0 ∷ get_or xs 2 0 ∷ get_or xs 10 0 ∷ get_or xs 3 0
-    ∷ get_or xs 11 0 ∷
-    get_or xs 0 0 ∷ get_or xs 8 0 ∷ get_or xs 1 0 ∷ get_or xs 9 0 ∷ get_or xs 2 0 ∷ get_or xs 10 0 ∷ get_or xs 3 0
-    ∷ get_or xs 11 0 ∷ []
+-- the lane of the next state of the state in each lane, after bit 0 and after bit 1
+abbrev pub lanes_after_bit_0 : List ℕ
+lanes_after_bit_0 = 0 ∷ 8 ∷ 1 ∷ 9 ∷ 2 ∷ 10 ∷ 3 ∷ 11 ∷ 0 ∷ 8 ∷ 1 ∷ 9 ∷ 2 ∷ 10 ∷ 3 ∷ 11 ∷ []
 
-abbrev pub next_one : List ℕ → List ℕ
-next_one xs =
-    get_or xs 4 0 ∷ get_or xs 12 0 ∷ get_or xs 5 0 ∷ get_or xs 13 0 ∷ get_or xs 6 0 ∷ get_or xs 14 0 ∷ get_or xs 7 0
-    ∷ get_or xs 15 0 ∷
-    get_or xs 4 0 ∷ get_or xs 12 0 ∷ get_or xs 5 0 ∷ get_or xs 13 0 ∷ get_or xs 6 0 ∷ get_or xs 14 0 ∷ get_or xs 7 0
-    ∷ get_or xs 15 0 ∷ []
-
-next_zero-at : (xs : List ℕ) (k : ℕ) → k < 16 → get_or (next_zero xs) k 0 ≡ get_or xs (lane_after_bit_0 k) 0
-next_zero-at xs = same_below _ _ refl
-
-next_one-at : (xs : List ℕ) (k : ℕ) → k < 16 → get_or (next_one xs) k 0 ≡ get_or xs (lane_after_bit_1 k) 0
-next_one-at xs = same_below _ _ refl
+abbrev pub lanes_after_bit_1 : List ℕ
+lanes_after_bit_1 = 4 ∷ 12 ∷ 5 ∷ 13 ∷ 6 ∷ 14 ∷ 7 ∷ 15 ∷ 4 ∷ 12 ∷ 5 ∷ 13 ∷ 6 ∷ 14 ∷ 7 ∷ 15 ∷ []
 
 module _ (a branch_metrics : List ℤ) (ha : HaveHeadroom8 a) (he : HaveMagnitudeAtMostOne branch_metrics) where
-  abbrev twice : List ℕ
-  twice = bits a ++ bits a
+  signed : AreInt8 a
+  signed = grind (arith, ints)
 
-  candidates : (f : ℕ → ℕ → ℕ) (h : ℤ → ℤ → ℤ) (xs : List ℕ) (place : ℕ → ℕ) → length xs ≡ 16 →
-      ((k : ℕ) → k < 16 → get_or xs k 0 ≡ get_or twice (place k) 0) → ((k : ℕ) → k < 16 → place k < 16) →
-      ((x y : ℤ) → FitsSigned w8 x → FitsSigned w8 y → FitsSigned w8 (h x y) →
-      cast_signed w8 (f (cast_unsigned w8 x) (cast_unsigned w8 y)) ≡ h x y) →
-      ((i k : ℕ) → i < 16 → k < 16 → FitsSigned w8 (h (lane a i) (lane branch_metrics k))) →
-      ((k : ℕ) → k < 16 → lane (map (cast_signed w8) (zip2 f xs (bits branch_metrics))) k ≡ h (lane a (place k))
-      (lane branch_metrics k))
-      × AreInt8 (map (cast_signed w8) (zip2 f xs (bits branch_metrics)))
-  candidates f h xs place long at inside is fit =
-      let fits_a : FitEach w8 16 a = grind (arith, ints) in
-      let fits_e : FitEach w8 16 branch_metrics = grind (arith, ints) in
-      let count : length (bits branch_metrics) ≡ 16 = length-map _ _ ∙ he.count in
-      let each : (k : ℕ) → k < 16 → lane (map (cast_signed w8) (zip2 f xs (bits branch_metrics))) k ≡
-      h (lane a (place k)) (lane branch_metrics k) = λ k lt.
-      lanewise-at (λ _ xs ys. map (cast_signed w8) (zip2 f xs ys)) _ refl (λ n x y xs ys. refl) 16 xs (bits branch_metrics) long count k
-      lt
-      0 0 (pos 0)
-      ∙ ap₂ (λ x y. cast_signed w8 (f x y)) (at k lt ∙ twice_at _ (inside k lt)) (metric_at k lt)
-      ∙ is _ _ (fits_a _ (inside k lt)) (fits_e k lt) (fit _ k (inside k lt) lt) in (
-        each,
-        record {
-          count = length-lanewise (λ _ xs ys. map (cast_signed w8) (zip2 f xs ys)) _ refl (λ n x y xs ys. refl) 16 xs
-              (bits branch_metrics)
-              long count;
-          fits = λ k lt. rw (each k lt) (fit _ k (inside k lt) lt);
-        },
-      )
-    where
-      twice_at : (i : ℕ) → i < 16 → get_or twice i 0 ≡ cast_unsigned w8 (lane a i)
-      twice_at i lt =
-          get_or_append_left (bits a) (bits a) 0 i (omega (arith, length-map a (cast_unsigned w8), ha.count))
-          ∙ get_or-map (cast_unsigned w8) a i (pos 0) 0 (omega (arith, ha.count))
+  -- the lanes of the next states
+  abbrev next : List ℕ → List ℤ
+  next order = map (lane_of_two 16 a a) order
 
-      metric_at : (k : ℕ) → k < 16 → get_or (bits branch_metrics) k 0 ≡ cast_unsigned w8 (lane branch_metrics k)
-      metric_at k lt = get_or-map (cast_unsigned w8) branch_metrics k (pos 0) 0 (omega (arith, he.count))
+  next_signed : (order : List ℕ) (place : ℕ → ℕ) → length order ≡ 16 → ((k : ℕ) → k < 16 →
+      lane (next order) k ≡ lane a (place k)) →
+      ((k : ℕ) → k < 16 → place k < 16) → AreInt8 (next order)
+  next_signed order place count at inside =
+      record { count = length-map order _ ∙ count; fits = λ k lt. rw (at k lt) (signed.fits _ (inside k lt)) }
 
-  pub zeros-candidates : ((k : ℕ) → k < 16 → lane (map (cast_signed w8) (zip2 sum (next_zero twice) (bits branch_metrics))) k ≡
-      lane a (lane_after_bit_0 k) +ℤ lane branch_metrics k)
-      × AreInt8 (map (cast_signed w8) (zip2 sum (next_zero twice) (bits branch_metrics)))
-  zeros-candidates =
-      candidates sum ◌+ℤ◌ (next_zero twice) lane_after_bit_0 refl (next_zero-at _) (λ k lt. omega arith)
-      (λ x y hx hy h. wrapping_add_is w8 x y hx hy ∙ int_wrap_fits w8 _ h)
-      (λ i k li lk. omega (arith, ints, ha.lower_bound i, ha.upper_bound i, he.lower_bound k, he.upper_bound k))
+  moved_0 : (k : ℕ) → k < 16 → lane (next lanes_after_bit_0) k ≡ lane a (lane_after_bit_0 k)
+  moved_0 = same_below _ _ refl
 
-  pub ones-candidates : ((k : ℕ) → k < 16 → lane (map (cast_signed w8) (zip2 difference (next_one twice) (bits branch_metrics))) k ≡
-      lane a (lane_after_bit_1 k) -ℤ lane branch_metrics k)
-      × AreInt8 (map (cast_signed w8) (zip2 difference (next_one twice) (bits branch_metrics)))
-  ones-candidates =
-      candidates difference ◌-ℤ◌ (next_one twice) lane_after_bit_1 refl (next_one-at _) (λ k lt. omega arith)
-      (λ x y hx hy h. wrapping_sub_is w8 x y hx hy ∙ int_wrap_fits w8 _ h)
-      (λ i k li lk. omega (arith, ints, ha.lower_bound i, ha.upper_bound i, he.lower_bound k, he.upper_bound k))
+  moved_1 : (k : ℕ) → k < 16 → lane (next lanes_after_bit_1) k ≡ lane a (lane_after_bit_1 k)
+  moved_1 = same_below _ _ refl
 
-pub Lanewise-hard_differences : (a b : List ℤ) → AreInt8 a → AreInt8 b →
-    ((k : ℕ) → k < 16 → FitsSigned w8 (lane a k -ℤ lane b k)) →
-    Lanewise w8 16 ◌-ℤ◌ a b (map (cast_signed w8) (zip2 difference (bits a) (bits b)))
-Lanewise-hard_differences a b ha hb fit =
-    Lanewise-by_lane w8 16 (λ _ xs ys. map (cast_signed w8) (zip2 difference (bits xs) (bits ys))) _ ◌-ℤ◌ refl (λ n x y xs ys. refl)
-    (λ x y hx hy h. wrapping_sub_is w8 x y hx hy ∙ int_wrap_fits w8 _ h) a b ha.count hb.count ha.fits hb.fits fit
+  pub candidates_of_bit_0 : let is = map (cast_signed w8) (zip2 (λ x y. (x + y) % 256)
+      (pick_l 0 (bits_of w8 a ++ bits_of w8 a) lanes_after_bit_0) (bits_of w8 branch_metrics)) in
+      ((k : ℕ) → k < 16 → lane is k ≡ lane a (lane_after_bit_0 k) +ℤ lane branch_metrics k) × AreInt8 is
+  candidates_of_bit_0 =
+      rw (shuffled_bits w8 refl 16 16 a a signed signed lanes_after_bit_0)
+      (let is = sums w8 16 (next lanes_after_bit_0) branch_metrics
+      (next_signed lanes_after_bit_0 lane_after_bit_0 refl moved_0 (λ k lt. omega arith)) (grind (arith, ints))
+      (λ k lt. rw (moved_0 k lt) (omega (
+        arith,
+        ints,
+        ha.lower_bound (lane_after_bit_0 k),
+        ha.upper_bound (lane_after_bit_0 k),
+        he.lower_bound k,
+        he.upper_bound k,
+      ))) in
+      (λ k lt. is.0 k lt ∙ ap (λ x. x +ℤ lane branch_metrics k) (moved_0 k lt), is.1))
+
+  pub candidates_of_bit_1 : let is = map (cast_signed w8) (zip2 (λ x y. (x + (256 - y)) % 256)
+      (pick_l 0 (bits_of w8 a ++ bits_of w8 a) lanes_after_bit_1) (bits_of w8 branch_metrics)) in
+      ((k : ℕ) → k < 16 → lane is k ≡ lane a (lane_after_bit_1 k) -ℤ lane branch_metrics k) × AreInt8 is
+  candidates_of_bit_1 =
+      rw (shuffled_bits w8 refl 16 16 a a signed signed lanes_after_bit_1)
+      (let is = differences w8 16 (next lanes_after_bit_1) branch_metrics
+      (next_signed lanes_after_bit_1 lane_after_bit_1 refl moved_1 (λ k lt. omega arith)) (grind (arith, ints))
+      (λ k lt. rw (moved_1 k lt) (omega (
+        arith,
+        ints,
+        ha.lower_bound (lane_after_bit_1 k),
+        ha.upper_bound (lane_after_bit_1 k),
+        he.lower_bound k,
+        he.upper_bound k,
+      ))) in
+      (λ k lt. is.0 k lt ∙ ap (λ x. x -ℤ lane branch_metrics k) (moved_1 k lt), is.1))
 
 -- ---- lemmas about what the candidate metric z of bit 0 lacks to the greater one, v, of z and that of bit 1, o
 
@@ -145,7 +106,7 @@ module _ (a branch_metrics zeros ones values : List ℤ) (he : HaveMagnitudeAtMo
     (zero_is : (k : ℕ) → k < 16 → lane zeros k ≡ lane a (lane_after_bit_0 k) +ℤ lane branch_metrics k)
     (one_is : (k : ℕ) → k < 16 → lane ones k ≡ lane a (lane_after_bit_1 k) -ℤ lane branch_metrics k)
     (best : (k : ℕ) → k < 16 → lane values k ≡ (if int_lt (lane zeros k) (lane ones k) then lane ones k else lane zeros k)) where
-  pub loss-fits : DifferByAtMost 100 a → (k : ℕ) → k < 16 → FitsSigned w8 (lane zeros k -ℤ lane values k)
+  pub loss-fits : DifferByAtMost 100 a → DifferencesFit w8 16 zeros values
   loss-fits near k lt =
       loss_fits _ _ _ (best k lt) (omega (
         arith,
@@ -190,43 +151,28 @@ module _ (a branch_metrics zeros ones values : List ℤ) (he : HaveMagnitudeAtMo
 
 -- ---- lemmas about the survivor map of the greater candidate metrics
 
--- for each lane, whether the candidate metric of bit 1 is the greater
-abbrev tests : ℕ → List ℤ → List ℤ → List Bool
-tests n zeros ones = map (top 7) (zip2 (compared w8) (bits zeros) (bits ones))
-
 module _ (zeros ones : List ℤ) (hz : AreInt8 zeros) (ho : AreInt8 ones) where
-  abbrev less : ℕ → Bool
-  less k = int_lt (lane zeros k) (lane ones k)
-
-  -- the lanes of xs where the candidate metric of bit 1 is the greater, else those of ys
-  abbrev choice : List ℕ → List ℕ → List ℕ
-  choice = sel_l (tests 16 zeros ones)
-
-  length-tests : length (tests 16 zeros ones) ≡ 16
-  length-tests = length-lanewise tests _ refl (λ n x y xs ys. refl) 16 zeros ones hz.count ho.count
-
-  picked : (xs ys : List ℕ) → length xs ≡ 16 → length ys ≡ 16 → (k : ℕ) → k < 16 → get_or (choice xs ys) k 0
-      ≡ (if less k then get_or xs k 0 else get_or ys k 0)
-  picked xs ys ex ey k lt =
-      get_or-sel_l _ xs ys k 0 (omega (arith, length-tests)) (omega arith) (omega arith)
-      ∙ ap (λ t. if t then get_or xs k 0 else get_or ys k 0)
-      (lanewise-at tests _ refl (λ n x y xs ys. refl) 16 zeros ones hz.count ho.count k lt (pos 0) (pos 0) false
-      ∙ tested w8 _ _ (hz.fits k lt) (ho.fits k lt))
-
-  length-picked : (xs ys : List ℕ) → length xs ≡ 16 → length ys ≡ 16 → length (choice xs ys) ≡ 16
-  length-picked xs ys ex ey = length-sel_l _ xs ys (length-tests ∙ sym ex) (length-tests ∙ sym ey) ∙ length-tests
-
   -- a survivor map with one more bit at the front, computed by two fixed swizzles
   abbrev selected : List ℕ → List ℕ
-  selected xs = choice (next_one (xs ++ xs)) (next_zero (xs ++ xs))
+  selected map = sel_l (less_lanes w8 16 zeros ones) (pick_l 0 (map ++ map) lanes_after_bit_1) (pick_l 0 (map ++ map) lanes_after_bit_0)
 
-  pub lane-selected : (xs : List ℕ) → length xs ≡ 16 → (k : ℕ) → k < 16 →
-      get_or (selected xs) k 0 ≡ get_or xs (if less k then lane_after_bit_1 k else lane_after_bit_0 k) 0
-  lane-selected xs counted k lt =
-      picked _ _ refl refl k lt
-      ∙ ap₂ (λ x y. if less k then x else y) (next_one-at _ k lt ∙ get_or_append_left xs xs 0 _ (omega arith))
-      (next_zero-at _ k lt ∙ get_or_append_left xs xs 0 _ (omega arith))
-      ∙ sym (if_map (λ p. get_or xs p 0) (less k) refl refl)
+  long : length (less_lanes w8 16 zeros ones) ≡ 16
+  long = length-less_lanes w8 16 zeros ones hz ho
 
-  pub length-selected : (xs : List ℕ) → length (selected xs) ≡ 16
-  length-selected xs = length-picked _ _ refl refl
+  pub selected-at : (map : List ℕ) → length map ≡ 16 → (k : ℕ) → k < 16 → get_or (selected map) k 0
+      ≡ get_or map (if int_lt (lane zeros k) (lane ones k) then lane_after_bit_1 k else lane_after_bit_0 k) 0
+  selected-at map counted k lt =
+      let twice = map ++ map in
+      get_or-sel_l _ (pick_l 0 twice lanes_after_bit_1) (pick_l 0 twice lanes_after_bit_0) k 0 (omega (arith, long)) lt lt
+      ∙ ap (λ t. if t then get_or (pick_l 0 twice lanes_after_bit_1) k 0 else get_or (pick_l 0 twice lanes_after_bit_0) k 0)
+      (less_lanes-at w8 16 zeros ones hz ho k lt)
+      ∙ ap₂ (λ x y. if int_lt (lane zeros k) (lane ones k) then x else y)
+      (same_below (λ k. get_or (pick_l 0 twice lanes_after_bit_1) k 0) (λ k. get_or twice (lane_after_bit_1 k) 0) refl k lt
+      ∙ get_or_append_left map map 0 _ (omega arith))
+      (same_below (λ k. get_or (pick_l 0 twice lanes_after_bit_0) k 0) (λ k. get_or twice (lane_after_bit_0 k) 0) refl k lt
+      ∙ get_or_append_left map map 0 _ (omega arith))
+      ∙ sym (if_map (λ p. get_or map p 0) (int_lt (lane zeros k) (lane ones k)) refl refl)
+
+  pub length-selected : (map : List ℕ) → length (selected map) ≡ 16
+  length-selected map = length-sel_l _ (pick_l 0 (map ++ map) lanes_after_bit_1) (pick_l 0 (map ++ map) lanes_after_bit_0) long long
+      ∙ long

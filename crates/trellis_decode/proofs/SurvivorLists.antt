@@ -4,7 +4,7 @@ use Rattle.{
     proofs.{
       lemmas.{Bool.cases_lt, Grind.get_or-set_at, List.{get_or-replicate, get_or-set_other, length-set, Elements.{All-append, All-cons}}},
       lemmas.List.{Elements.{All-drop, All-nil, All-tail, All-take}, drop-drop, drop-set, length-append, length-drop, length-replicate},
-      lemmas.{List.{length-take, take-append-drop}, Int.ints},
+      lemmas.{List.{drop_all, length-take, take-append-drop}, Int.ints},
       Common.{List, [], append_assoc, ap, ap₂, arith, drop, get_or, inl, inr, length, lit≤, negsuc, pos, refl, replicate, subst, suc},
       Common.{sym, take, zero, ℕ, ℤ, ◌%◌, ◌*◌, ◌++◌, ◌+ℤ◌, ◌+◌, ◌-ℤ◌, ◌-◌, ◌/◌, ◌<◌, ◌^◌},
       Common.{◌∙◌, ◌∷◌, ◌≡◌, ◌≤ℤ◌, ◌≤◌},
@@ -13,10 +13,12 @@ use Rattle.{
     specs.List.All,
   },
   conv_code.specs.bit_blocks.Bits.{AllBits, IsBit},
+  lanes.proofs.Lanes.{each, same_below},
   trellis_decode.{
-    proofs.{AcsSteps.{each, even_metric, IsDecision-lower_bound, odd_metric, same_below}, Viterbi.AllBits-encoding_from_state},
-    proofs.Viterbi.{lex_not_after-refl, IsSurvivor-bit, IsSurvivor-tail_bit, IsSurvivor-more, IsSurvivor-same, candidate-survivor},
-    proofs.Viterbi.{traceback-tail_rows, length-traceback, length-to_binary, likelihood_bound, metric_from_state-cons, traceback-zeros},
+    proofs.AcsSteps.{even_metric, IsDecision-lower_bound, lane_of_state-inside, lane_of_state-twice, odd_metric, pair_and_after, pair_at},
+    proofs.Viterbi.{AllBits-encoding_from_state, IsSurvivor-none, IsSurvivor-to_end, lex_not_after-refl, IsSurvivor-bit},
+    proofs.Viterbi.{IsSurvivor-tail_bit, IsSurvivor-more, IsSurvivor-same, candidate-survivor, traceback-tail_rows, length-traceback},
+    proofs.Viterbi.{length-to_binary, likelihood_bound, metric_from_state-cons, traceback-zeros},
     specs.{
       AcsLanes.{DifferByAtMost4096, HaveHeadroom16, three_bits_reversed, path_metric_of_lane, lane_of_state, metrics_of_lanes},
       Decisions.HasDecisionsAndMetrics,
@@ -156,7 +158,7 @@ AreMetricsWithin-best n values soft lists octets few best = record {
   upper_bound = λ s lt. omega (arith, ints, length-drop n soft, IsSurvivor-bounds s _ _ _ (All-drop IsSignedOctet n _ octets) (best s lt));
 }
 
-pub AreMetricsWithin-most : (n : ℕ) (values soft : List ℤ) (lists : ℕ → List ℕ) → AreSignedOctets soft → length soft ≤ 456
+AreMetricsWithin-most : (n : ℕ) (values soft : List ℤ) (lists : ℕ → List ℕ) → AreSignedOctets soft → length soft ≤ 456
     →
     ((s : ℕ) → s < 16 → negsuc 1023 ≤ℤ lane values s) →
     ((s : ℕ) → s < 16 → IsSurvivor s (lists s) (drop n soft) (lane values s)) → AreMetricsWithin 58368 values
@@ -166,7 +168,7 @@ AreMetricsWithin-most n values soft lists octets few low best = record {
       omega (arith, ints, length-drop n soft, IsSurvivor-bounds s _ _ _ (All-drop IsSignedOctet n _ octets) (best s lt));
 }
 
-pub IsSurvivor-zero_tail : (after values pair soft : List ℤ) (n : ℕ) → length pair ≡ 2 → n < 4 →
+IsSurvivor-zero_tail : (after values pair soft : List ℤ) (n : ℕ) → length pair ≡ 2 → n < 4 →
     ((s : ℕ) → s < 16 → IsSurvivor s (replicate n 0) soft (lane after s)) →
     ((s : ℕ) → s < 16 → lane values s ≡ candidate_metric after pair s 0) →
     (s : ℕ) → s < 16 → IsSurvivor s (replicate (suc n) 0) (pair ++ soft) (lane values s)
@@ -176,9 +178,6 @@ IsSurvivor-zero_tail after values pair soft n two few best candidates s lt =
 
 -- ## MapLists: The bits that traceback reads from survivor maps of four positions each, extended by one map at the front. A state consists
 -- of the four bits that led to it.
-
-lane_of_state-twice : (s : ℕ) → s < 16 → lane_of_state (lane_of_state s) ≡ s
-lane_of_state-twice = same_below _ _ refl
 
 length-survivor_traceback : (survivors : List (List ℕ)) (at : ℕ) →
     length (survivor_traceback survivors at) ≡ 4 * length survivors
@@ -249,7 +248,7 @@ read_last = same_below _ _ refl
 
 -- ---- lemmas about survivor maps, filled from the last to the first
 
-pub last_map : (survivors : List (List ℕ)) (soft values : List ℤ) (last : ℕ) → last + 1 ≡ length survivors →
+last_map : (survivors : List (List ℕ)) (soft values : List ℤ) (last : ℕ) → last + 1 ≡ length survivors →
     ((s : ℕ) → s < 16 → IsSurvivor s (replicate 4 0) soft (lane values s)) → (s : ℕ) → s < 16 →
     IsSurvivor s (survivor_traceback (drop last (set survivors last (replicate 16 0))) (lane_of_state s)) soft
     (lane values s)
@@ -259,7 +258,7 @@ last_map survivors soft values last end best s lt =
     drop-set _ last _ (omega arith) ∙ ap (λ rest. blank ∷ rest) (ap (λ k. drop k survivors) end ∙ drop-length survivors) in
     IsSurvivor-same s (sym (cc (alone, read_last s lt))) refl refl (best s lt)
 
-pub more_survivors : (after values soft : List ℤ) (map : List ℕ) (survivors : List (List ℕ)) (before group : ℕ) →
+more_survivors : (after values soft : List ℤ) (map : List ℕ) (survivors : List (List ℕ)) (before group : ℕ) →
     before + 1 ≡ group → group < length survivors → 8 * group ≤ length soft →
     AreSurvivors after values map (take 8 (drop (8 * before) soft)) →
     ((s : ℕ) → s < 16 → IsSurvivor s (survivor_traceback (drop group survivors) (lane_of_state s)) (drop (8 * group) soft)
@@ -414,9 +413,6 @@ fits_16_bits =
         near_more 0 s t x u _ (omega arith) octets
         (let same : next_trellis_state s x ≡ next_trellis_state t x = omega arith in rw same (omega (arith, ints)))
 
-lane_of_state-inside : (k : ℕ) → k < 16 → lane_of_state k < 16
-lane_of_state-inside k lt = omega arith
-
 survivors_near : (values soft : List ℤ) (paths : ℕ → List ℕ) (count : ℕ) → AreSignedOctets soft →
     length soft ≡ 2 * count → ((s : ℕ) → length (paths s) ≡ count) →
     ((s : ℕ) → s < 16 → IsSurvivor s (paths s) soft (lane values s)) → (s t : ℕ) → s < 16 → t < 16 →
@@ -509,10 +505,7 @@ HasDecisionsAndMetrics-same er el es decided = rw (← er, ← el, ← es) decid
 
 -- ## LanesOfMaps: Every lane of a survivor map holds the number of a lane.
 
-lane_of_state-involution : (k : ℕ) → k < 16 → lane_of_state (lane_of_state k) ≡ k
-lane_of_state-involution = same_below (λ k. lane_of_state (lane_of_state k)) (λ k. k) refl
-
-pub AreSurvivors-map_lanes : (after values : List ℤ) (map : List ℕ) (soft : List ℤ) → AreSurvivors after values map soft →
+AreSurvivors-map_lanes : (after values : List ℤ) (map : List ℕ) (soft : List ℤ) → AreSurvivors after values map soft →
     (k : ℕ) →
     k < 16 → get_or map k 0 < 16
 AreSurvivors-map_lanes after values map soft walk k lt =
@@ -520,10 +513,10 @@ AreSurvivors-map_lanes after values map soft walk k lt =
     let low : lane_of_state k < 16 = lane_of_state-inside k lt in
     let end : state_after_bits s (walk.bits s) < 16 = state_after-inside s (walk.bits s) low in
     let is : get_or map k 0 ≡ lane_of_state (state_after_bits s (walk.bits s)) =
-    ap (λ k. get_or map k 0) (sym (lane_of_state-involution k lt)) ∙ walk.maps_to_end_state s low in
+    ap (λ k. get_or map k 0) (sym (lane_of_state-twice k lt)) ∙ walk.maps_to_end_state s low in
     rw is (lane_of_state-inside _ end)
 
-pub HoldLaneNumbersFromIndex-more : (survivors : List (List ℕ)) (map : List ℕ) (before from : ℕ) → before + 1 ≡ from →
+HoldLaneNumbersFromIndex-more : (survivors : List (List ℕ)) (map : List ℕ) (before from : ℕ) → before + 1 ≡ from →
     before < length survivors → ((k : ℕ) → k < 16 → get_or map k 0 < 16) → HoldLaneNumbersFromIndex from survivors →
     HoldLaneNumbersFromIndex before (set survivors before map)
 HoldLaneNumbersFromIndex-more survivors map before from at within small old group k low member lt = elim (cases_lt before group) [
@@ -532,10 +525,73 @@ HoldLaneNumbersFromIndex-more survivors map before from at within small old grou
   | inr most ↦ rw (get_or-set_at survivors before group map [] (omega arith) within) (small k lt)
 ]
 
-pub HoldLaneNumbersFromIndex-last : (survivors : List (List ℕ)) (last : ℕ) → last + 1 ≡ length survivors →
+HoldLaneNumbersFromIndex-last : (survivors : List (List ℕ)) (last : ℕ) → last + 1 ≡ length survivors →
     HoldLaneNumbersFromIndex last (set survivors last
     (0 ∷ 0 ∷ 0 ∷ 0 ∷ 0 ∷ 0 ∷ 0 ∷ 0 ∷ 0 ∷ 0 ∷ 0 ∷ 0 ∷ 0 ∷ 0 ∷ 0 ∷ 0 ∷ []))
 HoldLaneNumbersFromIndex-last survivors last end =
     let blank : List ℕ = 0 ∷ 0 ∷ 0 ∷ 0 ∷ 0 ∷ 0 ∷ 0 ∷ 0 ∷ 0 ∷ 0 ∷ 0 ∷ 0 ∷ 0 ∷ 0 ∷ 0 ∷ 0 ∷ [] in
     HoldLaneNumbersFromIndex-more survivors blank last (last + 1) refl (omega arith)
     (λ k lt. rw (get_or-replicate {A = ℕ} 16 k 0 0 lt) (omega arith)) (λ group k low member lt. absurd (omega arith))
+
+-- ## Filled: Both decoders fill the survivor maps from the last to the first, starting with the path metrics before the tail.
+
+-- the path metrics from position `k` of the four tail bits on
+abbrev pub AreTailMetrics : (k : ℕ) (soft metrics : List ℤ) → Type 0
+AreTailMetrics k soft metrics = (s : ℕ) → s < 16 → IsSurvivor s (replicate (4 - k) 0) (drop (2 * k) soft) (lane metrics s)
+
+module _ (soft : List ℤ) (eight : length soft ≡ 8) where
+  pub tail-none : (metrics : List ℤ) → ((s : ℕ) → s < 16 → lane metrics s ≡ pos 0) → AreTailMetrics 4 soft metrics
+  tail-none metrics none s lt = IsSurvivor-same s refl (sym (drop_all 8 soft (omega arith))) (sym (none s lt)) (IsSurvivor-none s)
+
+  pub tail-within : (k : ℕ) (metrics : List ℤ) → AreSignedOctets soft → AreTailMetrics k soft metrics →
+      AreMetricsWithin 1024 metrics
+  tail-within k metrics octets = AreMetricsWithin-best (2 * k) metrics soft (λ s. replicate (4 - k) 0) octets (omega arith)
+
+  pub tail-more : (after metrics : List ℤ) (before k : ℕ) → before + 1 ≡ k → k ≤ 4 →
+      ((s : ℕ) → s < 16 → lane metrics s ≡ candidate_metric after (pair_at soft (2 * before)) s 0) →
+      AreTailMetrics k soft after →
+      AreTailMetrics before soft metrics
+  tail-more after metrics before k next few candidates best s lt =
+      let one_more : suc (4 - k) ≡ 4 - before = omega arith in
+      let two : length (pair_at soft (2 * before)) ≡ 2 =
+      omega (arith, length-take 2 (drop (2 * before) soft), length-drop (2 * before) soft) in
+      IsSurvivor-same s (ap (λ n. replicate n 0) one_more) (pair_and_after soft (2 * before) (2 * k) (omega arith)) refl
+      (IsSurvivor-zero_tail after metrics (pair_at soft (2 * before)) (drop (2 * k) soft) (4 - k) two (omega arith) best candidates s lt)
+
+-- traceback through the survivor maps from number `group` on gives the survivors, and `metrics` are the path metrics before these maps
+pub record AreFilled (group : ℕ) (survivors : List (List ℕ)) (soft metrics : List ℤ) : Type 0 where
+  pub best : (s : ℕ) → s < 16 →
+      IsSurvivor s (survivor_traceback (drop group survivors) (lane_of_state s)) (drop (8 * group) soft) (lane metrics s)
+  pub low : (s : ℕ) → s < 16 → negsuc 1023 ≤ℤ lane metrics s
+  pub maps : HoldLaneNumbersFromIndex group survivors
+
+module _ (soft : List ℤ) (octets : AreSignedOctets soft) where
+  pub filled-last : (survivors : List (List ℕ)) (metrics : List ℤ) (last : ℕ) → last + 1 ≡ length survivors →
+      length soft ≡ 8 * length survivors →
+      ((s : ℕ) → s < 16 → IsSurvivor s (replicate 4 0) (take (length soft - 8 * last) (drop (8 * last) soft)) (lane metrics s)) →
+      AreFilled last (set survivors last (replicate 16 0)) soft metrics
+  filled-last survivors metrics last end count tail =
+      let closing = λ (s : ℕ) (lt : s < 16). IsSurvivor-to_end s (8 * last) _ soft _ (tail s lt) in
+      record {
+        best = last_map survivors (drop (8 * last) soft) metrics last end closing;
+        low = (AreMetricsWithin-best (8 * last) metrics soft (λ s. replicate 4 0) octets (omega arith) closing).lower_bound;
+        maps = HoldLaneNumbersFromIndex-last survivors last end;
+      }
+
+  pub filled-more : {after metrics : List ℤ} {map : List ℕ} (survivors : List (List ℕ)) (before group : ℕ) →
+      before + 1 ≡ group →
+      group < length survivors → length soft ≡ 8 * length survivors →
+      AreSurvivors after metrics map (take 8 (drop (8 * before) soft)) →
+      ((s : ℕ) → s < 16 → negsuc 1023 ≤ℤ lane metrics s) → AreFilled group survivors soft after →
+      AreFilled before (set survivors before map) soft metrics
+  filled-more survivors before group next inside count walk low filled = record {
+    best = more_survivors _ _ soft _ survivors before group next inside (omega arith) walk filled.best;
+    low = low;
+    maps = HoldLaneNumbersFromIndex-more survivors _ before group next (omega arith) (AreSurvivors-map_lanes _ _ _ _ walk) filled.maps;
+  }
+
+  pub filled-within : (group : ℕ) (survivors : List (List ℕ)) (metrics : List ℤ) → length soft ≤ 456 →
+      AreFilled group survivors soft metrics → AreMetricsWithin 58368 metrics
+  filled-within group survivors metrics few filled =
+      AreMetricsWithin-most (8 * group) metrics soft (λ s. survivor_traceback (drop group survivors) (lane_of_state s)) octets few
+      filled.low filled.best

@@ -1,40 +1,28 @@
 -- The Viterbi argument and the exhaustive search.
 use Rattle.{
   bit_blocks.proofs.Greatest.{LeadsBelow, leads},
-  conv_code.{
-    proofs.Lemmas.coded_from_start,
-    specs.bit_blocks.Greatest.first_greatest,
-    specs.{Code.{IsEncoderInput, encoding}, Likelihood.{IsLexicographicallyBefore, IsMostLikely, RanksAfter, bit_metric, likelihood}},
-    specs.bit_blocks.Bits.{AllBits, IsBit},
-  },
+  conv_code.{proofs.Lemmas.coded_from_start, specs.{bit_blocks.{Greatest.first_greatest, Bits.{AllBits, IsBit}}, Code.IsEncoderInput}},
+  conv_code.specs.{Code.encoding, Likelihood.{IsLexicographicallyBefore, IsMostLikely, RanksAfter, bit_metric, likelihood}},
   std.{
     proofs.{
-      Common.{Bool, List, [], ap, ap₂, arith, drop, false, get_or, inl, inr, int_lt},
-      Common.{length, pos, refl, replicate, subst, suc, sym, take, true},
+      Common.{List, [], ap, ap₂, arith, drop, false, get_or, inl, inr, int_lt, length, pos, refl, replicate, subst, suc, sym, take, true},
       Common.{zero, ℕ, ℤ, ◌%◌, ◌*◌, ◌++◌, ◌+ℤ◌, ◌+◌, ◌-ℤ◌, ◌-◌, ◌/◌, ◌<ℤ◌, ◌<◌, ◌^◌},
       Common.{◌∙◌, ◌∷◌, ◌≡◌, ◌≢◌, ◌≤ℤ◌, ◌≤◌},
       Math.Nat.{add-mul-div_left, div-div-eq-div-mul, div-eq_of_lt, div-lt_iff_lt-mul, eq-or-lt_of_le, pow-succ', pow-suc, zero-div},
       lemmas.{Bool.{cases_eq, cases_lt}, Int.{by_lt_z, ints}, List.{Elements.{All-cons, All-head, All-nil, All-tail}, length-drop}},
       lemmas.{List.take_all, Nat.{pow-add, pow_pos}},
     },
-    specs.{List.All, Prelude.{if◌then◌else◌}},
+    specs.List.All,
   },
-  trellis_decode.{
-    specs.{Lanes.{AreSignedOctets, IsSignedOctet}, Trellis.{EqualMetricButLater, HasTailBits, IsDecision, IsNoBetterPath}},
-    specs.Trellis.{IsNotLexicographicallyAfter, IsSurvivor, LessMetric, branch_metric, candidate_metric, encoding_from_state},
-    specs.{
-      MostLikely.{most_likely, nth_input},
-      Trellis.{
-        first_coded_bit,
-        metric_from_state,
-        next_trellis_state,
-        second_coded_bit,
-        traceback,
-      },
-    },
-    specs.Words.to_binary,
-    proofs.AcsSteps.each,
+  trellis_decode.specs.{
+    Lanes.{AreSignedOctets, IsSignedOctet},
+    Trellis.{EqualMetricButLater, HasTailBits, IsDecision, IsNoBetterPath, IsNotLexicographicallyAfter, IsSurvivor, LessMetric},
+    Trellis.{branch_metric, candidate_metric, encoding_from_state, first_coded_bit, metric_from_state, next_trellis_state},
+    Trellis.{second_coded_bit, traceback},
+    MostLikely.{most_likely, nth_input},
+    Words.to_binary,
   },
+  lanes.proofs.Lanes.each,
 }
 
 -- ## Likelihoods: How one more soft bit changes the path metric.

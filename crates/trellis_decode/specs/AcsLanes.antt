@@ -1,15 +1,14 @@
 -- The path metrics of the sixteen trellis states, kept in two SIMD vectors of eight 16-bit lanes in bit-reversed order.
-use Rattle.std.specs.Prelude.{ℕ, ◌≡◌, ◌+◌, ◌*◌, ◌/◌, ◌%◌, ◌<◌, ◌⊎◌, ◌≤ℤ◌, ℤ, pos, negsuc}
-use Rattle.std.specs.Prelude.{◌+ℤ◌, ◌-ℤ◌, List, [], ◌∷◌, length, FitsSigned}
+use Rattle.std.specs.Prelude.{ℕ, ◌≡◌, ◌+◌, ◌*◌, ◌/◌, ◌%◌, ◌<◌, ◌≤ℤ◌, ℤ, pos, negsuc}
+use Rattle.std.specs.Prelude.{◌+ℤ◌, ◌-ℤ◌, List, [], ◌∷◌, length, map}
 use Rattle.std.specs.Int.{w16}
-use Rattle.trellis_decode.specs.Lanes.{lane}
+use Rattle.lanes.specs.Lanes.{AreBetween, AreSigned, lane, lane_of_two}
 use Rattle.trellis_decode.specs.Trellis.{branch_metric}
 use Rattle.trellis_decode.specs.declared.acs_step.PathMetrics.{PathMetrics}
 
--- `lanes` consists of eight signed 16-bit numbers
-pub record AreInt16 (lanes : List ℤ) : Type 0 where
-  pub count : length lanes ≡ 8
-  pub fits : (k : ℕ) → k < 8 → FitsSigned w16 (lane lanes k)
+-- eight signed 16-bit lanes
+abbrev pub AreInt16 : (lanes : List ℤ) → Type 0
+AreInt16 = AreSigned w16 8
 
 -- the path metric that a 16-bit lane represents: a lane holds the path metric minus 31,000
 abbrev pub path_metric_of_lane : (value : ℤ) → ℤ
@@ -18,52 +17,40 @@ path_metric_of_lane value = value +ℤ pos 31000
 -- the path metrics of states 0 to 15, from one vector for the even states and one for the odd states. The lanes of each are in the
 -- bit-reversed order of the upper three bits of the state
 abbrev pub metrics_of_lanes : (even odd : List ℤ) → List ℤ
-metrics_of_lanes even odd =
-    path_metric_of_lane (lane even 0) ∷ path_metric_of_lane (lane odd 0) ∷ path_metric_of_lane (lane even 4) ∷ path_metric_of_lane
-    (lane odd 4) ∷
-    path_metric_of_lane (lane even 2) ∷ path_metric_of_lane (lane odd 2) ∷ path_metric_of_lane (lane even 6) ∷ path_metric_of_lane
-    (lane odd 6) ∷
-    path_metric_of_lane (lane even 1) ∷ path_metric_of_lane (lane odd 1) ∷ path_metric_of_lane (lane even 5) ∷ path_metric_of_lane
-    (lane odd 5) ∷
-    path_metric_of_lane (lane even 3) ∷ path_metric_of_lane (lane odd 3) ∷ path_metric_of_lane (lane even 7) ∷ path_metric_of_lane
-    (lane odd 7) ∷ []
+metrics_of_lanes even odd = map path_metric_of_lane (
+    lane even 0 ∷ lane odd 0 ∷ lane even 4 ∷ lane odd 4 ∷ lane even 2 ∷ lane odd 2 ∷ lane even 6 ∷ lane odd 6 ∷
+    lane even 1 ∷ lane odd 1 ∷ lane even 5 ∷ lane odd 5 ∷ lane even 3 ∷ lane odd 3 ∷ lane even 7 ∷ lane odd 7 ∷ [])
 
 -- the path metrics of states 0 to 15 that a `PathMetrics` holds
 abbrev pub path_metric : PathMetrics → List ℤ
 path_metric values = metrics_of_lanes values.even_states.lanes values.odd_states.lanes
 
--- there are eight lanes, and a branch metric can be added to or subtracted from each without overflow of 16 bits
-pub record HaveHeadroom16 (lanes : List ℤ) : Type 0 where
-  pub count : length lanes ≡ 8
-  pub lower_bound : (k : ℕ) → k < 8 → negsuc 32499 ≤ℤ lane lanes k
-  pub upper_bound : (k : ℕ) → k < 8 → lane lanes k ≤ℤ pos 32500
+-- eight lanes, and a branch metric can be added to or subtracted from each without overflow of 16 bits
+abbrev pub HaveHeadroom16 : (lanes : List ℤ) → Type 0
+HaveHeadroom16 = AreBetween (negsuc 32499) (pos 32500) 8
 
 -- in each lane, the vectors `first` and `second` differ by at most 4,096
 pub record DifferByAtMost4096 (first second : List ℤ) : Type 0 where
   pub lower_bound : (k : ℕ) → k < 8 → negsuc 4095 ≤ℤ (lane first k -ℤ lane second k)
   pub upper_bound : (k : ℕ) → k < 8 → (lane first k -ℤ lane second k) ≤ℤ pos 4096
 
--- in each lane, the difference of the vectors `first` and `second` fits in 16 bits
-pub record DifferencesFit16Bits (first second : List ℤ) : Type 0 where
-  pub fits : (k : ℕ) → k < 8 → FitsSigned w16 (lane first k -ℤ lane second k)
+-- sixteen lanes from -32,767 to 32,767, so their absolute values fit in 16 bits
+abbrev pub AbsFit16Bits : (lanes : List ℤ) → Type 0
+AbsFit16Bits = AreBetween (negsuc 32766) (pos 32767) 16
 
--- the sixteen lanes are from -32,767 to 32,767, so their absolute values fit in 16 bits
-pub record AbsFit16Bits (lanes : List ℤ) : Type 0 where
-  pub count : length lanes ≡ 16
-  pub lower_bound : (s : ℕ) → s < 16 → negsuc 32766 ≤ℤ lane lanes s
-  pub upper_bound : (s : ℕ) → s < 16 → lane lanes s ≤ℤ pos 32767
+-- the values of states 0 to 15, each given by the lane that the state has in a survivor map
+abbrev pub in_state_order : {A : Type 0} (value : ℕ → A) → List A
+in_state_order value =
+    value 0 ∷ value 4 ∷ value 2 ∷ value 6 ∷ value 1 ∷ value 5 ∷ value 3 ∷ value 7 ∷
+    value 8 ∷ value 12 ∷ value 10 ∷ value 14 ∷ value 9 ∷ value 13 ∷ value 11 ∷ value 15 ∷ []
 
 -- the lanes of two vectors, for states 0 to 7 and 8 to 15 in bit-reversed order, as sixteen lanes in state order
 abbrev pub lanes_in_state_order : (low high : List ℤ) → List ℤ
-lanes_in_state_order low high =
-    lane low 0 ∷ lane low 4 ∷ lane low 2 ∷ lane low 6 ∷ lane low 1 ∷ lane low 5 ∷ lane low 3 ∷ lane low 7 ∷
-    lane high 0 ∷ lane high 4 ∷ lane high 2 ∷ lane high 6 ∷ lane high 1 ∷ lane high 5 ∷ lane high 3 ∷ lane high 7 ∷ []
+lanes_in_state_order low high = in_state_order (lane_of_two 8 low high)
 
--- the eight lanes are in the range of branch metrics, -256 to 256
-pub record AreBranchMetrics (lanes : List ℤ) : Type 0 where
-  pub count : length lanes ≡ 8
-  pub lower_bound : (k : ℕ) → k < 8 → negsuc 255 ≤ℤ lane lanes k
-  pub upper_bound : (k : ℕ) → k < 8 → lane lanes k ≤ℤ pos 256
+-- eight lanes in the range of branch metrics, -256 to 256
+abbrev pub AreBranchMetrics : (lanes : List ℤ) → Type 0
+AreBranchMetrics = AreBetween (negsuc 255) (pos 256) 8
 
 -- the lanes of two vectors at four given indexes, interleaved: for each index, the lane of the first vector, then the lane of the second
 abbrev pub interleaved_lanes : (first second : List ℤ) (i j k l : ℕ) → List ℤ
@@ -89,13 +76,8 @@ lane_of_state s = 8 * (s / 8) + three_bits_reversed (s % 8)
 
 -- the decisions of states 0 to 15 in state order, read from two vectors (states 0 to 7 and 8 to 15) whose lanes are in bit-reversed order
 abbrev pub lane_decisions : (low high : List ℤ) → List ℕ
-lane_decisions low high =
-    lane_decision (lane low 0) ∷ lane_decision (lane low 4) ∷ lane_decision (lane low 2) ∷ lane_decision (lane low 6) ∷
-    lane_decision (lane low 1) ∷ lane_decision (lane low 5) ∷ lane_decision (lane low 3) ∷ lane_decision (lane low 7) ∷
-    lane_decision (lane high 0) ∷ lane_decision (lane high 4) ∷ lane_decision (lane high 2) ∷ lane_decision (lane high 6) ∷
-    lane_decision (lane high 1) ∷ lane_decision (lane high 5) ∷ lane_decision (lane high 3) ∷ lane_decision (lane high 7) ∷ []
+lane_decisions low high = in_state_order (λ k. lane_decision (lane_of_two 8 low high k))
 
--- the eight lanes are decisions: each is -1 for bit 1 or 0 for bit 0
-pub record AreDecisionLanes (lanes : List ℤ) : Type 0 where
-  pub count : length lanes ≡ 8
-  pub each_lane : (k : ℕ) → k < 8 → (lane lanes k ≡ negsuc 0) ⊎ (lane lanes k ≡ pos 0)
+-- eight decisions, each -1 for bit 1 or 0 for bit 0
+abbrev pub AreDecisionLanes : (lanes : List ℤ) → Type 0
+AreDecisionLanes = AreBetween (negsuc 0) (pos 0) 8

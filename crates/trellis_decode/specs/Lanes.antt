@@ -1,10 +1,7 @@
--- The lanes of SIMD vectors, and the range of a signed octet.
-use Rattle.std.specs.Prelude.{ℕ, ◌≤ℤ◌, ℤ, pos, negsuc, List, slice_index_or}
+-- The range of a signed octet.
+use Rattle.std.specs.Prelude.{◌≤ℤ◌, ℤ, pos, negsuc, List}
 use Rattle.std.specs.List.{All}
-
--- the lane of a vector at a given index, or 0 if the vector has no such lane
-abbrev pub lane : (lanes : List ℤ) (index : ℕ) → ℤ
-lane lanes s = slice_index_or lanes s (pos 0)
+pub use Rattle.lanes.specs.Lanes.{lane}
 
 -- the number is a signed octet, that is, from -128 to 127
 abbrev pub IsSignedOctet : ℤ → Type 0

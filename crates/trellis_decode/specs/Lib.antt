@@ -1,4 +1,5 @@
 pub use Rattle.conv_code.specs as conv_code
+pub use Rattle.lanes.specs as lanes
 pub mod Hard
 pub mod Decisions
 pub mod Lanes

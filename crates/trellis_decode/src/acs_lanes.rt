@@ -1,9 +1,10 @@
 //! The SIMD operations of one trellis step (add, compare, select) on 16-bit lanes. The contracts describe each lane.
 
 ghost use Rattle.std.specs.Prelude.{◌≡◌, ℕ, ◌*◌, ◌+◌, ◌/◌, ◌%◌, ◌^◌, ◌<◌, pos, negsuc, ◌+ℤ◌};
-ghost use Rattle.std.specs.Prelude.{◌-ℤ◌, if◌then◌else◌, int_lt, length};
-ghost use Rattle.trellis_decode.specs.Lanes.{lane};
-ghost use Rattle.trellis_decode.specs.AcsLanes.{AreBranchMetrics, AbsFit16Bits, AreInt16, DifferencesFit16Bits, HaveHeadroom16};
+ghost use Rattle.std.specs.Prelude.{◌-ℤ◌, if◌then◌else◌, int_lt};
+ghost use Rattle.std.specs.Int.{w16};
+ghost use Rattle.lanes.specs.Lanes.{DifferencesFit, lane};
+ghost use Rattle.trellis_decode.specs.AcsLanes.{AreBranchMetrics, AbsFit16Bits, AreDecisionLanes, AreInt16, HaveHeadroom16};
 ghost use Rattle.trellis_decode.specs.AcsLanes.{lanes_in_state_order, interleaved_lanes};
 
 use std::simd::prelude::*;
@@ -92,9 +93,9 @@ pub fn interleave_last_lanes(first: EightLanes, second: EightLanes) -> EightLane
 pub fn decisions_from_candidates(bit_0: EightLanes, bit_1: EightLanes) -> EightDecisions
     requires first { AreInt16 bit_0.lanes }
     requires second { AreInt16 bit_1.lanes }
-    ensures count { length result.lanes ≡ 8 }
     ensures each { (k : ℕ) → k < 8 → lane result.lanes k ≡
         (if int_lt (lane bit_0.lanes k) (lane bit_1.lanes k) then negsuc 0 else pos 0) }
+    ensures lanes { AreDecisionLanes result.lanes }
 {
     EightDecisions {
         lanes: bit_1.lanes.simd_gt(bit_0.lanes).cast::<i8>().to_simd(),
@@ -104,7 +105,7 @@ pub fn decisions_from_candidates(bit_0: EightLanes, bit_1: EightLanes) -> EightD
 pub fn subtract_lanes(minuend: EightLanes, subtrahend: EightLanes) -> EightLanes
     requires first { AreInt16 minuend.lanes }
     requires second { AreInt16 subtrahend.lanes }
-    requires fits_16_bits { DifferencesFit16Bits minuend.lanes subtrahend.lanes }
+    requires fits_16_bits { DifferencesFit w16 8 minuend.lanes subtrahend.lanes }
     ensures each { (k : ℕ) → k < 8 → lane result.lanes k ≡ lane minuend.lanes k -ℤ lane subtrahend.lanes k }
     ensures lanes { AreInt16 result.lanes }
 {

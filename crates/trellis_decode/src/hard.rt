@@ -4,7 +4,7 @@
 //! signed octets, so one vector holds the path metrics of all sixteen states. Each state has the same lane as in a survivor map.
 
 ghost use Rattle.std.specs.Prelude.{◌≡◌, ℕ, ◌+◌, ◌*◌, ◌/◌, ◌%◌, ◌^◌, ◌<◌, ◌≤◌, ℤ, List, []};
-ghost use Rattle.std.specs.Prelude.{◌∷◌, ◌+ℤ◌, ◌-ℤ◌, IsTrue, int_lt, if◌then◌else◌, FitsSigned};
+ghost use Rattle.std.specs.Prelude.{◌∷◌, ◌+ℤ◌, ◌-ℤ◌, IsTrue, int_lt, if◌then◌else◌};
 ghost use Rattle.std.specs.Prelude.{length, slice_index, slice_index_or, replicate, take, drop, ◌++◌};
 ghost use Rattle.std.specs.Int.{w8};
 ghost use Rattle.std.specs.List.{All};
@@ -16,7 +16,8 @@ ghost use Rattle.trellis_decode.specs.Hard.{hard_lane_metrics};
 ghost use Rattle.trellis_decode.specs.Hard.{lane_after_bit_1};
 ghost use Rattle.trellis_decode.specs.Hard.{sign_bit_of};
 ghost use Rattle.trellis_decode.specs.Hard.{lane_after_bit_0};
-ghost use Rattle.trellis_decode.specs.Lanes.{AreSignedOctets, lane};
+ghost use Rattle.lanes.specs.Lanes.{DifferencesFit, lane};
+ghost use Rattle.trellis_decode.specs.Lanes.{AreSignedOctets};
 ghost use Rattle.trellis_decode.specs.Trellis.{IsSurvivor};
 ghost use Rattle.trellis_decode.specs.AcsLanes.{lane_of_state};
 ghost use Rattle.trellis_decode.specs.SurvivorPaths.{AreMetricsWithin, AreSurvivors, HoldLaneNumbersFromIndex, survivor_traceback};
@@ -292,7 +293,7 @@ fn larger_lanes(zero: StateMetrics, one: StateMetrics) -> StateMetrics
 fn subtract_hard_lanes(first: StateMetrics, second: StateMetrics) -> StateMetrics
     requires first { AreInt8 first.lanes }
     requires second { AreInt8 second.lanes }
-    requires fits { (k : ℕ) → k < 16 → FitsSigned w8 (lane first.lanes k -ℤ lane second.lanes k) }
+    requires fits { DifferencesFit w8 16 first.lanes second.lanes }
     ensures each { (k : ℕ) → k < 16 → lane result.lanes k ≡ lane first.lanes k -ℤ lane second.lanes k }
     ensures lanes { AreInt8 result.lanes }
 {

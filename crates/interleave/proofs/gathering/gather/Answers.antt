@@ -5,10 +5,10 @@ use Rattle.{
     proofs.{Common.{get_or, pos, ap, ap₂, sym, ◌∙◌, arith, w8}, Math.ListN.get_or-map, lemmas.{Bool.cases_lt, List.get_or_default}},
     specs.Int.cast_signed,
   },
+  lanes.proofs.Lanes.each,
   interleave.{
     specs.{ColumnPositions.{coded_bit_number_in_column, burst_position_of_column_bit}, Positions.{burst_of_bit, position_in_burst}},
-    proofs.Lemmas.{each_below, same_coded, in_column, burst_of_bit-below, position_in_burst-below},
-    proofs.gathering.gather.Goals.After-write_column,
+    proofs.{Lemmas.{same_coded, in_column, burst_of_bit-below, position_in_burst-below}, gathering.gather.Goals.After-write_column},
   },
 }
 use Rattle.interleave.proofs.gathering.gather.Goals as goal
@@ -40,14 +40,14 @@ octets c = c.soft_bits_as_octets.result ∷ c.soft_bits_as_octets-2.result ∷ c
 
 long : (c : After-write_column) (b : ℕ) → b < 4 → length (get_or c.args.parts.now b []) ≡ 114
 long c =
-    each_below _ 4 (omega arith)
+    each _ 4 (omega arith)
 
 signed : (c : After-write_column) (b : ℕ) → b < 4 → map (cast_signed w8) (get_or (octets c) b []) ≡ get_or c.args.parts.now b []
 unfolding octets
 signed c =
-    each_below _ 4 (
-      c.soft_bits_as_octets.ensures.value,
-      (c.soft_bits_as_octets-2.ensures.value, (c.soft_bits_as_octets-3.ensures.value, (c.soft_bits_as_octets-4.ensures.value, tt))),
+    each _ 4 (
+      (((tt, c.soft_bits_as_octets.ensures.value), c.soft_bits_as_octets-2.ensures.value), c.soft_bits_as_octets-3.ensures.value),
+      c.soft_bits_as_octets-4.ensures.value,
     )
 
 written : (c : After-write_column) (q r : ℕ) → q < 57 → r < 8 →

@@ -1,6 +1,6 @@
 -- Three rounds of joining turn eight rows into eight columns: octet r of column s is the octet that row r has for that column.
 use Rattle.{
-  std.proofs.Common.{◌≡◌, ℕ, ◌+◌, ◌*◌, ◌/◌, ◌%◌, ◌^◌, ◌<◌, List, [], ◌∷◌, get_or, ap, ap₂},
+  std.proofs.Common.{◌≡◌, ℕ, ◌+◌, ◌*◌, ◌/◌, ◌%◌, ◌^◌, ◌<◌, List, [], ◌∷◌, get_or, ap, ap₂, refl},
   std.proofs.Common.{◌∙◌, arith},
   interleave.{
     specs.ColumnPositions.burst_position_of_column_bit,
@@ -29,29 +29,29 @@ joined c s =
     let e : ℕ → ℕ = λ r. get_or (octets c s) r 0 in
     e 0 + 256 * e 1 + 65536 * (e 2 + 256 * e 3) + 2 ^ 32 * (e 4 + 256 * e 5 + 65536 * (e 6 + 256 * e 7))
 
-first : (c : After-join_octet_fours-2) (s : ℕ) → s < 4 → get_or c.join_octet_fours.result s 0 ≡ joined c s
+-- column s, from the lanes in which the octets of rows 0 and 1, 2 and 3, 4 and 5, and 6 and 7 are joined
+pairs : (c : After-join_octet_fours-2) (s : ℕ) → s < 8 →
+    get_or c.join_lower_octets.result s 0 + 65536 * get_or c.join_lower_octets-2.result s 0
+    + 2 ^ 32 * (get_or c.join_upper_octets.result s 0 + 65536 * get_or c.join_upper_octets-2.result s 0) ≡ joined c s
 unfolding octets joined
+pairs c s h = rw (
+  c.join_lower_octets.ensures.each s h,
+  c.join_lower_octets-2.ensures.each s h,
+  c.join_upper_octets.ensures.each s h,
+  c.join_upper_octets-2.ensures.each s h,
+) refl
+
+first : (c : After-join_octet_fours-2) (s : ℕ) → s < 4 → get_or c.join_octet_fours.result s 0 ≡ joined c s
 first c s h =
     c.join_octet_fours.ensures s h
-    ∙ ap₂ (λ a b. a + 2 ^ 32 * b)
-    (c.join_octet_pairs.ensures.first s h
-    ∙ ap₂ (λ a b. a + 65536 * b) (c.join_lower_octets.ensures.each s (omega arith))
-    (c.join_lower_octets-2.ensures.each s (omega arith)))
-    (c.join_octet_pairs-2.ensures.first s h
-    ∙ ap₂ (λ a b. a + 65536 * b) (c.join_upper_octets.ensures.each s (omega arith))
-    (c.join_upper_octets-2.ensures.each s (omega arith)))
+    ∙ ap₂ (λ a b. a + 2 ^ 32 * b) (c.join_octet_pairs.ensures.first s h) (c.join_octet_pairs-2.ensures.first s h)
+    ∙ pairs c s (omega arith)
 
 last : (c : After-join_octet_fours-2) (s : ℕ) → s < 4 → get_or c.join_octet_fours-2.result s 0 ≡ joined c (4 + s)
-unfolding octets joined
 last c s h =
     c.join_octet_fours-2.ensures s h
-    ∙ ap₂ (λ a b. a + 2 ^ 32 * b)
-    (c.join_octet_pairs.ensures.last s h
-    ∙ ap₂ (λ a b. a + 65536 * b) (c.join_lower_octets.ensures.each _ (omega arith))
-    (c.join_lower_octets-2.ensures.each _ (omega arith)))
-    (c.join_octet_pairs-2.ensures.last s h
-    ∙ ap₂ (λ a b. a + 65536 * b) (c.join_upper_octets.ensures.each (4 + s) (omega arith))
-    (c.join_upper_octets-2.ensures.each (4 + s) (omega arith)))
+    ∙ ap₂ (λ a b. a + 2 ^ 32 * b) (c.join_octet_pairs.ensures.last s h) (c.join_octet_pairs-2.ensures.last s h)
+    ∙ pairs c (4 + s) (omega arith)
 
 columns : After-join_octet_fours-2 → List ℕ
 columns c =

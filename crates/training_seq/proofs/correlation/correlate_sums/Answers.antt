@@ -1,6 +1,6 @@
 use Rattle.{
-  std.proofs.Common.{◌≡◌, ◌<◌, ◌≤◌, ℕ, ℤ, List, ◌*ℤ◌, length, drop, pos, refl, sym, subst, arith, w16, to_z},
-  std.proofs.{Common.{of_z, get_or, ◌+ℤ◌, ◌∙◌}, lemmas.{Int.ints, List.{drop_all, get_or-replicate}}},
+  std.proofs.Common.{◌≡◌, ◌<◌, ◌≤◌, ℕ, ℤ, List, ◌*ℤ◌, length, drop, pos, refl, arith, w16, to_z, of_z, get_or},
+  std.proofs.{Common.{ap, ◌+ℤ◌, ◌∙◌}, lemmas.{Int.ints, List.{drop_all, get_or-replicate}}},
   bit_blocks.specs.SoftValues.likelihood,
   training_seq.{
     specs.{Ranges.IsMagnitudeWithin, Sequences.midamble, Sums.{sign_of_bit, soft_bit_at}},
@@ -55,15 +55,15 @@ pub add_product-totals-requires-clause-signs : goal.add_product-totals-requires-
 add_product-totals-requires-clause-signs c tsc h =
     rw (c.all_tsc_signs_at.ensures, sign_in_row tsc c.loop-i.i h) (small_in_row tsc c.loop-i.i h (omega arith))
 
+pub returns-clause-within : goal.returns-clause-within
+returns-clause-within c =
+    let within : (tsc : ℕ) → tsc ≤ 7 → IsMagnitudeWithin 13312 (soft_bit_at c.loop-i.totals.lanes tsc) =
+    λ tsc h. let before = (c.loop-i.invariant.1 tsc h).1 in omega (arith, ints) in
+    rw (passed c.loop-i.totals.lanes c.loop-i.invariant.0 within) within
+
 pub returns-clause-value : goal.returns-clause-value
 returns-clause-value c tsc h =
-    let all = c.loop-i.invariant.1 tsc h in
-    passed 8 c.loop-i.totals.lanes tsc c.loop-i.invariant.0 (omega arith) (omega (arith, ints, all.1))
-    ∙ whole _ c.args.sums.now (midamble tsc) c.loop-i.i (omega arith) all.0
-
-pub returns-clause-within : goal.returns-clause-within
-returns-clause-within c tsc h =
-    let all = c.loop-i.invariant.1 tsc h in
-    let within : IsMagnitudeWithin 13312 (soft_bit_at c.loop-i.totals.lanes tsc) =
-    (omega (arith, ints, all.1)) in
-    subst (IsMagnitudeWithin 13312) (sym (passed 8 c.loop-i.totals.lanes tsc c.loop-i.invariant.0 (omega arith) within)) within
+    let within : (tsc : ℕ) → tsc ≤ 7 → IsMagnitudeWithin 13312 (soft_bit_at c.loop-i.totals.lanes tsc) =
+    λ tsc h. let before = (c.loop-i.invariant.1 tsc h).1 in omega (arith, ints) in
+    ap (λ l. get_or l tsc (pos 0)) (passed c.loop-i.totals.lanes c.loop-i.invariant.0 within)
+    ∙ whole _ c.args.sums.now (midamble tsc) c.loop-i.i (omega arith) (c.loop-i.invariant.1 tsc h).0

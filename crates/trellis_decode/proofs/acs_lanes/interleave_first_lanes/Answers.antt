@@ -1,7 +1,5 @@
-use Rattle.{std.proofs.Common.{refl, w16, ◌∷◌, []}, trellis_decode.{specs.AcsLanes.interleaved_lanes, proofs.AcsVectors.in_order}}
+use Rattle.{std.proofs.Common.{refl, w16, ◌∷◌, []}, lanes.proofs.Lanes.shuffled}
 use Rattle.trellis_decode.proofs.acs_lanes.interleave_first_lanes.Goals as goal
 
 pub returns-clause-each : goal.returns-clause-each
-returns-clause-each c = in_order w16 refl (λ l. l 0 ∷ l 8 ∷ l 1 ∷ l 9 ∷ l 2 ∷ l 10 ∷ l 3 ∷ l 11 ∷ [])
-    (λ a b. interleaved_lanes a b 0 1 2 3) (λ i j k l m n p q b. refl) c.args.first.lanes c.args.second.lanes c.requires.first.count
-    c.requires.second.count c.requires.first.fits c.requires.second.fits
+returns-clause-each c = shuffled w16 refl 8 8 _ _ c.requires.first c.requires.second (0 ∷ 8 ∷ 1 ∷ 9 ∷ 2 ∷ 10 ∷ 3 ∷ 11 ∷ [])

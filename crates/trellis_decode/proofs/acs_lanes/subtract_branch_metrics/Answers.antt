@@ -1,6 +1,10 @@
-use Rattle.trellis_decode.proofs.AcsVectors.{branch_metrics_subtracted}
+use Rattle.{std.proofs.{Common.{arith, w16}, lemmas.Int.ints}, lanes.proofs.Lanes.differences}
 use Rattle.trellis_decode.proofs.acs_lanes.subtract_branch_metrics.Goals as goal
 
 pub returns : goal.returns
-returns c = let is = branch_metrics_subtracted _ _ c.requires.headroom16 c.requires.branch_metrics in
-    record { each = is.1; lanes = record { count = is.0; fits = is.2 } }
+returns c =
+    let a = c.requires.headroom16 in
+    let b = c.requires.branch_metrics in
+    let is = differences w16 8 c.args.path_metrics.lanes c.args.branch_metrics.lanes (grind (arith, ints)) (grind (arith, ints))
+    (grind (arith, ints)) in
+    record { each = is.0; lanes = is.1 }

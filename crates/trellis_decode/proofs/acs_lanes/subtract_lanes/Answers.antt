@@ -1,6 +1,6 @@
-use Rattle.trellis_decode.proofs.AcsVectors.{Lanewise-differences}
+use Rattle.{std.proofs.Common.w16, lanes.proofs.Lanes.differences}
 use Rattle.trellis_decode.proofs.acs_lanes.subtract_lanes.Goals as goal
 
 pub returns : goal.returns
-returns c = let is = Lanewise-differences _ _ c.requires.first c.requires.second c.requires.fits_16_bits in
-    record { each = is.1; lanes = record { count = is.0; fits = is.2 } }
+returns c = let is = differences w16 8 _ _ c.requires.first c.requires.second c.requires.fits_16_bits in
+    record { each = is.0; lanes = is.1 }

@@ -2,8 +2,9 @@ use Rattle.{
   std.proofs.Common.{ℕ, ◌*◌, ◌<◌, ◌∷◌, [], List, ℤ, lit≤, get_or, take, drop, sym, subst},
   trellis_decode.{
     specs.{AcsLanes.{AreBranchMetrics, HasBranchMetrics}, declared.acs_lanes.EightLanes.EightLanes},
-    proofs.AcsSteps.{each, branch_metrics_at, four_pairs},
+    proofs.AcsSteps.{branch_metrics_at, four_pairs},
   },
+  lanes.proofs.Lanes.each,
 }
 use Rattle.trellis_decode.proofs.branch_metrics.four_branch_metrics.Goals as goal
 

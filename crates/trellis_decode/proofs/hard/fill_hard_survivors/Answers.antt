@@ -1,14 +1,11 @@
--- Induction from the tail to the front, as for `fill_survivors`, but in 8-bit lanes.
 use Rattle.{
   std.proofs.{
-    Common.{◌≡◌, ℕ, ◌*◌, ◌+◌, ◌-◌, ◌<◌, drop, length, ◌∙◌, ap, sym, subst, arith},
+    Common.{◌≡◌, ◌*◌, ◌+◌, ◌-◌, length, ◌∙◌, arith},
     lemmas.List.{length-set, Elements.{All-drop, All-take}},
   },
   trellis_decode.{
-    specs.{Hard.{IsHardBit, hard_lane_metrics}, AcsLanes.lane_of_state, SurvivorPaths.{survivor_traceback, HoldLaneNumbersFromIndex}},
-    proofs.{AcsSteps.hard_octets, SurvivorLists.{HoldLaneNumbersFromIndex-last, AreSurvivors-map_lanes, HoldLaneNumbersFromIndex-more}},
-    proofs.{SurvivorLists.{last_map, more_survivors, AreMetricsWithin-best, AreMetricsWithin-most}, Viterbi.IsSurvivor-to_end},
-    proofs.SurvivorLists.DifferByAtMost-survivors,
+    specs.Hard.{IsHardBit, hard_lane_metrics},
+    proofs.{AcsSteps.hard_octets, SurvivorLists.{DifferByAtMost-survivors, filled-last, filled-more, filled-within}},
   },
 }
 use Rattle.trellis_decode.proofs.hard.fill_hard_survivors.Goals as goal
@@ -18,21 +15,12 @@ hard_path_metrics_before_tail-values-requires-clause-hard c =
     All-take IsHardBit _ _ (All-drop IsHardBit _ _ c.requires.hard)
 
 pub loop-group-init : goal.loop-group-init
-loop-group-init c =
-    let soft = c.args.soft.now in
-    let survivors = c.args.survivors.now in
-    let last = length c.args.survivors.now - 1 in
-    let values = hard_lane_metrics c.hard_path_metrics_before_tail-values.result.lanes in
-    let closing = λ (s : ℕ) (lt : s < 16).
-    IsSurvivor-to_end s (8 * last) _ soft _ (c.hard_path_metrics_before_tail-values.ensures.best s lt) in
-    record {
-      best = last_map survivors (drop (8 * last) soft) values last
-          (omega (arith, c.requires.at_least)) closing;
-      low = (AreMetricsWithin-best (8 * last) values soft _
-          (hard_octets soft c.requires.hard) (omega (arith, c.requires.count, c.requires.at_least)) closing).lower_bound;
-      lanes = c.hard_path_metrics_before_tail-values.ensures.lanes;
-      maps = HoldLaneNumbersFromIndex-last c.args.survivors.now (length c.args.survivors.now - 1) (omega (arith, c.requires.at_least));
-    }
+loop-group-init c = record {
+  filled = filled-last c.args.soft.now (hard_octets _ c.requires.hard) c.args.survivors.now
+      (hard_lane_metrics c.hard_path_metrics_before_tail-values.result.lanes) (length c.args.survivors.now - 1)
+      (omega (arith, c.requires.at_least)) c.requires.count c.hard_path_metrics_before_tail-values.ensures.best;
+  lanes = c.hard_path_metrics_before_tail-values.ensures.lanes;
+}
 
 pub extend_hard_survivors-walk-requires-clause-hard : goal.extend_hard_survivors-walk-requires-clause-hard
 extend_hard_survivors-walk-requires-clause-hard c =
@@ -43,50 +31,31 @@ extend_hard_survivors-walk-requires-clause-lanes c = grind arith
 
 pub extend_hard_survivors-walk-requires-clause-within : goal.extend_hard_survivors-walk-requires-clause-within
 extend_hard_survivors-walk-requires-clause-within c =
-    let soft = c.args.soft.now in
-    let group = c.loop-group.group in
-    AreMetricsWithin-most (8 * group) (hard_lane_metrics c.loop-group.values.lanes) soft
-    (λ s. survivor_traceback (drop group c.loop-group.survivors) (lane_of_state s)) (hard_octets soft c.requires.hard)
-    (omega (arith, c.requires.count))
-    c.loop-group.invariant.low c.loop-group.invariant.best
+    filled-within _ (hard_octets _ c.requires.hard) _ _ _ (omega (arith, c.requires.count)) c.loop-group.invariant.filled
 
 pub extend_hard_survivors-walk-requires-clause-near : goal.extend_hard_survivors-walk-requires-clause-near
 extend_hard_survivors-walk-requires-clause-near c =
+    let same : length c.loop-group.survivors ≡ length c.args.survivors.now = c.loop-group.auto.survivors
+    ∙ length-set c.args.survivors.now (length c.args.survivors.now - 1) _ in
     DifferByAtMost-survivors c.loop-group.values.lanes c.args.soft.now c.loop-group.group c.loop-group.survivors
-    (hard_octets _ c.requires.hard)
-    (c.requires.count ∙ ap (λ n. 8 * n) (sym (c.loop-group.auto.survivors
-    ∙ length-set c.args.survivors.now (length c.args.survivors.now - 1) _))) c.loop-group.invariant.best
+    (hard_octets _ c.requires.hard) (omega (arith, same, c.requires.count)) c.loop-group.invariant.filled.best
 
 pub loop-group-preserved : goal.loop-group-preserved
 loop-group-preserved c =
-    let soft = c.args.soft.now in
-    let survivors = c.loop-group.survivors in
-    let group = c.loop-group.group in
-    let before = group - 1 in
+    let before = c.loop-group.group - 1 in
     let eight : 8 * before + 8 - 8 * before ≡ 8 = omega arith in
-    let same : length survivors ≡ length c.args.survivors.now = c.loop-group.auto.survivors
+    let same : length c.loop-group.survivors ≡ length c.args.survivors.now = c.loop-group.auto.survivors
     ∙ length-set c.args.survivors.now (length c.args.survivors.now - 1) _ in
-    let within = c.loop-group.auto.group in
-    let walk = rw eight at c.extend_hard_survivors-walk.ensures.walk in
     record {
-      best = more_survivors (hard_lane_metrics c.loop-group.values.lanes)
-          (hard_lane_metrics c.extend_hard_survivors-walk.result.values.lanes) soft
-          c.extend_hard_survivors-walk.result.survivor_map survivors before group (omega arith)
-          (omega (arith, same, within, c.requires.at_least))
-          (omega (arith, same, within, c.requires.at_least, c.requires.count)) walk c.loop-group.invariant.best;
-      low = c.extend_hard_survivors-walk.ensures.within.lower_bound;
+      filled = filled-more c.args.soft.now (hard_octets _ c.requires.hard) c.loop-group.survivors before c.loop-group.group (omega arith)
+          (omega (arith, same, c.loop-group.auto.group, c.requires.at_least)) (omega (arith, same, c.requires.count))
+          (rw eight at c.extend_hard_survivors-walk.ensures.walk) c.extend_hard_survivors-walk.ensures.within.lower_bound
+          c.loop-group.invariant.filled;
       lanes = c.extend_hard_survivors-walk.ensures.lanes;
-      maps = HoldLaneNumbersFromIndex-more survivors c.extend_hard_survivors-walk.result.survivor_map before group (omega arith)
-          (omega (arith, same, within, c.requires.at_least))
-          (AreSurvivors-map_lanes _ _ c.extend_hard_survivors-walk.result.survivor_map _ walk) c.loop-group.invariant.maps;
     }
 
 pub returns-clause-best : goal.returns-clause-best
-returns-clause-best c =
-    let none : c.loop-group.group ≡ 0 = omega arith in
-    rw none at c.loop-group.invariant.best
+returns-clause-best c = let none : c.loop-group.group ≡ 0 = omega arith in rw none at c.loop-group.invariant.filled.best
 
 pub returns-clause-maps : goal.returns-clause-maps
-returns-clause-maps c =
-    let none : c.loop-group.group ≡ 0 = omega arith in
-    subst (λ k. HoldLaneNumbersFromIndex k c.loop-group.survivors) none c.loop-group.invariant.maps
+returns-clause-maps c = let none : c.loop-group.group ≡ 0 = omega arith in rw none at c.loop-group.invariant.filled.maps

@@ -1,7 +1,8 @@
 use Rattle.{
   std.proofs.Common.{◌≡◌, ℕ, ◌+◌, ◌*◌, ◌<◌, ◌≤◌, ◌∷◌, [], List, ℤ, pos, lit≤, get_or, take, drop},
   std.proofs.Common.arith,
-  trellis_decode.{specs.{Lanes.lane, Hard.{HasHardBranchMetrics, IsHardBit, sign_bit_of}}, proofs.AcsSteps.{each, pair_lanes}},
+  trellis_decode.{specs.{Lanes.lane, Hard.{HasHardBranchMetrics, IsHardBit, sign_bit_of}}, proofs.AcsSteps.pair_lanes},
+  lanes.proofs.Lanes.each,
 }
 use Rattle.trellis_decode.proofs.hard.hard_branch_metrics.Goals as goal
 

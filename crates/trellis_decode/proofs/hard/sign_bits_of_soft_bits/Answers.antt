@@ -3,7 +3,8 @@ use Rattle.{
     Common.{◌≡◌, ◌+◌, ◌++◌, ℤ, List, pos, length, length-append, replicate, ap, subst, sym, ◌∙◌, arith, refl, w8},
     lemmas.{Int.ints, List.{get_or_append_left, Elements.{All-append, All-replicate}}},
   },
-  trellis_decode.{specs.{Lanes.{AreSignedOctets, IsSignedOctet, lane}, Hard.sign_bit_of}, proofs.AcsVectors.sign_bit},
+  trellis_decode.specs.{Lanes.{AreSignedOctets, IsSignedOctet, lane}, Hard.sign_bit_of},
+  lanes.proofs.Lanes.sign_bit,
 }
 use Rattle.trellis_decode.proofs.hard.sign_bits_of_soft_bits.Goals as goal
 
@@ -16,6 +17,6 @@ returns c k lt =
     let count : length (part ++ zeros) ≡ 16 = length-append part zeros ∙ ap (λ n. n + 8) long in
     let octets = All-append IsSignedOctet part zeros (subst AreSignedOctets (sym copied) c.requires.octets)
     (All-replicate IsSignedOctet 8 (pos 0) (omega (arith, ints), omega (arith, ints))) in
-    sign_bit w8 refl 16 (omega arith) (part ++ zeros) count
-    (λ j less. let octet = octets j (pos 0) (omega arith) in omega (arith, ints)) k (omega arith)
+    sign_bit w8 refl 16 (omega arith) (part ++ zeros)
+    (record { count = count; fits = λ j less. let octet = octets j (pos 0) (omega arith) in omega (arith, ints) }) k (omega arith)
     ∙ ap sign_bit_of (get_or_append_left part zeros (pos 0) k (omega arith) ∙ ap (λ s. lane s k) copied)

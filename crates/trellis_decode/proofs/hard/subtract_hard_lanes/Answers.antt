@@ -1,6 +1,5 @@
-use Rattle.trellis_decode.proofs.HardLanes.{Lanewise-hard_differences}
+use Rattle.{std.proofs.Common.w8, lanes.proofs.Lanes.differences}
 use Rattle.trellis_decode.proofs.hard.subtract_hard_lanes.Goals as goal
 
 pub returns : goal.returns
-returns c = let is = Lanewise-hard_differences _ _ c.requires.first c.requires.second c.requires.fits in
-    record { each = is.1; lanes = record { count = is.0; fits = is.2 } }
+returns c = let is = differences w8 16 _ _ c.requires.first c.requires.second c.requires.fits in record { each = is.0; lanes = is.1 }

@@ -1,15 +1,16 @@
 use Rattle.{
-  std.proofs.Common.{◌≡◌, ◌*◌, ◌+◌, ◌-◌, ◌<◌, ◌∷◌, drop, ap, sym, ◌∙◌, subst, arith},
-  std.proofs.lemmas.List.{drop-set, length-drop, Elements.{All-take, All-drop}},
+  std.proofs.Common.{◌≡◌, ◌*◌, ◌+◌, ◌-◌, ◌<◌, ◌∷◌, drop, ap, sym, ◌∙◌, subst, arith, map, w16},
+  std.{proofs.lemmas.List.{drop-set, length-drop, Elements.{All-take, All-drop}}, specs.Int.cast_signed},
   trellis_decode.{
     specs.{Lanes.{IsSignedOctet, lane}, AcsLanes.{HasBranchMetrics, path_metric}},
     proofs.{
       AcsSteps.{AreSignedOctets-pair, pair_at, pair_at-take_drop, pair_and_after},
       SurvivorLists.{HasDecisionsAndMetrics-more, HasDecisionsAndMetrics-same, HasDecisionsAndMetrics-differences},
       SurvivorLists.{HasDecisionsAndMetrics-even, HasDecisionsAndMetrics-odd},
-      AcsVectors.{cast_lanes, cast_lanes-subtract_lanes},
+      AcsVectors.AbsFit16Bits-signed,
     },
   },
+  lanes.proofs.Lanes.{bits_of, cast_lanes-each},
 }
 use Rattle.trellis_decode.proofs.trellis.fill_decision_rows.Goals as goal
 
@@ -44,7 +45,7 @@ loop-k-preserved c =
     let has = subst (HasBranchMetrics _)
     (pair_at-take_drop soft (2 * c.args.first) (2 * c.args.first + 8 - 2 * c.args.first) (2 * (k - 1)) (2 * j) (omega arith) (omega arith))
     (c.four_branch_metrics-branch_metrics.ensures.has (k - 1) _ within) in
-    let lost = cast_lanes c.new-step.result.losses.lanes in
+    let lost = map (cast_signed w16) (bits_of w16 c.new-step.result.losses.lanes) in
     record {
       decided = HasDecisionsAndMetrics-same
           (cc (next, drop-set rows j c.new-step.result.decision_bits (omega (arith, c.loop-k.auto.rows))))
@@ -54,7 +55,7 @@ loop-k-preserved c =
           (HasDecisionsAndMetrics-more (path_metric c.loop-k.values) (path_metric c.new-step.result.values) lost pair (drop (2 * at) soft)
           (drop at rows) (drop at losses) c.new-step.result.decision_bits has.count (AreSignedOctets-pair soft (2 * j) c.requires.octets)
           (c.new-step.ensures.each pair has)
-          (λ s lt. ap (λ l. lane l s) (cast_lanes-subtract_lanes c.new-step.result.losses.lanes c.new-step.ensures.lanes)
+          (λ s lt. ap (λ l. lane l s) (cast_lanes-each w16 16 _ (AbsFit16Bits-signed _ c.new-step.ensures.lanes))
           ∙ c.new-step.ensures.losses pair has s lt) c.loop-k.invariant.decided);
       even = c.new-step.ensures.even;
       odd = c.new-step.ensures.odd;

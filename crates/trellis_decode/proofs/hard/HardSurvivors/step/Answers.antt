@@ -2,7 +2,7 @@ use Rattle.{
   std.proofs.Common.{ap, if◌then◌else◌},
   trellis_decode.{
     specs.{AcsLanes.lane_of_state, Hard.{lane_after_bit_0, lane_after_bit_1}},
-    proofs.{AcsSteps.{IsDecision-hard, inside, next_lane-state}, SurvivorLists.{AreSurvivors-more, AreMetricsWithin-more}},
+    proofs.{AcsSteps.{IsDecision-hard, lane_of_state-inside, next_lane-state}, SurvivorLists.{AreSurvivors-more, AreMetricsWithin-more}},
     proofs.HardLanes.{DifferByAtMost-more, loss-fits, loss-sign},
   },
 }
@@ -23,9 +23,9 @@ returns-clause-walk c pair has after soft =
     let k = lane_of_state s in
     let sign = loss-sign c.args.self.values.lanes c.args.branch_metrics.lanes _ _ _ c.requires.branch_metrics
     c.bit_0_candidates-zero.ensures.each c.bit_1_candidates-one.ensures.each c.larger_lanes-values.ensures.each
-    c.subtract_hard_lanes-losses.result.lanes c.subtract_hard_lanes-losses.ensures.each k (inside s lt) in
+    c.subtract_hard_lanes-losses.result.lanes c.subtract_hard_lanes-losses.ensures.each k (lane_of_state-inside s lt) in
     cc (
-      c.extend_survivor_map_by_metrics.ensures.each k (inside s lt),
+      c.extend_survivor_map_by_metrics.ensures.each k (lane_of_state-inside s lt),
       ap (λ t. if t then lane_after_bit_1 k else lane_after_bit_0 k) sign,
       next_lane-state s lt _,
     ))
