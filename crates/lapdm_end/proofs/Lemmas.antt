@@ -22,7 +22,7 @@ use Rattle.{
       Ends.{sends_frame, vr, ◌then◌},
       Rules.{accepts_segment, answers_segment, evaluates_nr, has_segment_to_send, reject_is_due, segment_notices, sends_next_segment},
       Rules.{sends_segment, takes_i_frame, with_reject_condition, with_segment_sent},
-      Sides.{SideState, endpoint_with_sapi, endpoint_step, step_for_frame},
+      Sides.{SideState, endpoint_with_sapi, endpoint_step, step_for_frame, step_for_read_frame},
       Steps.HasEffects,
       Tables.{closes_and_reports, frame_outcome},
       declared.{Notice.Notice, Sapi.{TheVariants.{Three, Zero}, Sapi}, State.{TheVariants.{Closed, Closing, Idle, Opening, Open}, State}},
@@ -32,8 +32,8 @@ use Rattle.{
     },
   },
   std.proofs.{
-    Common.{Bool, List, [], append_assoc, ap, arith, false, if◌then◌else◌, length, map, nat_eq, nat_lt, refl, subst, sym, true},
-    Common.{unwrap_or, ℕ, ◌++◌, ◌+◌, ◌<◌, ◌∙◌, ◌∷◌, ◌≡◌, ◌≢◌, ◌≤◌},
+    Common.{Bool, List, None, Option, Some, [], append_assoc, ap, arith, false, if◌then◌else◌, length, map, nat_eq, nat_lt, refl},
+    Common.{subst, sym, true, unwrap_or, ℕ, ◌++◌, ◌+◌, ◌<◌, ◌∙◌, ◌∷◌, ◌≡◌, ◌≢◌, ◌≤◌},
     lemmas.{Bool.Decides.nat_tests, List.{append-nil, map-append}},
   },
 }
@@ -489,3 +489,10 @@ pub refines_no_sapi : (f : Frame) (old : Side) (effects : Effects) → f.sapi �
 refines_no_sapi f old effects z t frames notices a st =
     by_sapi f a (λ d. CarriesOutStep (channel_of old) d Zero effects old) (λ q. absurd (z q)) (λ q. absurd (t q))
     (λ q r. record { represents = st; sapi_matches = refl; frames = frames; notices = notices })
+
+-- a side for which no frame is read does nothing
+pub refines_no_frame : (old : Side) (effects : Effects) (read : Option Frame) → read ≡ None → effects.frames ≡ [] →
+    effects.notices ≡ [] → StepRefines (step_for_read_frame read) old Zero effects old
+refines_no_frame old effects None none frames notices a st =
+    record { represents = st; sapi_matches = refl; frames = frames; notices = notices }
+refines_no_frame old effects (Some f) none frames notices a st = absurd (grind arith)

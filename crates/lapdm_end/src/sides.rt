@@ -1,18 +1,19 @@
 //! A side (mobile or network): its endpoints for SAPI 0 and SAPI 3.
 
-ghost use Rattle.std.specs.Prelude.{◌≡◌, ◌≢◌, OnOk, OnErr};
-ghost use Rattle.lapdm_frame.specs.Content.{frame_of_view};
+ghost use Rattle.std.specs.Prelude.{◌≡◌, ◌≢◌, OnOk, OnErr, Option};
+ghost use Rattle.lapdm_frame.specs.AcceptedBlocks.{ReadsFrame};
+ghost use Rattle.lapdm_frame.specs.Content.{Frame, frame_of_view};
 ghost use Rattle.lapdm_frame.specs.Frames.{FrameFits};
 ghost use Rattle.lapdm_window.specs.declared.Sapi.TheVariants as S;
 ghost use Rattle.lapdm_window.specs.Calls.{endpoint_call_of, IsCallAllowedFor};
-ghost use Rattle.lapdm_window.specs.Sides.{idle_side, layer3_call_step, step_for_frame};
+ghost use Rattle.lapdm_window.specs.Sides.{idle_side, layer3_call_step, step_for_frame, step_for_read_frame};
 ghost use Rattle.lapdm_end.specs.Addresses.{spec_role_of};
 ghost use Rattle.lapdm_end.specs.Abstraction.{channel_of as end_channel, role_of as end_role, sapi_of};
 ghost use Rattle.lapdm_end.specs.Refinement.{RefusesAsSpecified};
 
 use crate::Role;
 use crate::ends::Endpoint;
-use lapdm_frame::{Channel, FrameView};
+use lapdm_frame::{BLOCK_OCTETS, Channel, FrameView, read_on};
 use lapdm_window::{Call, Effects, Refused, Sapi};
 
 /// A side: both endpoints of a mobile or of a network.
@@ -86,5 +87,27 @@ impl Side {
         }
         effects.clear();
         Sapi::Zero
+    }
+
+    /// Reads the frame in the accepted octets of a block, and passes it to the endpoint with its SAPI. Replaces the effects with the frames
+    /// and notices of that endpoint. Returns its SAPI, or SAPI 0 if no endpoint receives a frame.
+    pub fn take_block(
+        &mut self,
+        accepted: &Option<[u8; BLOCK_OCTETS]>,
+        effects: &mut Effects,
+    ) -> Sapi
+        ensures refines { (read : Option Frame) → ReadsFrame (channel_of self.old) accepted.now read
+            → StepRefines (step_for_read_frame read) self.old result effects.new self.new }
+        ensures role { role_of self.new ≡ role_of self.old }
+        ensures channel { channel_of self.new ≡ channel_of self.old }
+    {
+        effects.clear();
+        let Some(octets) = accepted else {
+            return Sapi::Zero;
+        };
+        match read_on(octets, self.link0.channel()) {
+            Ok(frame) => self.take(&frame, effects),
+            Err(_) => Sapi::Zero,
+        }
     }
 }

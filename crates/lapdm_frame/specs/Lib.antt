@@ -3,4 +3,5 @@ pub mod Content
 pub mod Frames
 pub mod Refusals
 pub mod Readings
+pub mod AcceptedBlocks
 pub mod Lengths

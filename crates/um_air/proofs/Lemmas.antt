@@ -5,15 +5,15 @@ use Rattle.{
       Lemmas.{AllFit, AllReported, AllSay, EndOctets, IsFitting, KnowsBy, LineOctets, SaysOctets, WorldOctets, acked_at_most_delivered},
       Lemmas.{claims, event_step-fits, event_step-holds, fits-step, in_order-step, initial-fits, initial-octets, initial-reported},
       Lemmas.{octets-step, order_claims},
-      lapdm_frame.Lemmas.{bit_bound, information_bound, octets_canonical, one_reading, same_frame},
+      lapdm_frame.{Lemmas.{bit_bound, information_bound, octets_canonical, one_reading, same_frame}, OneRead.one_read},
     },
     specs.{
       Claims.{AckedAtMostDelivered, Claims, HasNoticesInOrder, LogLine, answer_log_lines, notice_log_lines, session_log as frame_log},
       Events.{BySide, Deliver, EventRefusal, Nothing, Who, bounded_capacity, event_step, queues_after_removal, refusal_if, sending_role},
       Queues.{IsOldestSentOrNone, Queues, empty_queues, queue_of, with_items_appended},
       Worlds.World,
-      lapdm_frame.{Content.{Frame, information}, Frames.{FrameFits, IsFrameCoding, octets_of}, Refusals.IsRefused},
-      lapdm_frame.{declared.{Channel.Channel, Refusal.Refusal}, Readings.HasUniqueReading},
+      lapdm_frame.{Content.{Frame, information}, Frames.{FrameFits, octets_of}, Refusals.IsRefused, declared.Channel.Channel},
+      lapdm_frame.{declared.Refusal.Refusal, Readings.HasUniqueReading},
       lapdm_window.{Ends.{Mobile, Network, Role}, declared.{Notice.Notice, Sapi.Sapi}},
     },
   },
@@ -46,17 +46,6 @@ use Rattle.lapdm_link.specs.Events as E
 use Rattle.lapdm_link.specs.Worlds as W
 
 -- ## AnswerUnique: What an event may lead to is what `air_step` computes, because coding, reception and reading have one result each.
-
-never_both : (channel : Channel) (octets : Octets) (f : Frame) (why : Refusal) → IsFrameCoding channel f octets →
-    IsRefused channel octets why → ⊥
-never_both channel octets f why h g = elim (one_reading channel octets h.count) [
-  | inl w ↦ w.1.not_refused why g
-  | inr w ↦ w.1.no_frame f h
-]
-
-one_read : (channel : Channel) (o : Option Octets) (f g : Option Frame) → ReadsFrame channel o f → ReadsFrame channel o g →
-    f ≡ g
-one_read channel o f g h k = grind (arith, same_frame, never_both)
 
 ReadsFrame-frame_in : (channel : Channel) (octets : Octets) → length octets ≡ 23 →
     ReadsFrame channel (Some octets) (frame_in channel octets)

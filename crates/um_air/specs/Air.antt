@@ -4,10 +4,9 @@ use Rattle.std.specs.Prelude.{◌≡◌, ℕ, ◌-◌, ◌/◌, ◌%◌, List, [
 use Rattle.std.specs.Prelude.{Some, None}
 use Rattle.std.specs.List.{AllZip}
 use Rattle.lapdm_link.specs.lapdm_frame.declared.Channel.{Channel}
-use Rattle.lapdm_link.specs.lapdm_frame.declared.Refusal.{Refusal}
+pub use Rattle.lapdm_link.specs.lapdm_frame.AcceptedBlocks.{ReadsFrame}
 use Rattle.lapdm_link.specs.lapdm_frame.Content.{Frame}
-use Rattle.lapdm_link.specs.lapdm_frame.Frames.{IsFrameCoding, octets_of}
-use Rattle.lapdm_link.specs.lapdm_frame.Refusals.{IsRefused}
+use Rattle.lapdm_link.specs.lapdm_frame.Frames.{octets_of}
 use Rattle.lapdm_link.specs.lapdm_window.declared.Sapi.{Sapi}
 use Rattle.lapdm_link.specs.lapdm_window.declared.Notice.{Notice}
 use Rattle.lapdm_link.specs.lapdm_window.Ends.{Role}
@@ -63,13 +62,6 @@ with_bit_inverted place block =
 abbrev pub with_bits_inverted : (places : List ℕ) (block : Block) → Block
 with_bits_inverted [] block = block
 with_bits_inverted (place ∷ places) block = with_bits_inverted places (with_bit_inverted place block)
-
--- the frame in the accepted octets, or `None` if no octets are accepted or they do not encode a frame
-abbrev pub ReadsFrame : (channel : Channel) (accepted : Option Octets) (read : Option Frame) → Type 0
-ReadsFrame channel (Some octets) (Some f) = IsFrameCoding channel f octets
-ReadsFrame channel (Some octets) None = (why : Refusal) × IsRefused channel octets why
-ReadsFrame channel None (Some f) = ⊥
-ReadsFrame channel None None = Unit {0}
 
 -- the oldest block from `sender` arrives with the bits at `places` inverted; the receiver reports `report` and reads the frame `read`, if
 -- any

@@ -7,4 +7,5 @@ pub use Rattle.burst_map.proofs as burst_map
 -- other crates refer to these lemmas by the name `Lemmas`
 pub use ReceivedBursts as Lemmas
 pub mod ReceivedBursts
+pub mod Tallies
 pub mod ComputedReports

@@ -3,9 +3,12 @@ use Rattle.{
   circular_buffer.specs.Buffer.{Buffer, buffer},
   lapdm_end.specs.declared.sides.Side.Side,
   lapdm_frame.specs.{Content.Frame, Frames.octets_of, Layout.n201, Readings.IsOnlyEncodedFrame, declared.Channel.Channel},
-  std.proofs.Common.{Bool, List, None, Option, Some, [], append_assoc, ap, arith, drop, false, get_or, length, map, nat_eq, nat_lt, refl},
-  std.proofs.Common.{subst, suc, sym, take, true, ℕ, ◌++◌, ◌+◌, ◌-◌, ◌<◌, ◌∙◌, ◌∷◌, ◌≡◌, ◌≤◌},
-  std.{proofs.lemmas.{Bool.Decides.nat_tests, List.{Elements.{All-push, All-drop}, append-nil, length-append, take_more}}, specs.List.All},
+  std.{
+    proofs.Common.{Bool, Err, List, None, Option, Some, [], append_assoc, ap, arith, drop, false, get_or, length, map, nat_eq, nat_lt},
+    proofs.Common.{refl, subst, suc, sym, take, true, ℕ, ◌++◌, ◌+◌, ◌-◌, ◌<◌, ◌∙◌, ◌∷◌, ◌≡◌, ◌≤◌},
+    proofs.lemmas.{Bool.Decides.nat_tests, List.{Elements.{All-push, All-drop}, append-nil, length-append, take_more}},
+    specs.List.All,
+  },
   um_air.specs.{
     Air.{AirState, AreBlocksOfFrames, Block, CarriesOutEvent, EventDelivers, IsAirStep, Octets, ReadsFrame, event_with_frame, refusal},
     Air.{with_bit_inverted, with_bits_inverted},
@@ -22,13 +25,14 @@ use Rattle.{
   },
   um_block.specs.{Sent.IsSentBlock, Tallies.{counter_plus_one, counter_plus}, bit_blocks.Bits.AllBits, declared.received.Received.Received},
   um_link.specs.{
-    Abstraction.{IsLayer3CallTo, IsValidWorld, Represents, StepRefines, queued_blocks},
+    Abstraction.{IsLayer3CallTo, IsValidWorld, IsWorldStep, Represents, queued_blocks},
+    Naming.spec_event_refusal_of,
     BlockTaking.TakingFrameRefines,
     Coded.{AppendsBlocks, AreCodedBlocks},
     FourEndpoints.{HasEffects, AreSidesOn, Represents as EndsRepresent, channel_of_ends},
     Moves.{AppendsToQueue, DiffersOnlyInQueue, LosesOldestBlockFrom, ReceivesOldestBlockFrom},
     Queues.IsValidQueue,
-    declared.{ends.BothSides.BothSides, events.Step.Step, links.WorldState.WorldState},
+    declared.{ends.BothSides.BothSides, events.No.No, links.WorldState.WorldState},
   },
 }
 use Rattle.um_air.specs.lapdm_window.Sides as D
@@ -313,14 +317,15 @@ module _ (role : Role) (sapi : Sapi) (call : Call) where
       EventDelivers a event None None × (queues_after_removal event a.queues ≡ a.queues)
   asked-plain event h a = grind arith
 
-pub refused-same_ends : (event : A.Event) (why : E.EventRefusal) (w : WorldState) (ends' : BothSides) → ends' ≡ w.ends →
-    ((a : AirState) → Represents w a → refusal event a ≡ Some why) → (a : AirState) → Represents w a →
-    (b : AirState) × Represents (record w { ends = ends' }) b × IsAirStep a event b (A.Refuses why)
-refused-same_ends event why w ends' e h a st = (
-  a,
-  record { tsc = st.tsc; channel = st.channel; ends = rw e st.ends; up = st.up; down = st.down },
-  (h a st, refl),
-)
+-- a refused event is a step of the world, if the specification refuses it for this reason
+pub refused_step : (event : A.Event) (why : No) (w w' : WorldState) → w' ≡ w → IsValidWorld w →
+    ((a : AirState) → Represents w a → refusal event a ≡ Some (spec_event_refusal_of why)) → IsWorldStep event w (Err why) w'
+refused_step event why w w' same valid refuses = rw same (record {
+  refines = λ a st. (a, st, (refuses a st, refl));
+  valid = valid;
+  refused = refl;
+  fits_actor = tt;
+})
 
 pub on-channel : (w : WorldState) (ends' : BothSides) (effects : Effects) (event_step : E.BothSides → E.SideStep) → IsValidWorld w →
     F.StepRefines (F.channel_of_ends w.ends) event_step w.ends effects ends' → F.StepRefines w.channel event_step w.ends effects ends'
@@ -407,16 +412,10 @@ receive-oldest sender end places w m w' ends' received sapi effects step e h hea
 
 pub deliver-full_queue : (sender end : Role) (places : List ℕ) (w : WorldState) → end ≡ E.other sender →
     E.is_empty (length (queued_blocks sender w)) ≡ false → E.is_queue_full (length (queued_blocks end w)) ≡ true →
-    (a : AirState) → Represents w a → (b : AirState) × Represents w b × IsAirStep a (E.Deliver sender places) b (A.Refuses E.AirFull)
-deliver-full_queue sender end places w e some full a st = (
-  a,
-  st,
-  (
+    (a : AirState) → Represents w a → refusal (E.Deliver sender places) a ≡ Some E.AirFull
+deliver-full_queue sender end places w e some full a st =
     refusal_if-false _ _ _ (on-queue E.is_empty false sender w a st some)
-        ∙ refusal_if-true _ _ _ (on-queue E.is_queue_full true (E.other sender) w a st (rw e at full)),
-    refl,
-  ),
-)
+    ∙ refusal_if-true _ _ _ (on-queue E.is_queue_full true (E.other sender) w a st (rw e at full))
 
 room-bound : (n m : ℕ) → nat_lt 62 n ≡ false → m ≡ n → m ≤ 62
 room-bound n m h e = grind (arith, nat_tests)

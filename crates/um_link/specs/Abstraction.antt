@@ -1,19 +1,20 @@
 -- How a Rust `World` represents the state of a session, and when its answers follow the specification.
-use Rattle.std.specs.Prelude.{◌≡◌, ◌≤◌, ℕ, List, length, Option, Some, None, Result, Ok, Err, []}
+use Rattle.std.specs.Prelude.{◌≡◌, ◌≤◌, ℕ, List, None, Result, [], IfOk, OnErr}
 use Rattle.um_air.specs.lapdm_window.Ends.{Role, Mobile, Network}
-use Rattle.um_block.specs.declared.received.Received.{Received}
+use Rattle.um_block.specs.Tallies.{counter_plus}
 use Rattle.um_air.specs.lapdm_window.declared.Sapi.{Sapi}
 use Rattle.um_air.specs.lapdm_window.declared.Sapi.TheVariants.{Zero, Three}
 use Rattle.um_air.specs.lapdm_window.Calls.{Call, Opens, OpensWithoutInfo}
 use Rattle.um_air.specs.lapdm_link.Events.{Open, OpenBare, Ask, endpoint_call_of, Who, BySide, OtherMobile, Nobody}
 use Rattle.um_air.specs.Air as A
 use Rattle.um_air.specs.Air.{Block, AirState, IsAirStep}
+use Rattle.um_air.specs.Counts.{sent_frame_count, blocks_received_in_step}
 use Rattle.um_link.specs.FourEndpoints as F
 use Rattle.um_link.specs.declared.events.No.{No}
 use Rattle.um_link.specs.declared.events.Step.{Step}
 use Rattle.um_link.specs.declared.links.WorldState.{WorldState}
 use Rattle.um_link.specs.Queues.{IsValidQueue}
-use Rattle.um_link.specs.Naming.{spec_answer_of}
+use Rattle.um_link.specs.Naming.{spec_answer_of, spec_step_of}
 
 -- the blocks in transit that this side sent
 abbrev pub queued_blocks : Role → WorldState → List Block
@@ -55,21 +56,6 @@ IsOnlyPossibleAnswer event old result =
     (a : AirState) → Represents old a → (b : AirState) (answer : A.Answer) → IsAirStep a event b answer →
     answer ≡ spec_answer_of result
 
--- the number of frames that a step sends
-abbrev pub sent_frame_count : Result Step No → ℕ
-sent_frame_count (Ok s) = length s.effects.frames
-sent_frame_count (Err reason) = 0
-
--- 1 if a block was received, otherwise 0
-abbrev pub arrival_count : Option Received → ℕ
-arrival_count None = 0
-arrival_count (Some report) = 1
-
--- the number of blocks that a step receives, 0 or 1
-abbrev pub blocks_received_in_step : Result Step No → ℕ
-blocks_received_in_step (Ok s) = arrival_count s.received
-blocks_received_in_step (Err reason) = 0
-
 -- if another mobile acts, nothing is received or reported; if nobody acts, nothing is sent either
 abbrev pub ActorCanTakeStep : (who : Who) (step : A.Step) → Type 0
 ActorCanTakeStep (BySide role) s = Unit {0}
@@ -78,3 +64,23 @@ ActorCanTakeStep Nobody s = (s.received ≡ None) × (s.notices ≡ []) × (s.fr
 
 abbrev pub StepFitsItsActor : A.Step → Type 0
 StepFitsItsActor s = ActorCanTakeStep s.who s
+
+-- what a world does for an event, apart from its use of the radio: the specification allows the answer, the invariant holds, a refused
+-- event changes nothing, and an accepted one has an actor who can take the step
+pub record IsWorldStep (event : A.Event) (old : WorldState) (result : Result Step No) (new : WorldState) : Type 0 where
+  pub refines : StepRefines event old result new
+  pub valid : IsValidWorld new
+  pub refused : OnErr result (new ≡ old)
+  pub fits_actor : IfOk result (λ step. StepFitsItsActor (spec_step_of step))
+
+-- the radio counted each frame that the step sent and each block that it received, and is unchanged if the event is refused; `sent` and
+-- `heard` are its two counters
+pub record CountsBlocksOfStep {Radio : Type 0} (sent heard : Radio → ℕ) (result : Result Step No) (old new : Radio) : Type 0 where
+  pub unchanged : OnErr result (new ≡ old)
+  pub sent_rose : sent new ≡ counter_plus (sent_frame_count (spec_answer_of result)) (sent old)
+  pub heard_rose : heard new ≡ counter_plus (blocks_received_in_step (spec_answer_of result)) (heard old)
+
+-- the step neither sent nor received a block
+abbrev pub UsesNoRadio : Result Step No → Type 0
+UsesNoRadio result =
+    (sent_frame_count (spec_answer_of result) ≡ 0) × (blocks_received_in_step (spec_answer_of result) ≡ 0)

@@ -8,7 +8,7 @@ use Rattle.um_link.specs.declared.events.No.{No}
 use Rattle.um_link.specs.declared.events.Step.{Step}
 use Rattle.um_link.specs.declared.links.WorldState.{WorldState}
 use Rattle.um_link.specs.Naming.{spec_answer_of}
-use Rattle.um_link.specs.Abstraction.{Represents}
+use Rattle.um_link.specs.Abstraction.{Represents, IsOnlyPossibleAnswer}
 
 -- a session with these events and answers leads to state `a`, which the world represents
 pub record IsWorldAfterEvents (tsc : ℕ) (channel : Channel) (events : List Event) (answers : List Answer) (a : AirState)
@@ -49,3 +49,12 @@ FewInvertedBitsKeepSessionBenign event old result =
     (tsc : ℕ) (channel : Channel) (events : List Event) (answers : List Answer) (a : AirState) →
     IsWorldAfterEvents tsc channel events answers a old →
     AllEventsInvertFewBits (events ++ event ∷ []) → IsBenign (events ++ event ∷ []) (answers ++ spec_answer_of result ∷ [])
+
+-- what holds of a session that leads to the old world, once the world has answered one more event: the answer is the only one that the
+-- specification allows, and the session extended by the event keeps the promises of order and delivery
+pub record ContinuesSession (event : Event) (old : WorldState) (result : Result Step No) (new : WorldState) : Type 0 where
+  pub only : IsOnlyPossibleAnswer event old result
+  pub extended : ExtendsSession event old result new
+  pub order : KeepsNoticesInOrder event old result
+  pub delivery : KeepsReliableDelivery event old result
+  pub benign : FewInvertedBitsKeepSessionBenign event old result

@@ -1,5 +1,5 @@
 //! The state of a session: the endpoints of both sides, and the blocks in transit between them.
-ghost use Rattle.std.specs.Prelude.{◌≡◌, ◌≤◌, ◌<◌, length, IfOk, OnOk, OnErr, None, [], ◌∷◌};
+ghost use Rattle.std.specs.Prelude.{◌≡◌, ◌≤◌, ◌<◌, length, IfOk, OnErr, None, [], ◌∷◌};
 ghost use Rattle.um_air.specs.lapdm_window.declared.Sapi.TheVariants as S;
 ghost use Rattle.um_air.specs.lapdm_window.Ends as R;
 ghost use Rattle.lapdm_frame.specs.Layout.{n201};
@@ -38,8 +38,8 @@ pub(crate) struct WorldState {
 }
 
 impl WorldState {
-    ghost use Rattle.um_link.specs.Abstraction.{IsLayer3CallTo, Represents, IsValidWorld, StepRefines, StepFitsItsActor, sent_frame_count};
-    ghost use Rattle.um_link.specs.Abstraction.{blocks_received_in_step, queued_blocks};
+    ghost use Rattle.um_link.specs.Abstraction.{IsLayer3CallTo, Represents, IsValidWorld, IsWorldStep, StepFitsItsActor, queued_blocks};
+    ghost use Rattle.um_link.specs.Abstraction.{CountsBlocksOfStep, UsesNoRadio};
     ghost use Rattle.um_link.specs.Moves.{AppendsToQueue, ReceivesOldestBlockFrom, LosesOldestBlockFrom};
 
     /// Creates idle endpoints on this channel, and empty queues. Allocates all memory that the session needs.
@@ -165,16 +165,10 @@ impl WorldState {
     ) -> Result<(), No>
         requires valid { IsValidWorld self.old }
         requires call { IsCallAllowedFor (spec_role_of end) sapi (endpoint_call_of call.now) }
-        ensures refines { (event : A.Event) → IsLayer3CallTo event (spec_role_of end) sapi (endpoint_call_of call.now)
-            → StepRefines event self.old (result_with_step result step.new) self.new }
-        ensures valid { IsValidWorld self.new }
-        ensures refused { OnErr result (self.new ≡ self.old) }
+        ensures step { (event : A.Event) → IsLayer3CallTo event (spec_role_of end) sapi (endpoint_call_of call.now)
+            → IsWorldStep event self.old (result_with_step result step.new) self.new }
         ensures out_unchanged { OnErr result (step.new ≡ step.old) }
-        ensures radio_unchanged { OnErr result (radio.new ≡ radio.old) }
-        ensures sent { R.sent radio.new ≡ counter_plus (sent_frame_count (result_with_step result step.new)) (R.sent radio.old) }
-        ensures heard { R.heard radio.new ≡ counter_plus (blocks_received_in_step (result_with_step result step.new))
-            (R.heard radio.old) }
-        ensures who { OnOk result (StepFitsItsActor (spec_step_of step.new)) }
+        ensures radio { CountsBlocksOfStep R.sent R.heard (result_with_step result step.new) radio.old radio.new }
     {
         if self.is_queue_full(end) {
             return Err(No::AirFull);
@@ -200,16 +194,10 @@ impl WorldState {
     ) -> Result<(), No>
         requires valid { IsValidWorld self.old }
         requires places { AreBitIndices inverted_bits.now }
-        ensures refines { StepRefines (E.Deliver (spec_role_of sender) inverted_bits.now) self.old
+        ensures step { IsWorldStep (E.Deliver (spec_role_of sender) inverted_bits.now) self.old
             (result_with_step result step.new) self.new }
-        ensures valid { IsValidWorld self.new }
-        ensures refused { OnErr result (self.new ≡ self.old) }
         ensures out_unchanged { OnErr result (step.new ≡ step.old) }
-        ensures radio_unchanged { OnErr result (radio.new ≡ radio.old) }
-        ensures sent { R.sent radio.new ≡ counter_plus (sent_frame_count (result_with_step result step.new)) (R.sent radio.old) }
-        ensures heard { R.heard radio.new ≡ counter_plus (blocks_received_in_step (result_with_step result step.new))
-            (R.heard radio.old) }
-        ensures who { OnOk result (StepFitsItsActor (spec_step_of step.new)) }
+        ensures radio { CountsBlocksOfStep R.sent R.heard (result_with_step result step.new) radio.old radio.new }
     {
         let end = other_end(sender);
         if self.has_no_queued_block(sender) {
@@ -246,13 +234,9 @@ impl WorldState {
     /// transit.
     fn lose(&mut self, sender: End, step: &mut Step) -> Result<(), No>
         requires valid { IsValidWorld self.old }
-        ensures refines { StepRefines (E.Lose (spec_role_of sender)) self.old (result_with_step result step.new) self.new }
-        ensures valid { IsValidWorld self.new }
-        ensures refused { OnErr result (self.new ≡ self.old) }
+        ensures step { IsWorldStep (E.Lose (spec_role_of sender)) self.old (result_with_step result step.new) self.new }
         ensures out_unchanged { OnErr result (step.new ≡ step.old) }
-        ensures no_radio_use { (sent_frame_count (result_with_step result step.new) ≡ 0)
-            × (blocks_received_in_step (result_with_step result step.new) ≡ 0) }
-        ensures who { OnOk result (StepFitsItsActor (spec_step_of step.new)) }
+        ensures no_radio_use { UsesNoRadio (result_with_step result step.new) }
     {
         if self.has_no_queued_block(sender) {
             return Err(No::Nothing);
@@ -268,15 +252,9 @@ impl WorldState {
     /// Puts a SABM for SAPI 0 from another mobile into the queue to the network.
     fn rival<R: Radio>(&mut self, radio: &mut R, info: &[u8], step: &mut Step) -> Result<(), No>
         requires valid { IsValidWorld self.old }
-        ensures refines { StepRefines (E.Rival info.now) self.old (result_with_step result step.new) self.new }
-        ensures valid { IsValidWorld self.new }
-        ensures refused { OnErr result (self.new ≡ self.old) }
+        ensures step { IsWorldStep (E.Rival info.now) self.old (result_with_step result step.new) self.new }
         ensures out_unchanged { OnErr result (step.new ≡ step.old) }
-        ensures radio_unchanged { OnErr result (radio.new ≡ radio.old) }
-        ensures sent { R.sent radio.new ≡ counter_plus (sent_frame_count (result_with_step result step.new)) (R.sent radio.old) }
-        ensures heard { R.heard radio.new ≡ counter_plus (blocks_received_in_step (result_with_step result step.new))
-            (R.heard radio.old) }
-        ensures who { OnOk result (StepFitsItsActor (spec_step_of step.new)) }
+        ensures radio { CountsBlocksOfStep R.sent R.heard (result_with_step result step.new) radio.old radio.new }
     {
         if self.is_queue_full(End::Mobile) {
             return Err(No::AirFull);
@@ -304,16 +282,10 @@ impl WorldState {
     ) -> Result<(), No>
         requires valid { IsValidWorld self.old }
         requires possible { IsPossibleAirEvent air.now }
-        ensures refines { StepRefines (spec_radio_path_event (spec_role_of sender) air.now) self.old
+        ensures step { IsWorldStep (spec_radio_path_event (spec_role_of sender) air.now) self.old
             (result_with_step result step.new) self.new }
-        ensures valid { IsValidWorld self.new }
-        ensures refused { OnErr result (self.new ≡ self.old) }
         ensures out_unchanged { OnErr result (step.new ≡ step.old) }
-        ensures radio_unchanged { OnErr result (radio.new ≡ radio.old) }
-        ensures sent { R.sent radio.new ≡ counter_plus (sent_frame_count (result_with_step result step.new)) (R.sent radio.old) }
-        ensures heard { R.heard radio.new ≡ counter_plus (blocks_received_in_step (result_with_step result step.new))
-            (R.heard radio.old) }
-        ensures who { OnOk result (StepFitsItsActor (spec_step_of step.new)) }
+        ensures radio { CountsBlocksOfStep R.sent R.heard (result_with_step result step.new) radio.old radio.new }
     {
         match air {
             Air::Deliver => self.deliver(radio, sender, &[], step),
@@ -330,15 +302,9 @@ impl WorldState {
     ) -> Result<(), No>
         requires valid { IsValidWorld self.old }
         requires possible { IsPossibleEvent event.now }
-        ensures refines { StepRefines (spec_event_of event.now) self.old (result_with_step result step.new) self.new }
-        ensures valid { IsValidWorld self.new }
-        ensures refused { OnErr result (self.new ≡ self.old) }
+        ensures step { IsWorldStep (spec_event_of event.now) self.old (result_with_step result step.new) self.new }
         ensures out_unchanged { OnErr result (step.new ≡ step.old) }
-        ensures radio_unchanged { OnErr result (radio.new ≡ radio.old) }
-        ensures sent { R.sent radio.new ≡ counter_plus (sent_frame_count (result_with_step result step.new)) (R.sent radio.old) }
-        ensures heard { R.heard radio.new ≡ counter_plus (blocks_received_in_step (result_with_step result step.new))
-            (R.heard radio.old) }
-        ensures who { OnOk result (StepFitsItsActor (spec_step_of step.new)) }
+        ensures radio { CountsBlocksOfStep R.sent R.heard (result_with_step result step.new) radio.old radio.new }
     {
         match event {
             Event::Open(info) => self.ask(radio, End::Mobile, Sapi::Zero, &Call::Open(info), step),

@@ -1,12 +1,10 @@
 //! A session between a mobile and a network. Each call of `step` carries out one event.
-ghost use Rattle.std.specs.Prelude.{◌≡◌, ◌≤◌, IfOk, OnOk, OnErr};
+ghost use Rattle.std.specs.Prelude.{◌≡◌, ◌≤◌, IfOk, OnErr};
 ghost use Rattle.lapdm_frame.specs.declared.Channel.TheVariants as C;
 ghost use Rattle.um_air.specs.Air.{initial_session};
-ghost use Rattle.um_block.specs.Tallies.{counter_plus};
-ghost use Rattle.um_link.specs.Naming.{spec_event_of, spec_step_of, result_with_step};
-ghost use Rattle.um_link.specs.Abstraction.{Represents, StepRefines, IsOnlyPossibleAnswer, StepFitsItsActor, sent_frame_count};
-ghost use Rattle.um_link.specs.Abstraction.{blocks_received_in_step};
-ghost use Rattle.um_link.specs.Sessions.{ExtendsSession, KeepsNoticesInOrder, KeepsReliableDelivery, FewInvertedBitsKeepSessionBenign};
+ghost use Rattle.um_link.specs.Naming.{spec_event_of, result_with_step};
+ghost use Rattle.um_link.specs.Abstraction.{Represents, IsWorldStep, CountsBlocksOfStep};
+ghost use Rattle.um_link.specs.Sessions.{ContinuesSession};
 ghost use Rattle.um_link.specs.Possible.{IsPossibleEvent};
 ghost use Rattle.um_air.specs.Sessions.{AreOctets, EventMessageIsOctets};
 ghost use Rattle.um_link.specs.Naming.{spec_request_of, spec_role_of};
@@ -70,17 +68,9 @@ impl World {
     /// (`Empty`) or more than N201 octets (`TooLong`).
     pub fn step<R: Radio>(&mut self, radio: &mut R, event: &Event<'_>) -> Result<Step, No>
         requires { IsPossibleEvent event.now }
-        ensures refines { StepRefines (spec_event_of event.now) self.old result self.new }
-        ensures only { IsOnlyPossibleAnswer (spec_event_of event.now) self.old result }
-        ensures session { ExtendsSession (spec_event_of event.now) self.old result self.new }
-        ensures refused { OnErr result (self.new ≡ self.old) }
-        ensures radio_unchanged { OnErr result (radio.new ≡ radio.old) }
-        ensures sent { R.sent radio.new ≡ counter_plus (sent_frame_count result) (R.sent radio.old) }
-        ensures heard { R.heard radio.new ≡ counter_plus (blocks_received_in_step result) (R.heard radio.old) }
-        ensures who { IfOk result (λ step. StepFitsItsActor (spec_step_of step)) }
-        ensures order { KeepsNoticesInOrder (spec_event_of event.now) self.old result }
-        ensures delivery { KeepsReliableDelivery (spec_event_of event.now) self.old result }
-        ensures benign { FewInvertedBitsKeepSessionBenign (spec_event_of event.now) self.old result }
+        ensures step { IsWorldStep (spec_event_of event.now) self.old result self.new }
+        ensures session { ContinuesSession (spec_event_of event.now) self.old result self.new }
+        ensures radio { CountsBlocksOfStep R.sent R.heard result radio.old radio.new }
         ensures octets { EventMessageIsOctets (spec_event_of event.now) }
     {
         let mut step = Step::new();
@@ -99,19 +89,10 @@ impl World {
         step: &mut Step,
     ) -> Result<(), No>
         requires { IsPossibleEvent event.now }
-        ensures refines { StepRefines (spec_event_of event.now) self.old (result_with_step result step.new) self.new }
-        ensures only { IsOnlyPossibleAnswer (spec_event_of event.now) self.old (result_with_step result step.new) }
-        ensures session { ExtendsSession (spec_event_of event.now) self.old (result_with_step result step.new) self.new }
-        ensures refused { OnErr result (self.new ≡ self.old) }
+        ensures step { IsWorldStep (spec_event_of event.now) self.old (result_with_step result step.new) self.new }
+        ensures session { ContinuesSession (spec_event_of event.now) self.old (result_with_step result step.new) self.new }
         ensures out_unchanged { OnErr result (step.new ≡ step.old) }
-        ensures radio_unchanged { OnErr result (radio.new ≡ radio.old) }
-        ensures sent { R.sent radio.new ≡ counter_plus (sent_frame_count (result_with_step result step.new)) (R.sent radio.old) }
-        ensures heard { R.heard radio.new ≡ counter_plus (blocks_received_in_step (result_with_step result step.new))
-            (R.heard radio.old) }
-        ensures who { OnOk result (StepFitsItsActor (spec_step_of step.new)) }
-        ensures order { KeepsNoticesInOrder (spec_event_of event.now) self.old (result_with_step result step.new) }
-        ensures delivery { KeepsReliableDelivery (spec_event_of event.now) self.old (result_with_step result step.new) }
-        ensures benign { FewInvertedBitsKeepSessionBenign (spec_event_of event.now) self.old (result_with_step result step.new) }
+        ensures radio { CountsBlocksOfStep R.sent R.heard (result_with_step result step.new) radio.old radio.new }
         ensures octets { EventMessageIsOctets (spec_event_of event.now) }
     {
         law_event_answer_is_unique();

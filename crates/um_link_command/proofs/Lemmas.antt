@@ -1,28 +1,30 @@
 -- Runs of the `link` command and the sessions that they carry out.
 use Rattle.{
-  std.proofs.Common.{All, Err, List, None, Ok, Option, Result, Some, [], ap, arith, refl, suc, zero, ℕ, ◌++◌, ◌+◌, ◌∙◌},
-  std.proofs.{Common.{◌∷◌, ◌≡◌, ◌≤◌}, lemmas.List.Elements.{All-append, All-cons, All-head, All-nil, All-tail}},
+  std.{
+    proofs.Common.{All, Err, List, None, Ok, Option, Result, Some, [], ap, refl, ℕ, ◌++◌, ◌∙◌, ◌∷◌, ◌≡◌, ◌≤◌},
+    proofs.lemmas.List.{Elements.{All-append, All-cons, All-head, All-nil, All-tail}, Sums.sum_by_push},
+    specs.List.sum_by,
+  },
   um_driver.proofs.Outputs.{IsProjectedBy, Runs-keep, meaning_of_answer, prescribed_by, run_by, step_of_answer, projected},
   um_driver.{proofs.Runs.without_memory, specs.{Rules.{Runs, answer_to_line, answer_to_meaning}, Table.{EndsAsPrescribed, IsRun}}},
   um_driver.specs.declared.status.Status.{TheVariants.NoMemory, Status},
   um_link.{
     proofs.um_air.Lemmas.{air_claims, air_order, air_step_only, few_inverted_is_benign, longer_run, some_answer},
-    specs.{Naming.spec_answer_of, declared.events.{No.No, Step.Step}, lapdm_frame.declared.Channel.Channel, um_air.Air.{Answer, Event}},
-    specs.um_air.{Air.{IsAirRun, initial_session, IsAirStep}, Sessions.{EventInvertsFewBits, EventMessageIsOctets, AllEventsInvertFewBits}},
-    specs.{um_air.Computed.air_step, um_block.{Tallies.{counter_plus_one, counter_plus}, declared.received.Received.Received}},
+    proofs.um_block.Tallies.raised_by-more,
+    specs.{lapdm_frame.declared.Channel.Channel, um_air.Air.{Answer, Event, IsAirRun, initial_session, IsAirStep}},
+    specs.um_air.{Sessions.{EventInvertsFewBits, EventMessageIsOctets, AllEventsInvertFewBits}, Computed.air_step},
+    specs.um_block.Tallies.counter_plus,
   },
   um_script.{
     proofs.ScriptLines.{octet_event, script_line_means},
     specs.{ScriptLines.{ScriptLineMeans, script_line}, um_lines.declared.fault.LineFault.LineFault},
   },
   um_link_command.specs.{
-    Courses.{RadioCounters, SessionWithRadioCounters, blocks_received_in_step, received_block_count, link_rules_with_radio_counters},
-    Courses.{sent_frame_count, total_blocks_received, total_frames_sent},
+    Courses.{RadioCounters, SessionWithRadioCounters, link_rules_with_radio_counters, total_blocks_received, total_frames_sent},
     Promises.{DeliveryLawsHold, EventsInvertFewBits, IsLinkCommandRun, RadioCountersRose},
     Sessions.{LinkSession, answer_to_event, answer_to_script_line, link_command_rules, new_session},
   },
 }
-use Rattle.um_link.specs.Abstraction as L
 
 -- ## Octets: The messages in a session consist of octets (numbers from 0 to 255). `AllEventsInvertFewBits` requires this, besides few
 -- inverted bits.
@@ -41,45 +43,10 @@ events_invert_few (event ∷ events) few octets = (
 
 -- ## Tallying: The counters of the radio rise by one for each block that it sends or receives.
 
-raised_by-more : (a b n m : ℕ) → m ≡ b + a → counter_plus a (counter_plus b n) ≡ counter_plus m n
-raised_by-more zero b n m e = ap (λ k. counter_plus k n) (let f : b ≡ m = omega arith in f)
-raised_by-more (suc a) b n m e = ap counter_plus_one (raised_by-more a b n (b + a) refl)
-    ∙ ap (λ k. counter_plus k n) (let f : suc (b + a) ≡ m = omega arith in f)
-
-total_frames_sent-append : (xs ys : List Answer) → total_frames_sent (xs ++ ys) ≡ total_frames_sent xs + total_frames_sent ys
-total_frames_sent-append [] ys = omega arith
-total_frames_sent-append (x ∷ xs) ys = omega (arith, total_frames_sent-append xs ys)
-
-total_blocks_received-append : (xs ys : List Answer) →
-    total_blocks_received (xs ++ ys) ≡ total_blocks_received xs + total_blocks_received ys
-total_blocks_received-append [] ys = omega arith
-total_blocks_received-append (x ∷ xs) ys = omega (arith, total_blocks_received-append xs ys)
-
 -- counting one more answer on top of the earlier ones gives the same counters as counting all of them at once
-pub frames_sent-push : (xs : List Answer) (x : Answer) (t : ℕ) →
-    counter_plus (sent_frame_count x) (counter_plus (total_frames_sent xs) t) ≡ counter_plus (total_frames_sent (xs ++ x ∷ [])) t
-frames_sent-push xs x t =
-    raised_by-more (sent_frame_count x) (total_frames_sent xs) t _ (omega (arith, total_frames_sent-append xs (x ∷ [])))
-
-pub blocks_received-push : (xs : List Answer) (x : Answer) (t : ℕ) →
-    counter_plus (blocks_received_in_step x) (counter_plus (total_blocks_received xs) t) ≡
-    counter_plus (total_blocks_received (xs ++ x ∷ [])) t
-blocks_received-push xs x t =
-    raised_by-more (blocks_received_in_step x) (total_blocks_received xs) t _ (omega (arith, total_blocks_received-append xs (x ∷ [])))
-
--- ## Stepping: The answer to a script line is the text of what `World::step_into` returns for its event.
-
-pub same_frames : (result : Result Step No) → L.sent_frame_count result ≡ sent_frame_count (spec_answer_of result)
-same_frames (Ok step) = refl
-same_frames (Err why) = refl
-
-same_reports : (received : Option Received) → L.arrival_count received ≡ received_block_count received
-same_reports None = refl
-same_reports (Some report) = refl
-
-pub same_arrivals : (result : Result Step No) → L.blocks_received_in_step result ≡ blocks_received_in_step (spec_answer_of result)
-same_arrivals (Ok step) = same_reports step.received
-same_arrivals (Err why) = refl
+pub raised-push : (count : Answer → ℕ) (xs : List Answer) (x : Answer) (t : ℕ) →
+    counter_plus (count x) (counter_plus (sum_by count xs) t) ≡ counter_plus (sum_by count (xs ++ x ∷ [])) t
+raised-push count xs x t = raised_by-more (count x) (sum_by count xs) t _ (sum_by_push count xs x)
 
 -- ## Courses: The events and answers of a session that a run carries out lead from the initial state to its present state.
 

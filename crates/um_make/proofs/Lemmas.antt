@@ -1,27 +1,35 @@
 -- Generated sessions: their events, their length and their counters.
 use Rattle.{
-  std.proofs.Common.{inl, inr, rules, All, Bool, Err, List, None, Ok, Option, Result, Some, [], append_assoc, ap, arith, count_by, false},
-  std.proofs.Common.{if◌then◌else◌, is_some, length-append, length, map, nat_eq, refl, suc, sum, sym, true, zero, ℕ, ◌%◌},
-  std.proofs.Common.{◌&&◌, ◌*◌, ◌++◌, ◌+◌, ◌-◌, ◌<◌, ◌^◌, ◌∙◌, ◌∷◌, ◌≡◌, ◌≤◌},
-  std.proofs.lemmas.{Bool.cases_Bool, List.{Elements.{All-map, All-cons, All-nil, filter_map-append}, FromFn.length-map-range_with_len}},
-  std.{proofs.lemmas.List.{Sums.{sum_by-append, sum_by_push}, append-nil}, specs.List.{filter_map, range_with_len, sum_by}},
+  std.{
+    proofs.{
+      Common.{inl, inr, rules, All, Bool, List, None, Option, Result, Some, [], append_assoc, ap, arith, false, if◌then◌else◌},
+      Common.{is_some, length-append, length, map, nat_eq, refl, suc, sum, sym, true, zero, ℕ, ◌%◌, ◌&&◌, ◌*◌, ◌++◌},
+      Common.{◌+◌, ◌-◌, ◌<◌, ◌^◌, ◌∙◌, ◌∷◌, ◌≡◌, ◌≤◌},
+      lemmas.{Bool.cases_Bool, List.{Elements.{All-map, All-cons, All-nil, filter_map-append}, FromFn.length-map-range_with_len}},
+      lemmas.List.{Sums.{sum_by-append, sum_by_push}, append-nil},
+    },
+    specs.List.{filter_map, range_with_len, sum_by},
+  },
   um_link.{
     proofs.um_air.Lemmas.{air_counts, air_step_only, few_inverted_is_benign, some_run},
     specs.{
-      Abstraction.{Represents, arrival_count, blocks_received_in_step, sent_frame_count},
+      Abstraction.Represents,
       Naming.spec_answer_of,
       Sessions.ExtendsSession,
       declared.{events.{No.No, Step.Step}, links.WorldState.WorldState},
       lapdm_frame.declared.Channel.TheVariants.Sdcch,
       lapdm_link.{
-        Claims.{AckedAtMostDelivered, LogLine, Notified, acked_number_in_notice, acked_message_numbers, answer_log_lines},
-        Claims.{message_in_got_notice, delivered_messages, is_same_role, is_same_sapi, notice_in_line, notice_log_lines, notices_in_log},
+        Claims.{AckedAtMostDelivered, LogLine, Notified, acked_number_in_notice, answer_log_lines, message_in_got_notice, is_same_role},
+        Claims.{is_same_sapi, notice_in_line, notice_log_lines, notices_in_log},
         Events.{Ask, BySide, Deliver, Lose, Nobody, Open, OtherMobile, Send, T200Expiry, Who, other},
       },
       lapdm_window.{Ends.{Mobile, Network, Role}, declared.{Notice.Notice, Sapi.{TheVariants.Zero, Sapi}}, segmenting.Segments.Message},
-      um_air.{Air.{AirState, Accepts, Answer, Event, IsAirRun, Refuses, initial_session}, Sessions.EventMessageIsOctets},
-      um_air.Sessions.{AllEventsInvertFewBits, IsBenign, answer_without_blocks, session_log},
-      um_block.{Tallies.{counter_plus_one, counter_plus}, declared.received.Received.Received},
+      um_air.{
+        Air.{AirState, Accepts, Answer, Event, IsAirRun, Refuses, initial_session},
+        Sessions.{EventMessageIsOctets, AllEventsInvertFewBits, IsBenign, answer_without_blocks, session_log},
+        Counts.{arrival_count, blocks_received_in_step, sent_frame_count},
+      },
+      um_block.declared.received.Received.Received,
     },
   },
   um_make.specs.{
@@ -32,7 +40,6 @@ use Rattle.{
     Generated.{message_length, messages, message, message_segment_count, segment_transmissions, segment_transmission, sender},
     Runs.{AckedAtMostReceived, IsGeneratedSession, answers_to, generated_answers, generated_summary},
     Summaries.{crc_fails, endpoint_summary, session_summary, crc_passes, is_loss_event, reports_bad_crc, reports_good_crc},
-    Summaries.sent_block_count,
     RunProgress.IsRunInProgress,
     declared.{course.SessionStage.{TheVariants.SendNext, SessionStage}, end_summary.EndpointSummary.EndpointSummary},
     declared.summary.Summary.Summary,
@@ -138,26 +145,17 @@ counts-append xs ys a b c h k = record {
   );
 }
 
--- ## Tallying: The radio's counters rise by one for each block that it sends or receives.
+-- ## Tallying: The summary counts the blocks that the radio counts.
 
-pub raised_by-more : (a b n m : ℕ) → m ≡ b + a → counter_plus a (counter_plus b n) ≡ counter_plus m n
-raised_by-more zero b n m e = ap (λ k. counter_plus k n) (let f : b ≡ m = omega arith in f)
-raised_by-more (suc a) b n m e = ap counter_plus_one (raised_by-more a b n (b + a) refl)
-    ∙ ap (λ k. counter_plus k n) (let f : suc (b + a) ≡ m = omega arith in f)
-
-pub same_frame_count : (r : Result Step No) → sent_block_count (spec_answer_of r) ≡ sent_frame_count r
-same_frame_count (Ok s) = refl
-same_frame_count (Err reason) = refl
-
-pub same_block_count : (r : Result Step No)
-    → one_if_true (reports_good_crc (spec_answer_of r)) + one_if_true (reports_bad_crc (spec_answer_of r))
-    ≡ blocks_received_in_step r
-same_block_count (Ok s) = by s.received
+-- an answer reports each received block with a good or with a bad CRC
+pub same_block_count : (answer : Answer) →
+    one_if_true (reports_good_crc answer) + one_if_true (reports_bad_crc answer) ≡ blocks_received_in_step answer
+same_block_count (Accepts step) = by step.received
   where
     by : (report : Option Received) → one_if_true (crc_passes report) + one_if_true (crc_fails report) ≡ arrival_count report
     by None = refl
     by (Some r) = elim (cases_Bool (is_some r.accepted)) [ inl good ↦ rw good refl | inr bad ↦ rw bad refl ]
-same_block_count (Err reason) = refl
+same_block_count (Refuses why) = refl
 
 -- ## Totals: The counters of a session with one more event are the earlier counters plus the counts of this event.
 
@@ -226,7 +224,7 @@ session_summary-push : (es : List Event) (answers : List Answer) (e : Event) (a 
     new ≡ session_summary (es ++ e ∷ []) (answers ++ a ∷ [])
 session_summary-push es answers e a old new same h k = same_summary new _
     (omega (arith, ap (λ (s : Summary). s.steps) h, k.steps, length-append es (e ∷ [])))
-    (omega (arith, ap (λ (s : Summary). s.sent_blocks) h, k.sent_blocks, sum_by_push sent_block_count answers a))
+    (omega (arith, ap (λ (s : Summary). s.sent_blocks) h, k.sent_blocks, sum_by_push sent_frame_count answers a))
     (omega (arith, ap (λ (s : Summary). s.good_blocks) h, k.good_blocks, sum_by_push (λ x. one_if_true (reports_good_crc x)) answers a))
     (omega (arith, ap (λ (s : Summary). s.bad_blocks) h, k.bad_blocks, sum_by_push (λ x. one_if_true (reports_bad_crc x)) answers a))
     (omega (arith, ap (λ (s : Summary). s.lost_blocks) h, k.lost_blocks, sum_by_push (λ x. one_if_true (is_loss_event x)) es e))

@@ -8,9 +8,10 @@ use Rattle.um_link.specs.lapdm_window.Ends.{Role, Mobile, Network}
 use Rattle.um_link.specs.lapdm_link.Events.{Who, BySide}
 use Rattle.um_link.specs.lapdm_link.Claims.{message_in_got_notice, acked_number_in_notice, is_same_role, is_same_sapi}
 use Rattle.um_link.specs.um_air.Air.{Event, Answer, Refuses, Accepts}
+use Rattle.um_link.specs.um_air.Counts.{sent_frame_count}
 use Rattle.um_make.specs.declared.end_summary.EndpointSummary.{EndpointSummary}
 use Rattle.um_make.specs.declared.summary.Summary.{Summary}
-use Rattle.um_make.specs.Summaries.{sent_block_count, reports_good_crc, reports_bad_crc, is_loss_event}
+use Rattle.um_make.specs.Summaries.{reports_good_crc, reports_bad_crc, is_loss_event}
 
 -- the messages and acknowledgements in these notices raise the counters from `old` to `new`
 pub record CountsNotices (notices : List Notice) (old new : EndpointSummary) : Type 0 where
@@ -49,7 +50,7 @@ sapi0_notices_in_answer r (Accepts step) = sapi0_notices_of_side r step.who step
 -- the blocks and notices of this answer raise the counters from `old` to `new`; the event itself is not counted
 pub record CountsAnswer (answer : Answer) (old new : Summary) : Type 0 where
   pub steps : new.steps ≡ old.steps
-  pub sent_blocks : new.sent_blocks ≡ old.sent_blocks + sent_block_count answer
+  pub sent_blocks : new.sent_blocks ≡ old.sent_blocks + sent_frame_count answer
   pub good_blocks : new.good_blocks ≡ old.good_blocks + one_if_true (reports_good_crc answer)
   pub bad_blocks : new.bad_blocks ≡ old.bad_blocks + one_if_true (reports_bad_crc answer)
   pub lost_blocks : new.lost_blocks ≡ old.lost_blocks
@@ -59,7 +60,7 @@ pub record CountsAnswer (answer : Answer) (old new : Summary) : Type 0 where
 -- this event and its answer raise the counters from `old` to `new`
 pub record CountsStep (event : Event) (answer : Answer) (old new : Summary) : Type 0 where
   pub steps : new.steps ≡ old.steps + 1
-  pub sent_blocks : new.sent_blocks ≡ old.sent_blocks + sent_block_count answer
+  pub sent_blocks : new.sent_blocks ≡ old.sent_blocks + sent_frame_count answer
   pub good_blocks : new.good_blocks ≡ old.good_blocks + one_if_true (reports_good_crc answer)
   pub bad_blocks : new.bad_blocks ≡ old.bad_blocks + one_if_true (reports_bad_crc answer)
   pub lost_blocks : new.lost_blocks ≡ old.lost_blocks + one_if_true (is_loss_event event)

@@ -1,5 +1,5 @@
 -- The counters of a session, computed from its events and their answers (this project's own rule).
-use Rattle.std.specs.Prelude.{ℕ, Bool, true, false, not, List, length, sum, count_by, Option, Some, None, is_some}
+use Rattle.std.specs.Prelude.{Bool, true, false, not, List, length, sum, count_by, Option, Some, None, is_some}
 use Rattle.std.specs.List.{sum_by}
 use Rattle.um_link.specs.lapdm_window.declared.Sapi.TheVariants.{Zero}
 use Rattle.um_link.specs.lapdm_window.Ends.{Role, Mobile, Network}
@@ -7,14 +7,10 @@ use Rattle.um_link.specs.um_block.declared.received.Received.{Received}
 use Rattle.um_link.specs.lapdm_link.Claims.{LogLine, delivered_messages, acked_message_numbers}
 use Rattle.um_link.specs.lapdm_link.Events.{Lose}
 use Rattle.um_link.specs.um_air.Air.{Event, Answer, Refuses, Accepts}
+use Rattle.um_link.specs.um_air.Counts.{sent_frame_count}
 use Rattle.um_link.specs.um_air.Sessions.{session_log}
 use Rattle.um_make.specs.declared.end_summary.EndpointSummary.{EndpointSummary}
 use Rattle.um_make.specs.declared.summary.Summary.{Summary}
-
--- the number of blocks that an answer reports as sent
-abbrev pub sent_block_count : Answer → ℕ
-sent_block_count (Refuses why) = 0
-sent_block_count (Accepts step) = length step.frames
 
 -- whether a block was received with a good CRC
 abbrev pub crc_passes : Option Received → Bool
@@ -54,7 +50,7 @@ endpoint_summary side log = record {
 abbrev pub session_summary : (events : List Event) (answers : List Answer) → Summary
 session_summary events answers = record {
   steps = length events;
-  sent_blocks = sum_by sent_block_count answers;
+  sent_blocks = sum_by sent_frame_count answers;
   good_blocks = count_by reports_good_crc answers;
   bad_blocks = count_by reports_bad_crc answers;
   lost_blocks = count_by is_loss_event events;

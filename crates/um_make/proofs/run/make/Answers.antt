@@ -1,11 +1,11 @@
 -- Each round of the loop counts one more event and its answer, and the radio counts the same blocks.
 use Rattle.{
-  std.proofs.Common.{◌≡◌, ◌∙◌, ap, ℕ, ◌+◌, arith, subst, sym},
-  um_link.specs.{um_block.Tallies.counter_plus, Naming.result_with_step, Abstraction.{sent_frame_count, blocks_received_in_step}},
+  std.proofs.Common.{◌≡◌, ◌∙◌, ap, ◌+◌, arith, subst, sym},
+  um_link.{proofs.um_block.Tallies.raised_by-more, specs.{Naming.{result_with_step, spec_answer_of}, um_block.Tallies.counter_plus}},
+  um_link.specs.um_air.Counts.{sent_frame_count, blocks_received_in_step},
   um_make.{
     specs.{Generated.generated_events, Runs.AckedAtMostReceived, declared.summary.Summary.Summary},
-    proofs.Lemmas.{progress-start, progress-step, counters_bound, is_generated_summary, acked_at_most_received},
-    proofs.Lemmas.{raised_by-more, same_frame_count, same_block_count},
+    proofs.Lemmas.{progress-start, progress-step, counters_bound, is_generated_summary, acked_at_most_received, same_block_count},
   },
 }
 use Rattle.um_make.proofs.run.make.Goals as goal
@@ -27,21 +27,21 @@ loop-event-init g c =
 
 pub loop-event-preserved : goal.loop-event-preserved
 loop-event-preserved g c =
-    let answer = result_with_step c.step_into-done.result c.step_into-done.new.step in
+    let result = result_with_step c.step_into-done.result c.step_into-done.new.step in
+    let answer = spec_answer_of result in
+    let radio = c.step_into-done.ensures.radio in
     let old = c.loop-event.summary in
     let new = c.count_step.new.self in
     let counts = c.count_step.ensures.counts in
-    let sent : new.sent_blocks ≡ old.sent_blocks + sent_frame_count answer = counts.sent_blocks
-    ∙ ap (λ (k : ℕ). old.sent_blocks + k) (same_frame_count answer) in
     let heard : new.good_blocks + new.bad_blocks ≡ (old.good_blocks + old.bad_blocks) + blocks_received_in_step answer =
     omega (arith, counts.good_blocks, counts.bad_blocks, same_block_count answer) in
     record {
       underway = progress-step c.args.tsc (generated_events c.args.n) c.loop-event.script c.next.new.self c.loop-event.world
-          c.step_into-done.new.self old new _ answer c.loop-event.invariant.underway c.in-Some.ensures.event
-          c.step_into-done.ensures.session counts c.count_step.ensures.rises;
-      sent = c.step_into-done.ensures.sent ∙ ap (counter_plus (sent_frame_count answer)) c.loop-event.invariant.sent
-          ∙ raised_by-more (sent_frame_count answer) old.sent_blocks _ new.sent_blocks sent;
-      heard = c.step_into-done.ensures.heard ∙ ap (counter_plus (blocks_received_in_step answer)) c.loop-event.invariant.heard
+          c.step_into-done.new.self old new _ result c.loop-event.invariant.underway c.in-Some.ensures.event
+          c.step_into-done.ensures.session.extended counts c.count_step.ensures.rises;
+      sent = radio.sent_rose ∙ ap (counter_plus (sent_frame_count answer)) c.loop-event.invariant.sent
+          ∙ raised_by-more (sent_frame_count answer) old.sent_blocks _ new.sent_blocks counts.sent_blocks;
+      heard = radio.heard_rose ∙ ap (counter_plus (blocks_received_in_step answer)) c.loop-event.invariant.heard
           ∙ raised_by-more (blocks_received_in_step answer) (old.good_blocks + old.bad_blocks) _ (new.good_blocks + new.bad_blocks) heard;
     }
 

@@ -1,11 +1,11 @@
 use Rattle.{
   std.proofs.Common.{None, Some, ap, refl, sym, ◌∙◌},
   um_link.specs.{Naming.{spec_answer_of, spec_event_of, result_with_step}, um_block.Tallies.counter_plus},
-  um_link.proofs.um_air.Lemmas.air_step_only,
+  um_link.{specs.um_air.Counts.{sent_frame_count, blocks_received_in_step}, proofs.um_air.Lemmas.air_step_only},
   um_script.{specs.ScriptLines.ScriptLineMeans, proofs.ScriptLines.{script_line_meaning, script_line_refused}},
   um_link_command.{
-    specs.{Courses.{sent_frame_count, blocks_received_in_step}, Sessions.session_with_step},
-    proofs.Lemmas.{same_frames, same_arrivals, frames_sent-push, blocks_received-push},
+    specs.Sessions.session_with_step,
+    proofs.Lemmas.raised-push,
   },
 }
 use Rattle.um_link_command.proofs.link.LinkCommandCommand.answer.Goals as goal
@@ -16,7 +16,7 @@ returns-in-Step-clause-answered g c = λ a (represents, sent_is, reception_is).
     let event = spec_event_of c.in-Step.event in
     let result = result_with_step c.step_into-done.result c.step_into-done.new.step in
     let answer = spec_answer_of result in
-    let next = done.refines a.session.air represents in
+    let next = done.step.refines a.session.air represents in
     let same : ScriptLineMeans c.args.line.now (Some event) = rw c.in-Step.is at c.in-Ok.ensures.means in (
       record { session = session_with_step a.session event answer next.0; initial_counters = a.initial_counters },
       rw (
@@ -26,12 +26,10 @@ returns-in-Step-clause-answered g c = λ a (represents, sent_is, reception_is).
       ) refl,
       (
         next.1,
-        done.sent ∙ ap (λ n. counter_plus n (g.R.Radio.sent c.args.self.now.radio.now)) (same_frames result)
-            ∙ ap (counter_plus (sent_frame_count answer)) sent_is
-            ∙ frames_sent-push a.session.answers answer a.initial_counters.sent_blocks,
-        done.heard ∙ ap (λ n. counter_plus n (g.R.Radio.heard c.args.self.now.radio.now)) (same_arrivals result)
-            ∙ ap (counter_plus (blocks_received_in_step answer)) reception_is
-            ∙ blocks_received-push a.session.answers answer a.initial_counters.received_blocks,
+        done.radio.sent_rose ∙ ap (counter_plus (sent_frame_count answer)) sent_is
+            ∙ raised-push sent_frame_count a.session.answers answer a.initial_counters.sent_blocks,
+        done.radio.heard_rose ∙ ap (counter_plus (blocks_received_in_step answer)) reception_is
+            ∙ raised-push blocks_received_in_step a.session.answers answer a.initial_counters.received_blocks,
       ),
     )
 
