@@ -120,7 +120,7 @@ module _ (pass : ViterbiPass) (u : List ℕ) (span : WordSpan) (is : IsCompleteP
     v = word_deviating_at u (decision_rows pass) 0 departure.place
 
     pub value_is : likelihood (soft_bits_of_pass pass) (encoding v)
-        ≡ span.likelihood -ℤ departure.loss
+        ≡ span.metric -ℤ departure.loss
     value_is =
         let value = deviation_value (soft_bits_of_pass pass) (decision_rows pass) (losses_of_pass pass) (deviations_in_span u span)
         span.from followed
@@ -129,7 +129,7 @@ module _ (pass : ViterbiPass) (u : List ℕ) (span : WordSpan) (is : IsCompleteP
         let b = best.0.loss in
         omega (arith, ints)
 
-    pub deviation-fits : FitsSigned w32 (span.likelihood -ℤ departure.loss)
+    pub deviation-fits : FitsSigned w32 (span.metric -ℤ departure.loss)
     deviation-fits = rw (← value_is)
         (likelihood-fits (soft_bits_of_pass pass) (encoding v) is.soft
         (AllBits-coded v)
@@ -137,7 +137,7 @@ module _ (pass : ViterbiPass) (u : List ℕ) (span : WordSpan) (is : IsCompleteP
 
     pub best_deviation : (x : Deviation) → x.word_index ≡ span.word_index → x.departure.place ≡ departure.place →
         x.departure.state ≡ departure.state → x.departure.bit ≡ get_or u departure.place 0 →
-        x.likelihood ≡ span.likelihood -ℤ departure.loss →
+        x.metric ≡ span.metric -ℤ departure.loss →
         IsMostLikelyDeviation pass u span (Some x)
     best_deviation x list place state bit likely =
         let within = best.1.in_range in
@@ -175,7 +175,7 @@ module _ (pass : ViterbiPass) (u : List ℕ) (x : Deviation) (is : IsCompletePas
 
   pub IsSpanOfWord-after : (old span : WordSpan) → IsSpanOfWord pass u old → x.departure.place < old.to →
       span.from ≡ x.departure.place + 1 → span.to ≡ old.to →
-      span.likelihood ≡ old.likelihood → span.state ≡ next_trellis_state x.departure.state (get_or u x.departure.place 0) →
+      span.metric ≡ old.metric → span.state ≡ next_trellis_state x.departure.state (get_or u x.departure.place 0) →
       IsSpanOfWord pass u span
   IsSpanOfWord-after old span old_is within from to likely state =
       let end = old_is.span_ends_before_tail in record {
@@ -190,7 +190,7 @@ module _ (pass : ViterbiPass) (u : List ℕ) (x : Deviation) (is : IsCompletePas
   pub IsSpanOfWord-deviation : (v : List ℕ) (span : WordSpan) → v ≡ word_of_deviation pass u x →
       IsCandidate (soft_bits_of_pass pass) v →
       span.from ≡ x.departure.place + 1 →
-      span.to + 4 ≡ pass.bits → span.likelihood ≡ x.likelihood →
+      span.to + 4 ≡ pass.bits → span.metric ≡ x.metric →
       span.state ≡ next_trellis_state x.departure.state (get_or v x.departure.place 0) →
       IsSpanOfWord pass v span
   IsSpanOfWord-deviation v span written v_is from to likely state =

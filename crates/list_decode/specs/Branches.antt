@@ -1,7 +1,7 @@
 -- A span is a range of positions in a returned word. A branch consists of a span and the most likely word that deviates from the returned
 -- word within the span.
 use Rattle.std.specs.Prelude.{ℕ, ◌≡◌, ◌≢◌, ◌≤◌, ◌<◌, ◌+◌, List, [], length}
-use Rattle.std.specs.Prelude.{take, slice_index, slice_index_or, Option, Some, None}
+use Rattle.std.specs.Prelude.{take, slice_index, slice_index_or, IfSome, Option, Some, None}
 use Rattle.weight_bound.specs.conv_code.Code.{encoding}
 use Rattle.weight_bound.specs.conv_code.Likelihood.{likelihood, RanksAfter}
 use Rattle.list_decode.specs.Classes.{DeviationClass, IsInClass}
@@ -26,7 +26,7 @@ word_of_deviation pass u x = word_deviating_at u (decision_rows pass) 0 x.depart
 -- from the start of the span on
 pub record IsSpanOfWord (pass : ViterbiPass) (word : List ℕ) (span : WordSpan) : Type 0 where
   pub follows : FollowsSurvivors span.from word (decision_rows pass) 0
-  pub value : span.likelihood ≡ likelihood (soft_bits_of_pass pass) (encoding word)
+  pub value : span.metric ≡ likelihood (soft_bits_of_pass pass) (encoding word)
   pub order : span.from ≤ span.to
   pub span_ends_before_tail : span.to + 4 ≤ length word
   pub state_in_range : span.state < 16
@@ -36,7 +36,7 @@ pub record IsSpanOfWord (pass : ViterbiPass) (word : List ℕ) (span : WordSpan)
 pub record IsDeviation (pass : ViterbiPass) (word : List ℕ) (deviation : Deviation) : Type 0 where
   pub in_range : deviation.departure.place + 4 < length word
   pub follows : FollowsSurvivors deviation.departure.place word (decision_rows pass) 0
-  pub value : deviation.likelihood ≡ likelihood (soft_bits_of_pass pass) (encoding (word_of_deviation pass word deviation))
+  pub value : deviation.metric ≡ likelihood (soft_bits_of_pass pass) (encoding (word_of_deviation pass word deviation))
   pub state_in_range : deviation.departure.state < 16
   pub state : deviation.departure.state ≡ state_after_bits 0 (take deviation.departure.place word)
   pub bit : deviation.departure.bit ≡ slice_index word deviation.departure.place
@@ -52,10 +52,11 @@ IsMostLikelyDeviation pass u span (Some x) =
     w ≢ word_of_deviation pass u x →
     RanksAfter (soft_bits_of_pass pass) w (word_of_deviation pass u x))
 
--- `branch` consists of a span of `word` and the most likely word that deviates from `word` within it
+-- `branch` consists of a span of `word`, the most likely word that deviates from `word` within it, and the path metric of that word
 pub record IsBranch (pass : ViterbiPass) (word : List ℕ) (branch : WordBranch) : Type 0 where
   pub span : IsSpanOfWord pass word branch.span
   pub best : IsMostLikelyDeviation pass word branch.span branch.best
+  pub metric : IfSome branch.best (λ best. branch.metric ≡ best.metric)
 
 -- `branch` is a branch of one of the returned words `returned`
 pub record IsBranchOfReturnedWord (pass : ViterbiPass) (returned : List (List ℕ)) (branch : WordBranch) : Type 0 where

@@ -1,7 +1,7 @@
 //! Spans of returned words, and the best deviation from the word in each span.
 
 ghost use Rattle.std.specs.Prelude.{◌≡◌, ◌≤◌, ◌+◌, ℕ, ◌<◌, ℤ, pos, ◌-ℤ◌, List};
-ghost use Rattle.std.specs.Prelude.{IfSome, length, slice_index, take};
+ghost use Rattle.std.specs.Prelude.{length, slice_index, take};
 ghost use Rattle.weight_bound.specs.bit_blocks.Bits.{AllBits};
 ghost use Rattle.list_decode.specs.Branches.{IsBranch, IsSpanOfWord, IsDeviation, is_in_range, word_of_deviation};
 ghost use Rattle.list_decode.specs.DeviatingWords.{deviation_loss, state_after_bits};
@@ -14,10 +14,10 @@ use crate::pass::ViterbiPass;
 use crate::tails::{find_merging_place, survivor_deviation};
 use trellis_decode::ENCODER_INPUT_BITS;
 
-/// The positions `from..to` of a returned word, the path metric of the word (`likelihood`), and the trellis state before `from`.
+/// The positions `from..to` of a returned word, its path metric, and the trellis state before `from`.
 #[derive(Clone, Copy)]
 pub(crate) struct WordSpan {
-    pub(crate) likelihood: i32,
+    pub(crate) metric: i32,
     /// The number of the word, counted from 0 in order of rank.
     pub(crate) word_index: u8,
     pub(crate) from: u8,
@@ -25,10 +25,10 @@ pub(crate) struct WordSpan {
     pub(crate) state: u8,
 }
 
-/// A word that deviates from a returned word at one position and then follows the survivors, and its path metric (`likelihood`).
+/// A word that deviates from a returned word at one position and then follows the survivors, and its path metric.
 #[derive(Clone, Copy)]
 pub(crate) struct Deviation {
-    pub(crate) likelihood: i32,
+    pub(crate) metric: i32,
     pub(crate) departure: DeviationPoint,
     /// The number of the returned word that this word deviates from.
     pub(crate) word_index: u8,
@@ -39,6 +39,8 @@ pub(crate) struct Deviation {
 pub(crate) struct WordBranch {
     pub(crate) span: WordSpan,
     pub(crate) best: Option<Deviation>,
+    /// The path metric of `best`, or the least `i32`, so that most branches are ruled out by one comparison.
+    pub(crate) metric: i32,
 }
 
 impl WordBranch {
@@ -50,28 +52,22 @@ impl WordBranch {
         ensures span { result.span ≡ span }
         ensures branch { IsBranch pass.now u.now result }
     {
-        let best = match find_least_loss(pass, u, &span) {
-            None => None,
-            Some(departure) => Some(Deviation {
-                likelihood: span.likelihood - departure.loss,
-                departure: DeviationPoint::new(
-                    departure.place,
-                    departure.state,
-                    u[departure.place],
-                ),
-                word_index: span.word_index,
-            }),
-        };
-        WordBranch { span, best }
-    }
-
-    /// The path metric of the word that the best deviation produces, if there is one.
-    pub(crate) fn metric(&self) -> i32
-        ensures { IfSome self.now.best (λ best. result ≡ best.likelihood) }
-    {
-        match &self.best {
-            Some(best) => best.likelihood,
-            None => i32::MIN,
+        match find_least_loss(pass, u, &span) {
+            None => WordBranch {
+                span,
+                best: None,
+                metric: i32::MIN,
+            },
+            Some(found) => {
+                let metric = span.metric - found.loss;
+                let departure = DeviationPoint::new(found.place, found.state, u[found.place]);
+                let best = Some(Deviation {
+                    metric,
+                    departure,
+                    word_index: span.word_index,
+                });
+                WordBranch { span, best, metric }
+            }
         }
     }
 }

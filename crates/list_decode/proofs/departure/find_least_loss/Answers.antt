@@ -1,5 +1,5 @@
 use Rattle.{
-  std.proofs.Common.{arith, ◌≡◌, ◌+◌, ◌-◌, List, [], ◌++◌, ℕ, length, take, drop, ap, ap₂, sym, subst, ◌∙◌},
+  std.proofs.Common.{arith, ◌≡◌, ◌-◌, List, [], ◌++◌, ℕ, length, take, drop, ap, ap₂, sym, subst, ◌∙◌},
   std.proofs.lemmas.List.{append-nil, drop_all, length-drop, take-append-drop, take_all},
   trellis_decode.{proofs.Lemmas.length-traceback, specs.Trellis.traceback},
   list_decode.{specs.DeviatingWords.state_after_bits, proofs.DeviatingWords.traceback-drop},

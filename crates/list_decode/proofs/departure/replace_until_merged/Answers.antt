@@ -1,5 +1,5 @@
 use Rattle.{
-  std.proofs.{Common.{ap, arith, drop, length, ◌∙◌, ◌*◌, ◌/◌, ◌-◌, ◌≡◌}, lemmas.List.{length-drop, length-take}},
+  std.proofs.{Common.{ap, arith, drop, length, ◌∙◌, ◌*◌, ◌/◌, ◌-◌}, lemmas.List.{length-drop, length-take}},
   trellis_decode.proofs.Lemmas.length-traceback,
 }
 use Rattle.list_decode.proofs.departure.replace_until_merged.Goals as goal

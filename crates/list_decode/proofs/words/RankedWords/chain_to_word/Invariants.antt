@@ -1,5 +1,5 @@
-use Rattle.{std.proofs.Common.{◌≡◌, ◌<◌, ◌≤◌, drop, length}, list_decode.specs.WordStorage.IsChainOfDeviations}
-use Rattle.list_decode.proofs.lists.StoredWords.chain_to_word.Given as goal
+use Rattle.{std.proofs.Common.{◌≡◌, ◌<◌, ◌≤◌, drop, length}, list_decode.specs.Words.IsChainOfDeviations}
+use Rattle.list_decode.proofs.words.RankedWords.chain_to_word.Given as goal
 
 abbrev pub invariant-loop-at : goal.invariant-loop-at
 invariant-loop-at l = record {
