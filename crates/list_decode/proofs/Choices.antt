@@ -4,7 +4,7 @@ use Rattle.{
     proofs.{
       DeviatingWords.order-cases,
       Deviations.{FollowsFrom, follows-deviation, LosesAtLeast-in_class, is_deviation},
-      Rankings.{Disjoint, ranking-begins_with, deviations_after_place-place, DeviatesAt-earlier, DeviatesAt-unique, classes-parted, parts},
+      Rankings.{Disjoint, ranking-begins_with, deviations_after_index-index, DeviatesAt-earlier, DeviatesAt-unique, classes-parted, parts},
       Rankings.{IsPartWithout, lex_before-fork, lex_behind-fork, RanksAfter-trans, without_position-free},
       Spans.{between_from, between_to, is_between},
     },
@@ -12,7 +12,7 @@ use Rattle.{
       DeviatingWords.{is_in_range, FollowsSurvivors},
       Branches.{IsBranchOfReturnedWord, IsDeviation, IsMostLikelyDeviation, deviations_in_span, word_of_deviation},
       Choices.{DecidesLexicographicOrder, DeviatesFromReturnedWord, IsFirstRankedBranch, IsNotOutrankedBy, deviating_word},
-      Classes.{DeviatesAt, DeviationClass, IsInClass, PartitionsUnreturnedWords, deviations_after_place, deviations_anywhere},
+      Classes.{DeviatesAt, DeviationClass, IsInClass, PartitionsUnreturnedWords, deviations_after_index, deviations_anywhere},
       Words.{DeviatesAtSamePosition, DeviatesFromWords, IsChainOfDeviations, IsMadeByDeviation, IsRanking, placeholder_deviation},
       Words.{returned_words, with_deviating_words, word_made_by},
       Passes.{IsCompletePass, decision_rows, losses_of_pass, soft_bits_of_pass},
@@ -59,9 +59,9 @@ pub deviating_word-candidate : (pass : ViterbiPass) (us : List (List ℕ)) (x : 
 deviating_word-candidate pass us x is all deviation =
     deviation-candidate _ _ x is (all _ [] deviation.in_range) deviation.deviation
 
-deviation_departs_at : (pass : ViterbiPass) (u : List ℕ) (x : Deviation) → IsCompletePass pass →
-    IsCandidate (soft_bits_of_pass pass) u → IsDeviation pass u x → DeviatesAt u (word_of_deviation pass u x) x.departure.place
-deviation_departs_at pass u x is candidate deviation =
+deviation-deviates : (pass : ViterbiPass) (u : List ℕ) (x : Deviation) → IsCompletePass pass →
+    IsCandidate (soft_bits_of_pass pass) u → IsDeviation pass u x → DeviatesAt u (word_of_deviation pass u x) x.point.index
+deviation-deviates pass u x is candidate deviation =
     (is_deviation _ u _ _ _ 0 _ is.decisions (omega arith)
     (HasTailBits-from_tail u candidate.information.bits candidate.information.tail) deviation.follows (omega arith) (omega arith)).deviates
 
@@ -114,9 +114,9 @@ module _ (pass : ViterbiPass) (us : List (List ℕ)) (branches : List WordBranch
     over None most = tt
     over (Some y) most = elim most [
       | inl same ↦ inr (rw same before)
-      | inr deviations_after_place ↦
+      | inr behind ↦
           inr (RanksAfter-trans (soft_bits_of_pass pass) (deviating_word pass us y) (deviating_word pass us old.deviation)
-          (deviating_word pass us new.deviation) deviations_after_place before)
+          (deviating_word pass us new.deviation) behind before)
     ]
 
   pub first_ranked-old : (old new : BranchChoice) → IsFirstRankedBranch pass us branches (Some old) →
@@ -124,9 +124,9 @@ module _ (pass : ViterbiPass) (us : List (List ℕ)) (branches : List WordBranch
       (deviating_word pass us new.deviation ≡ deviating_word pass us old.deviation)
       ⊎ RanksAfter (soft_bits_of_pass pass) (deviating_word pass us new.deviation) (deviating_word pass us old.deviation) →
       IsFirstRankedBranch pass us (branches ++ branch ∷ []) (Some old)
-  first_ranked-old old new first best deviations_after_place = (
+  first_ranked-old old new first best behind = (
     (first.0.0, slice_get-early branches (branch ∷ []) _ old.branch first.0.1, first.0.2),
-    All-push (AtMost old.deviation) branches branch first.1 (rw best deviations_after_place),
+    All-push (AtMost old.deviation) branches branch first.1 (rw best behind),
   )
 
   pub first_ranked-lower : (first : Option BranchChoice) (least : ℤ) → IsFirstRankedBranch pass us branches first →
@@ -252,7 +252,7 @@ made_by_deviation-more words x branches many old few is k within =
 -- ---- lemmas about the lexicographic order of two words that deviate from a common word
 
 module _ (pass : ViterbiPass) (us : List (List ℕ)) (w : List ℕ) (x up : Deviation) (is : IsCompletePass pass) (all : All (IsCandidate
-    (soft_bits_of_pass pass)) us) (returned : IsMadeByDeviation pass us x.word_index up) (before : up.departure.place < x.departure.place)
+    (soft_bits_of_pass pass)) us) (returned : IsMadeByDeviation pass us x.word_index up) (before : up.point.index < x.point.index)
   where
     pub same_position-parent : DeviatesAtSamePosition us w x → DeviatesAtSamePosition us w up
     same_position-parent forks =
@@ -260,9 +260,9 @@ module _ (pass : ViterbiPass) (us : List (List ℕ)) (w : List ℕ) (x up : Devi
         let child : IsCandidate (soft_bits_of_pass pass) (get_or us x.word_index []) = all _ [] forks.in_range in
         record {
           in_range = omega arith;
-          deviates = DeviatesAt-earlier (get_or us up.word_index []) (get_or us x.word_index []) w up.departure.place x.departure.place
+          deviates = DeviatesAt-earlier (get_or us up.word_index []) (get_or us x.word_index []) w up.point.index x.point.index
               (omega arith)
-              (rw returned.word_is (deviation_departs_at pass (get_or us up.word_index []) up is parent returned.deviation)) forks.deviates
+              (rw returned.word_is (deviation-deviates pass (get_or us up.word_index []) up is parent returned.deviation)) forks.deviates
               before;
           bit = returned.deviation.bit;
         }
@@ -272,7 +272,7 @@ pub same_position-itself : (pass : ViterbiPass) (us : List (List ℕ)) (x : Devi
     DeviatesAtSamePosition us (deviating_word pass us x) x
 same_position-itself pass us x is all deviation = record {
   in_range = deviation.in_range;
-  deviates = deviation_departs_at _ _ x is (all _ [] deviation.in_range) deviation.deviation;
+  deviates = deviation-deviates _ _ x is (all _ [] deviation.in_range) deviation.deviation;
   bit = deviation.deviation.bit;
 }
 
@@ -289,15 +289,15 @@ module _ (pass : ViterbiPass) (us : List (List ℕ)) (v w : List ℕ) (x y : Dev
   equal_lengths : (t : List ℕ) → IsCandidate (soft_bits_of_pass pass) t → length t ≡ length here
   equal_lengths t is_t = let n = is_u.count in let m = is_t.count in omega arith
 
-  left_y : DeviatesAt here w y.departure.place
+  left_y : DeviatesAt here w y.point.index
   left_y = rw same fy.deviates
 
-  bit_y : y.departure.bit ≡ get_or here y.departure.place 0
+  bit_y : y.point.bit ≡ get_or here y.point.index 0
   bit_y = rw same fy.bit
 
-  pub order-earlier : x.departure.place < y.departure.place → DecidesLexicographicOrder v w (nat_eq x.departure.bit 1)
+  pub order-earlier : x.point.index < y.point.index → DecidesLexicographicOrder v w (nat_eq x.point.bit 1)
   order-earlier early =
-      let bit = bit_at-most_1 here x.departure.place is_u.information.bits in
+      let bit = bit_at-most_1 here x.point.index is_u.information.bits in
       let is = fx.bit in
       order-cases v w _
       (λ on. lex_before-fork here v w _ _ fx.deviates left_y early is_v.information.bits (equal_lengths v is_v) (equal_lengths w is_w)
@@ -306,9 +306,9 @@ module _ (pass : ViterbiPass) (us : List (List ℕ)) (v w : List ℕ) (x y : Dev
       (equal_lengths w is_w)
       (grind arith)))
 
-  pub order-later : y.departure.place < x.departure.place → DecidesLexicographicOrder v w (nat_eq y.departure.bit 0)
+  pub order-later : y.point.index < x.point.index → DecidesLexicographicOrder v w (nat_eq y.point.bit 0)
   order-later early =
-      let bit = bit_at-most_1 here y.departure.place is_u.information.bits in
+      let bit = bit_at-most_1 here y.point.index is_u.information.bits in
       let is = bit_y in
       order-cases v w _
       (λ on. lex_behind-fork here w v _ _ left_y fx.deviates early is_w.information.bits (equal_lengths w is_w) (equal_lengths v is_v)
@@ -372,7 +372,8 @@ chain-next words xs k i u is_ranking within path =
           in_range = leads.1;
           candidate = rw is (is_ranking.ranked.ranked_words_are_candidates at [] (omega arith));
           deviation = rw here at returned.deviation;
-          next = (λ v written. (c, written ∙ sym (returned.word_is ∙ ap (λ u. word_of_deviation words.pass u x) here), leads.1, leads.3));
+          next = λ v written.
+              (c, written ∙ sym (returned.word_is ∙ ap (λ u. word_of_deviation words.pass u x) here), leads.1, leads.3);
         }
 
 -- ## NextLists: The next word of a ranking is the most likely word of all branches.
@@ -405,9 +406,9 @@ before_the_last : (pass : ViterbiPass) (c : DeviationClass) (from : ℕ) (w : Li
     IsCandidate (soft_bits_of_pass pass) c.word →
     FollowsSurvivors from c.word (decision_rows pass) 0 → ((k : ℕ) → c.may_deviate_at k ≡ true → from ≤ k) →
     IsCandidate (soft_bits_of_pass pass) w →
-    (at : IsInClass c w) → at.place + 4 < pass.bits
+    (at : IsInClass c w) → at.index + 4 < pass.bits
 before_the_last pass c from w is candidate follows later is_w at =
-    let places = is.row_count in
+    let indices = is.row_count in
     let followed : FollowsFrom _ _ _ c _ =
     record {
       decisions = is.decisions;
@@ -427,33 +428,33 @@ pub ranking-begins : (pass : ViterbiPass) (u : List ℕ) (span : WordSpan) → I
     IsRanked (soft_bits_of_pass pass) (u ∷ []) ×
     PartitionsUnreturnedWords (soft_bits_of_pass pass) (u ∷ []) (deviations_in_span u span ∷ [])
 ranking-begins pass u span is best follows from to =
-    ranking-begins_with (soft_bits_of_pass pass) u (is_in_range span.from span.to) best (λ w place is_w at.
+    ranking-begins_with (soft_bits_of_pass pass) u (is_in_range span.from span.to) best (λ w index is_w at.
     let candidate : IsCandidate (soft_bits_of_pass pass) u = record { information = best.information; count = best.count } in
     let short = before_the_last pass (deviations_anywhere u) 0 w is candidate follows (λ k free. omega arith) is_w
-    (record { place = place; deviates = at; allowed = refl }) in
-    is_between span.from span.to place (omega arith) (omega arith))
+    (record { index = index; deviates = at; allowed = refl }) in
+    is_between span.from span.to index (omega arith) (omega arith))
 
 module _ (pass : ViterbiPass) (us : List (List ℕ)) (u : List ℕ) (span : WordSpan) (x : Deviation) (is : IsCompletePass pass)
     (candidate : IsCandidate (soft_bits_of_pass pass) u)
     (is_x : IsDeviation pass u x) (v_is : IsCandidate (soft_bits_of_pass pass) (word_of_deviation pass u x))
-    (from : span.from ≤ x.departure.place) (to : x.departure.place < span.to) where
-  abbrev place : ℕ
-  place = x.departure.place
+    (from : span.from ≤ x.point.index) (to : x.point.index < span.to) where
+  abbrev index : ℕ
+  index = x.point.index
 
   abbrev v : List ℕ
   v = word_of_deviation pass u x
 
-  left : DeviatesAt u v place
-  left = deviation_departs_at pass u x is candidate is_x
+  left : DeviatesAt u v index
+  left = deviation-deviates pass u x is candidate is_x
 
   module _ (before after : List DeviationClass) (first behind_v rest : WordSpan) (ranked : IsRanked (soft_bits_of_pass pass) us)
       (covers : PartitionsUnreturnedWords (soft_bits_of_pass pass) us (before ++ deviations_in_span u span ∷ after))
       (best : (e : DeviationClass) (w : List ℕ) → Contains (before ++ deviations_in_span u span ∷ after) e →
       IsCandidate (soft_bits_of_pass pass) w → IsInClass e w →
       w ≢ word_of_deviation pass u x → RanksAfter (soft_bits_of_pass pass) w (word_of_deviation pass u x))
-      (first_from : first.from ≡ span.from) (first_to : first.to ≡ x.departure.place) (behind_from : behind_v.from ≡
-      x.departure.place + 1)
-      (behind_to : behind_v.to + 4 ≡ pass.bits) (rest_from : rest.from ≡ x.departure.place + 1) (rest_to : rest.to ≡ span.to) where
+      (first_from : first.from ≡ span.from) (first_to : first.to ≡ x.point.index) (behind_from : behind_v.from ≡
+      x.point.index + 1)
+      (behind_to : behind_v.to + 4 ≡ pass.bits) (rest_from : rest.from ≡ x.point.index + 1) (rest_to : rest.to ≡ span.to) where
     abbrev s : List ℤ
     s = soft_bits_of_pass pass
 
@@ -471,25 +472,25 @@ module _ (pass : ViterbiPass) (us : List (List ℕ)) (u : List ℕ) (span : Word
 
     in_span : (t : List ℕ) (part : WordSpan) (w : List ℕ) (k : ℕ) → DeviatesAt t w k → part.from ≤ k → k < part.to →
         IsInClass (deviations_in_span t part) w
-    in_span t part w k at f l = record { place = k; deviates = at; allowed = is_between part.from part.to k f l }
+    in_span t part w k at f l = record { index = k; deviates = at; allowed = is_between part.from part.to k f l }
 
     -- the words of the three parts deviate from u before the position where v deviates, after it, or at it
-    in_first : (w : List ℕ) → IsInClass a w → (k : ℕ) × DeviatesAt u w k × (span.from ≤ k) × (k < place)
+    in_first : (w : List ℕ) → IsInClass a w → (k : ℕ) × DeviatesAt u w k × (span.from ≤ k) × (k < index)
     in_first w at =
-        let f = between_from _ _ at.place at.allowed in
-        let t = between_to _ _ at.place at.allowed in
-        (at.place, at.deviates, omega arith, omega arith)
+        let f = between_from _ _ at.index at.allowed in
+        let t = between_to _ _ at.index at.allowed in
+        (at.index, at.deviates, omega arith, omega arith)
 
-    in_rest : (w : List ℕ) → IsInClass r w → (k : ℕ) × DeviatesAt u w k × (place < k) × (k < span.to)
+    in_rest : (w : List ℕ) → IsInClass r w → (k : ℕ) × DeviatesAt u w k × (index < k) × (k < span.to)
     in_rest w at =
-        let f = between_from _ _ at.place at.allowed in
-        let t = between_to _ _ at.place at.allowed in
-        (at.place, at.deviates, omega arith, omega arith)
+        let f = between_from _ _ at.index at.allowed in
+        let t = between_to _ _ at.index at.allowed in
+        (at.index, at.deviates, omega arith, omega arith)
 
-    in_behind : (w : List ℕ) → IsInClass b w → DeviatesAt u w place
+    in_behind : (w : List ℕ) → IsInClass b w → DeviatesAt u w index
     in_behind w at =
-        let f = between_from _ _ at.place at.allowed in
-        DeviatesAt-earlier u v w place at.place (let n = v_is.count in let m = candidate.count in omega arith) left at.deviates
+        let f = between_from _ _ at.index at.allowed in
+        DeviatesAt-earlier u v w index at.index (let n = v_is.count in let m = candidate.count in omega arith) left at.deviates
         (omega arith)
 
     is_first : IsPartWithout s c v a
@@ -509,7 +510,7 @@ module _ (pass : ViterbiPass) (us : List (List ℕ)) (u : List ℕ) (span : Word
     is_behind : IsPartWithout s c v b
     is_behind = record {
       candidate = v_is;
-      part = λ w at. in_span u span w place (in_behind w at) from to;
+      part = λ w at. in_span u span w index (in_behind w at) from to;
       without = λ at. at.deviates.differs refl;
     }
 
@@ -527,22 +528,22 @@ module _ (pass : ViterbiPass) (us : List (List ℕ)) (u : List ℕ) (span : Word
 
     in_one : (w : List ℕ) → IsCandidate s w → IsInClass c w → w ≢ v
         → (p : DeviationClass) × Contains (a ∷ b ∷ r ∷ []) p × IsInClass p w
-    in_one w is_w at ne = elim (parts s c v place candidate v_is left (is_between span.from span.to place from to) w is_w at ne) [
+    in_one w is_w at ne = elim (parts s c v index candidate v_is left (is_between span.from span.to index from to) w is_w at ne) [
       | inl still ↦
-          let open_at = without_position-free c place still.place still.allowed in
+          let open_at = without_position-free c index still.index still.allowed in
           let other = open_at.0 in
-          let f = between_from span.from span.to still.place open_at.1 in
-          let t = between_to span.from span.to still.place open_at.1 in
-          elim (cases_lt still.place place) [
-            | inl early ↦ (a, (0, omega arith, refl), in_span u first w still.place still.deviates (omega arith) (omega arith))
-            | inr late ↦ (r, (2, omega arith, refl), in_span u rest w still.place still.deviates (omega arith) (omega arith))
+          let f = between_from span.from span.to still.index open_at.1 in
+          let t = between_to span.from span.to still.index open_at.1 in
+          elim (cases_lt still.index index) [
+            | inl early ↦ (a, (0, omega arith, refl), in_span u first w still.index still.deviates (omega arith) (omega arith))
+            | inr late ↦ (r, (2, omega arith, refl), in_span u rest w still.index still.deviates (omega arith) (omega arith))
           ]
       | inr now ↦
-          let later = deviations_after_place-place v place now.place now.allowed in
-          let follows : FollowsSurvivors (place + 1) v (decision_rows pass) 0 = follows-deviation u _ 0 _ (omega arith) (omega arith) in
-          let short = before_the_last pass (deviations_after_place v place) (place + 1) w is v_is follows
-          (λ k free. let l = deviations_after_place-place v place k free in omega arith) is_w now in
-          (b, (1, omega arith, refl), in_span v behind_v w now.place now.deviates (omega arith) (omega arith))
+          let later = deviations_after_index-index v index now.index now.allowed in
+          let follows : FollowsSurvivors (index + 1) v (decision_rows pass) 0 = follows-deviation u _ 0 _ (omega arith) (omega arith) in
+          let short = before_the_last pass (deviations_after_index v index) (index + 1) w is v_is follows
+          (λ k free. let l = deviations_after_index-index v index k free in omega arith) is_w now in
+          (b, (1, omega arith, refl), in_span v behind_v w now.index now.deviates (omega arith) (omega arith))
     ]
 
     -- three spans replace the span: the positions of u before and after the deviation, and those of the new word after it
@@ -550,7 +551,7 @@ module _ (pass : ViterbiPass) (us : List (List ℕ)) (u : List ℕ) (span : Word
         PartitionsUnreturnedWords (soft_bits_of_pass pass) (us ++ word_of_deviation pass u x ∷ [])
         (((before ++ deviations_in_span u first ∷ after) ++ deviations_in_span
         (word_of_deviation pass u x) behind_v ∷ []) ++ deviations_in_span u rest ∷ [])
-    ranking-goes_on = rw append_assoc (classes-parted s us before after c v ranked covers v_is (in_span u span v place left from to) best a
+    ranking-goes_on = rw append_assoc (classes-parted s us before after c v ranked covers v_is (in_span u span v index left from to) best a
         (b ∷ r ∷ [])
         (All-from_recursion (IsPartWithout s c v) (a ∷ b ∷ r ∷ []) (is_first, (is_behind, (is_rest, tt)))) (
           All-from_recursion (Disjoint a) (b ∷ r ∷ []) (lex_behind-deviates, (first_rest, tt)),

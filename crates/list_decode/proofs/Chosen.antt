@@ -46,8 +46,8 @@ pub record IsDeviationInSpan (pass : ViterbiPass) (u : List ℕ) (span : WordSpa
   pub candidate : IsCandidate (soft_bits_of_pass pass) u
   pub is_span : IsSpanOfWord pass u span
   pub deviation : IsDeviation pass u x
-  pub from : span.from ≤ x.departure.place
-  pub to : x.departure.place < span.to
+  pub from : span.from ≤ x.point.index
+  pub to : x.point.index < span.to
 
 module _ (pass : ViterbiPass) (us : List (List ℕ)) (branches : List WordBranch) (choice : BranchChoice) (lists : All (IsCandidate
     (soft_bits_of_pass pass)) us)
@@ -59,7 +59,8 @@ module _ (pass : ViterbiPass) (us : List (List ℕ)) (branches : List WordBranch
   chosen_branch = all _ _ within
 
   best_is : (get_or branches choice.branch placeholder_branch).best ≡ Some choice.deviation
-  best_is = ap (λ (b : WordBranch). b.best) (get_or_from_slice_get branches choice.branch first.0.0 placeholder_branch first.0.1) ∙ first.0.2
+  best_is = ap (λ (b : WordBranch). b.best) (get_or_from_slice_get branches choice.branch first.0.0 placeholder_branch first.0.1)
+      ∙ first.0.2
 
   best_chosen : IsMostLikelyDeviation pass (get_or us (get_or branches choice.branch placeholder_branch).span.word_index [])
       (get_or branches choice.branch placeholder_branch).span (Some choice.deviation)
@@ -158,13 +159,13 @@ module _ (pass : ViterbiPass) (us : List (List ℕ)) (branches : List WordBranch
       (after : IsBranch pass u next.parts.branch_after)
       (before_span : (next.parts.branch_before.span.word_index ≡ b.span.word_index)
       × (next.parts.branch_before.span.from ≡ b.span.from)
-      × (next.parts.branch_before.span.to ≡ choice.deviation.departure.place))
+      × (next.parts.branch_before.span.to ≡ choice.deviation.point.index))
       (behind_span : (next.parts.branch_of_new_word.span.word_index ≡ length us)
-      × (next.parts.branch_of_new_word.span.from ≡ choice.deviation.departure.place + 1)
+      × (next.parts.branch_of_new_word.span.from ≡ choice.deviation.point.index + 1)
       ×
       (next.parts.branch_of_new_word.span.to + 4 ≡ pass.bits))
       (after_span : (next.parts.branch_after.span.word_index ≡ b.span.word_index)
-      × (next.parts.branch_after.span.from ≡ choice.deviation.departure.place + 1)
+      × (next.parts.branch_after.span.from ≡ choice.deviation.point.index + 1)
       × (next.parts.branch_after.span.to ≡ b.span.to)) where
     abbrev first_part : WordBranch
     first_part = next.parts.branch_before
@@ -277,7 +278,8 @@ IsSpanOfWord-first pass u span is best value from to state =
       state = rw from state;
     }
 
-pub returned_words-one : (words : RankedWords) → words.count ≡ 1 → returned_words words ≡ take words.pass.bits words.first_word ∷ []
+pub returned_words-one : (words : RankedWords) → words.count ≡ 1 →
+    returned_words words ≡ take words.pass.bits words.first_word ∷ []
 returned_words-one words one = ap (λ n. with_deviating_words words.pass (take n (take words.pass.bits words.first_word ∷ [])) (take
     (n - 1) words.deviations)) one
 
@@ -298,8 +300,8 @@ module _ (words : RankedWords) (b : WordBranch) (one : words.count ≡ 1) (is_op
   abbrev first : List ℕ
   first = take words.pass.bits words.first_word
 
-  pub IsRanking-first : IsBranch words.pass first b → b.span.word_index ≡ 0 → b.span.from ≡ 0 → b.span.to + 4 ≡ words.pass.bits →
-      IsRanking words
+  pub IsRanking-first : IsBranch words.pass first b → b.span.word_index ≡ 0 → b.span.from ≡ 0 →
+      b.span.to + 4 ≡ words.pass.bits → IsRanking words
   IsRanking-first is_b index from to =
       let begun = ranking-begins words.pass first b.span pass best (most_likely-traceback words.pass first pass best) from to in
       let returned = returned_words-one words one in
@@ -318,8 +320,8 @@ module _ (words : RankedWords) (b : WordBranch) (one : words.count ≡ 1) (is_op
             (All-nil (IsBranchOfReturnedWord words.pass (first ∷ [])))));
         partition = subst (λ us. PartitionsUnreturnedWords (soft_bits_of_pass words.pass) us (map (class_of_branch us)
             (open_branches words))) (sym returned)
-            (subst (λ bs. PartitionsUnreturnedWords (soft_bits_of_pass words.pass) (first ∷ []) (map (class_of_branch (first ∷ [])) bs))
-            (sym is_open)
+            (subst (λ bs. PartitionsUnreturnedWords (soft_bits_of_pass words.pass) (first ∷ [])
+            (map (class_of_branch (first ∷ [])) bs)) (sym is_open)
             (subst (λ u'. PartitionsUnreturnedWords (soft_bits_of_pass words.pass) (first ∷ []) (deviations_in_span u' b.span ∷ []))
             (sym read) begun.1));
       }
@@ -409,8 +411,8 @@ module _ (words : RankedWords) (old : IsRanking words) (few : words.count < 64) 
 
 -- ---- lemmas about the case that no branch has a word left
 
-pub every_word_returned : (words : RankedWords) → IsRanking words → NoBranchHasUnreturnedWord (open_branches words) → (w : List ℕ) →
-    IsCandidate (soft_bits_of_pass words.pass) w → Contains (returned_words words) w
+pub every_word_returned : (words : RankedWords) → IsRanking words → NoBranchHasUnreturnedWord (open_branches words) →
+    (w : List ℕ) → IsCandidate (soft_bits_of_pass words.pass) w → Contains (returned_words words) w
 every_word_returned words has none w is_w =
     ends_ranked (soft_bits_of_pass words.pass) _ (map _ _) has.partition
     (λ e w member is_w in_class.
@@ -444,7 +446,8 @@ module _ (old new : RankedWords) (u : List ℕ) (sound : IsRankingSoFar new)
   candidate returned = All-contains (IsCandidate (soft_bits_of_pass new.pass)) (returned_words old ++ u ∷ []) u
       (ranked returned).ranked_words_are_candidates (Contains-push (returned_words old) u)
 
-  not_done : length (returned_words old) < 64 → returned_words new ≡ returned_words old ++ u ∷ [] → IsRankingDone (ranking_of old) → ⊥
+  not_done : length (returned_words old) < 64 → returned_words new ≡ returned_words old ++ u ∷ [] →
+      IsRankingDone (ranking_of old) → ⊥
   not_done few returned (inl full) = omega arith
   not_done few returned (inr all) =
       IsRanked-not_repeated (soft_bits_of_pass new.pass) (returned_words old) u (ranked returned)
@@ -457,7 +460,8 @@ module _ (old new : RankedWords) (u : List ℕ) (sound : IsRankingSoFar new)
   information P R (Some value) some = (candidate some.0).information
 
   pub IsRankingDone-none : (P Q : Type 0) (R : ℤ → Type 0) (result : Option ℤ) → length (returned_words old) < 64 →
-      MatchOption result (P × Q × IsRankingDone (ranking_of old)) (λ value. (returned_words new ≡ returned_words old ++ u ∷ []) × R value) →
+      MatchOption result (P × Q × IsRankingDone (ranking_of old))
+      (λ value. (returned_words new ≡ returned_words old ++ u ∷ []) × R value) →
       (result ≡ None → IsRankingDone (ranking_of old)) × (IsRankingDone (ranking_of old) → result ≡ None)
   IsRankingDone-none P Q R None few none = ((λ e. none.2), (λ done. refl))
   IsRankingDone-none P Q R (Some value) few some = ((λ e. absurd (Some-not_none e)), (λ done. absurd (not_done few some.0 done)))

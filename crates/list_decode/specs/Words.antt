@@ -18,7 +18,7 @@ use Rattle.list_decode.specs.declared.words.RankedWords.{RankedWords}
 
 -- a placeholder deviation, used when an index is out of range
 abbrev pub placeholder_deviation : Deviation
-placeholder_deviation = record { metric = pos 0; departure = record { place = 0; state = 0; bit = 0 }; word_index = 0 }
+placeholder_deviation = record { metric = pos 0; point = record { index = 0; state = 0; bit = 0 }; word_index = 0 }
 
 -- a list of words, extended by one word for each deviation: an earlier word of the list with this deviation applied
 abbrev pub with_deviating_words : (pass : ViterbiPass) (words : List (List ℕ)) (deviations : List Deviation) → List (List ℕ)
@@ -86,5 +86,5 @@ IsChainOfDeviations words (c ∷ cs) at i =
 -- the word `deviating` and the deviation `deviation` deviate from the same returned word at the same position
 pub record DeviatesAtSamePosition (words : List (List ℕ)) (deviating : List ℕ) (deviation : Deviation) : Type 0 where
   pub in_range : deviation.word_index < length words
-  pub deviates : DeviatesAt (slice_index_or words deviation.word_index []) deviating deviation.departure.place
-  pub bit : deviation.departure.bit ≡ slice_index (slice_index_or words deviation.word_index []) deviation.departure.place
+  pub deviates : DeviatesAt (slice_index_or words deviation.word_index []) deviating deviation.point.index
+  pub bit : deviation.point.bit ≡ slice_index (slice_index_or words deviation.word_index []) deviation.point.index

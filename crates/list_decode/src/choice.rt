@@ -1,6 +1,7 @@
 //! Selects the branch whose most likely word ranks first.
 
-ghost use Rattle.std.specs.Prelude.{◌≡◌, ◌⊎◌, ◌++◌, ◌∷◌, [], List, Bool, true, false, Some, IfSome, MatchOption, ◌≤ℤ◌, length};
+ghost use Rattle.std.specs.Prelude.{◌≡◌, ◌⊎◌, ◌++◌, ◌∷◌, [], List, Bool, true, false, Some, IfSome};
+ghost use Rattle.std.specs.Prelude.{MatchOption, ◌≤ℤ◌, length};
 ghost use Rattle.weight_bound.specs.conv_code.Likelihood.{RanksAfter};
 ghost use Rattle.list_decode.specs.Choices.{IsFirstRankedBranch, DecidesLexicographicOrder};
 ghost use Rattle.list_decode.specs.Passes.{soft_bits_of_pass};
@@ -118,10 +119,10 @@ fn compare_deviation_chains(
             y = words.parent_deviation(&y)?;
         }
     }
-    if x.departure.place < y.departure.place {
-        Some(x.departure.bit == 1)
-    } else if y.departure.place < x.departure.place {
-        Some(y.departure.bit == 0)
+    if x.point.index < y.point.index {
+        Some(x.point.bit == 1)
+    } else if y.point.index < x.point.index {
+        Some(y.point.bit == 0)
     } else {
         None
     }

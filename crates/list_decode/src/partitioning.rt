@@ -64,26 +64,26 @@ fn partition(
     requires list { IsCandidate (soft_bits_of_pass pass.now) u.old }
     requires span { IsSpanOfWord pass.now u.old span }
     requires deviation { IsDeviation pass.now u.old deviation.now }
-    requires from { span.from ≤ deviation.now.departure.place }
-    requires to { deviation.now.departure.place < span.to }
+    requires from { span.from ≤ deviation.now.point.index }
+    requires to { deviation.now.point.index < span.to }
     ensures written { u.new ≡ word_of_deviation pass.now u.old deviation.now }
     ensures before { IsBranch pass.now u.old result.branch_before }
     ensures new_word { IsBranch pass.now u.new result.branch_of_new_word }
     ensures after { IsBranch pass.now u.old result.branch_after }
     ensures before_span { (result.branch_before.span.word_index ≡ span.word_index) × (result.branch_before.span.from ≡ span.from) ×
-        (result.branch_before.span.to ≡ deviation.now.departure.place) }
+        (result.branch_before.span.to ≡ deviation.now.point.index) }
     ensures new_word_span { (result.branch_of_new_word.span.word_index ≡ new_index)
-        × (result.branch_of_new_word.span.from ≡ deviation.now.departure.place + 1) ×
+        × (result.branch_of_new_word.span.from ≡ deviation.now.point.index + 1) ×
         (result.branch_of_new_word.span.to + 4 ≡ pass.now.bits) }
     ensures after_span { (result.branch_after.span.word_index ≡ span.word_index)
-        × (result.branch_after.span.from ≡ deviation.now.departure.place + 1) ×
+        × (result.branch_after.span.from ≡ deviation.now.point.index + 1) ×
         (result.branch_after.span.to ≡ span.to) }
 {
-    let place = deviation.departure.place;
-    let before = WordSpan { to: place, ..span };
+    let index = deviation.point.index;
+    let before = WordSpan { to: index, ..span };
     let after = WordSpan {
-        from: place + 1,
-        state: (2 * deviation.departure.state + u[usize::from(place)]) % 16,
+        from: index + 1,
+        state: (2 * deviation.point.state + u[usize::from(index)]) % 16,
         ..span
     };
     let branch_before = WordBranch::new(pass, u, before);
@@ -92,9 +92,9 @@ fn partition(
     let behind = WordSpan {
         metric: deviation.metric,
         word_index: new_index,
-        from: place + 1,
+        from: index + 1,
         to: (pass.bits - 4) as u8,
-        state: (2 * deviation.departure.state + u[usize::from(place)]) % 16,
+        state: (2 * deviation.point.state + u[usize::from(index)]) % 16,
     };
     ReplacementBranches {
         branch_before,

@@ -38,7 +38,7 @@ impl ViterbiPass {
             losses: [[0; 16]; ENCODER_INPUT_BITS],
             tails: BestLaterDeviations {
                 states: [0; ENCODER_INPUT_BITS],
-                places: [0; ENCODER_INPUT_BITS],
+                indices: [0; ENCODER_INPUT_BITS],
             },
         }
     }

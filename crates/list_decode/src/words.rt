@@ -1,8 +1,8 @@
 //! The returned words, and what is needed to find the next one. Every word but the first is stored as a deviation from an earlier word, and
 //! is written out only when needed.
 
-ghost use Rattle.std.specs.Prelude.{◌≡◌, ◌≤◌, ◌<◌, ◌+◌, ◌*◌, ◌%◌, ◌++◌, ◌∷◌, [], List, ℕ, length, slice_index_or, take, drop};
-ghost use Rattle.std.specs.Prelude.{IfSome, MatchOption};
+ghost use Rattle.std.specs.Prelude.{◌≡◌, ◌≤◌, ◌<◌, ◌+◌, ◌*◌, ◌%◌, ◌++◌, ◌∷◌, [], List, ℕ, length, take, drop};
+ghost use Rattle.std.specs.Prelude.{IfSome, MatchOption, slice_index_or};
 ghost use Rattle.weight_bound.specs.conv_code.Code.{encoding};
 ghost use Rattle.weight_bound.specs.conv_code.Likelihood.{AllSoftBits, IsMostLikely, likelihood};
 ghost use Rattle.list_decode.specs.Partitioning.{IsNextRankedWord};
@@ -13,7 +13,7 @@ ghost use Rattle.list_decode.specs.Words.{ranking_of, returned_words};
 
 use crate::MAX_RANK;
 use crate::branch::{Deviation, WordBranch, WordSpan};
-use crate::departure::DeviationPoint;
+use crate::deviation::DeviationPoint;
 use crate::partitioning::{NextWord, find_next_word};
 use crate::pass::ViterbiPass;
 use trellis_decode::{CODED_BITS, ENCODER_INPUT_BITS, decode};
@@ -60,7 +60,7 @@ impl RankedWords {
         };
         let deviation = Deviation {
             metric: 0,
-            departure: DeviationPoint::new(0, 0, 0),
+            point: DeviationPoint::new(0, 0, 0),
             word_index: 0,
         };
         let branch = WordBranch {
@@ -169,7 +169,7 @@ impl RankedWords {
             DeviatesAtSamePosition (returned_words self.now) w up) }
     {
         let up = self.deviations[usize::from(deviation.word_index) - 1];
-        if up.departure.place < deviation.departure.place {
+        if up.point.index < deviation.point.index {
             Some(up)
         } else {
             None

@@ -11,4 +11,5 @@ returns-then-ranks_before-clause-first c branches branch first best at =
 pub returns-else-ranks_before-clause-first : goal.returns-else-ranks_before-clause-first
 returns-else-ranks_before-clause-first c branches branch first best at =
     first_ranked-old c.args.words.now.pass _ _ _ _ (record { branch = c.args.branch_index; deviation = c.args.deviation.now })
-    (subst (IsFirstRankedBranch c.args.words.now.pass _ branches) c.in-Some.is first) best (c.ranks_before.ensures.behind c.if-ranks_before.false)
+    (subst (IsFirstRankedBranch c.args.words.now.pass _ branches) c.in-Some.is first) best
+    (c.ranks_before.ensures.behind c.if-ranks_before.false)

@@ -29,7 +29,7 @@ new-branch_after-requires-clause-span c =
     let fits : FitsSigned w32 c.args.span.metric = search rules in
     IsSpanOfWord-after c.args.pass.now c.args.u.now c.args.deviation.now r.pass r.list r.deviation c.args.span _ r.span r.to refl refl
     (to_z-of_z w32 c.args.span.metric fits)
-    (ap (λ place. (2 * c.args.deviation.now.departure.state + get_or c.args.u.now place 0) % 16) c.from.ensures)
+    (ap (λ index. (2 * c.args.deviation.now.point.state + get_or c.args.u.now index 0) % 16) c.from.ensures)
 
 pub new-requires-clause-span : goal.new-requires-clause-span
 new-requires-clause-span c =
@@ -38,4 +38,4 @@ new-requires-clause-span c =
     IsSpanOfWord-deviation c.args.pass.now c.args.u.now c.args.deviation.now r.pass r.list r.deviation c.apply.new.u _ c.apply.ensures
     (deviating_word (goal.at.new-requires-clause-span c).After-apply) refl
     (let five = r.pass.at_least in omega arith) (to_z-of_z w32 c.args.deviation.now.metric fits)
-    (ap (λ place. (2 * c.args.deviation.now.departure.state + get_or c.apply.new.u place 0) % 16) c.from-2.ensures)
+    (ap (λ index. (2 * c.args.deviation.now.point.state + get_or c.apply.new.u index 0) % 16) c.from-2.ensures)

@@ -17,7 +17,8 @@ write_first_word-requires-clause-count c =
     let v = ap (λ (v : Ranking). length v.soft) c.self.view_is in
     omega arith
 
-first : (c : After-write_first_word) → returned_words c.write_first_word.new.self ≡ returned_words c.self.inside.words ++ c.write_first_word.new.u ∷ []
+first : (c : After-write_first_word) →
+    returned_words c.write_first_word.new.self ≡ returned_words c.self.inside.words ++ c.write_first_word.new.u ∷ []
 first c = c.write_first_word.ensures.returned ∙ sym (push-empty (returned_words c.self.inside.words) c.write_first_word.new.u
     (c.self.invariant.count ∙ c.if-self-eq0.true))
 

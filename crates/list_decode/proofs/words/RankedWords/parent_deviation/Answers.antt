@@ -13,6 +13,7 @@ returns-then-up-deviation-clause-forks c w =
     let is = c.from.ensures in
     let up = get_or words.deviations (c.from.result - 1) placeholder_deviation in
     let returned =
-    subst (λ i. IsMadeByDeviation words.pass us i up) (omega arith) (c.requires.ranking.made_by_deviation (c.from.result - 1) (omega arith)) in
+    subst (λ i. IsMadeByDeviation words.pass us i up) (omega arith)
+    (c.requires.ranking.made_by_deviation (c.from.result - 1) (omega arith)) in
     same_position-parent words.pass us w c.args.deviation.now up c.requires.ranking.pass
     c.requires.ranking.ranked.ranked_words_are_candidates returned c.if-up-deviation.true

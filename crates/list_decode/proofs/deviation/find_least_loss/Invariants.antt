@@ -1,5 +1,5 @@
 use Rattle.list_decode.specs.PartialTracebacks.{IsPartialTraceback}
-use Rattle.list_decode.proofs.departure.find_least_loss.Given as goal
+use Rattle.list_decode.proofs.deviation.find_least_loss.Given as goal
 
 abbrev pub invariant-loop-k : goal.invariant-loop-k
 invariant-loop-k l = record {

@@ -15,23 +15,23 @@ use trellis_decode::{ENCODER_INPUT_BITS, trace_back};
 /// A position where another word deviates from a given word, and the trellis state before this position.
 #[derive(Clone, Copy)]
 pub(crate) struct DeviationPoint {
-    pub(crate) place: u8,
+    pub(crate) index: u8,
     pub(crate) state: u8,
     /// The bit of the original word at the position.
     pub(crate) bit: u8,
 }
 
 impl DeviationPoint {
-    pub(crate) fn new(place: usize, state: usize, bit: u8) -> DeviationPoint
-        requires place { place ≤ 255 }
+    pub(crate) fn new(index: usize, state: usize, bit: u8) -> DeviationPoint
+        requires index { index ≤ 255 }
         requires state { state < 16 }
-        ensures place { result.place ≡ place }
+        ensures index { result.index ≡ index }
         ensures state { result.state ≡ state }
         ensures bit { result.bit ≡ bit }
         ensures small { result.state < 16 }
     {
         DeviationPoint {
-            place: place as u8,
+            index: index as u8,
             state: state as u8,
             bit,
         }
@@ -41,7 +41,7 @@ impl DeviationPoint {
 /// A position for a deviation, the trellis state before it, and how much path metric the deviation loses.
 #[derive(Clone, Copy)]
 pub(crate) struct PossibleDeviation {
-    pub(crate) place: usize,
+    pub(crate) index: usize,
     pub(crate) state: usize,
     pub(crate) loss: i32,
     /// A later position is better if its loss is at most this limit: the loss here, minus 1 if the word has a 1 here. Changing a 0 to a 1
@@ -50,16 +50,16 @@ pub(crate) struct PossibleDeviation {
 }
 
 impl PossibleDeviation {
-    pub(crate) fn new(place: usize, state: usize, loss: i16, bit: u8) -> PossibleDeviation
+    pub(crate) fn new(index: usize, state: usize, loss: i16, bit: u8) -> PossibleDeviation
         requires { bit ≤ 1 }
-        ensures place { result.place ≡ place }
+        ensures index { result.index ≡ index }
         ensures state { result.state ≡ state }
         ensures loss { result.loss ≡ loss }
         ensures loss_limit { result.loss_limit ≡ loss -ℤ pos bit }
     {
         let loss = i32::from(loss);
         PossibleDeviation {
-            place,
+            index,
             state,
             loss,
             loss_limit: loss - i32::from(bit),
@@ -135,9 +135,9 @@ pub(crate) fn find_least_loss(rows: &[u16], losses: &[[i16; 16]], u: &mut [u8]) 
     requires at_least { 5 ≤ length u.old }
     requires at_most { length u.old ≤ ENCODER_INPUT_BITS }
     ensures list { u.new ≡ traceback rows.now 0 }
-    ensures least { IsLeastLossPosition u.new losses.now (length u.new - 4) result.place result.loss }
-    ensures state { result.state ≡ state_after_bits 0 (take result.place u.new) }
-    ensures within { result.place + 4 < length u.new }
+    ensures least { IsLeastLossPosition u.new losses.now (length u.new - 4) result.index result.loss }
+    ensures state { result.state ≡ state_after_bits 0 (take result.index u.new) }
+    ensures within { result.index + 4 < length u.new }
 {
     let free = u.len() - 4;
     let groups = free / 4;
@@ -180,46 +180,41 @@ fn trace_back_groups_of_four(
 
 /// Writes to `v` the word that deviates from `word` at the given position and then follows the survivors. After it, `word` must follow
 /// the survivors too.
-pub(crate) fn write_deviating_word(
-    word: &[u8],
-    rows: &[u16],
-    departure: DeviationPoint,
-    v: &mut [u8],
-)
+pub(crate) fn write_deviating_word(word: &[u8], rows: &[u16], point: DeviationPoint, v: &mut [u8])
     requires bits { AllBits word.now }
     requires rows { length rows.now ≡ length word.now }
-    requires chosen { drop (departure.place + 1) word.now ≡
-        traceback (drop (departure.place + 1) rows.now) (next_trellis_state departure.state (slice_index word.now departure.place)) }
+    requires chosen { drop (point.index + 1) word.now ≡
+        traceback (drop (point.index + 1) rows.now) (next_trellis_state point.state (slice_index word.now point.index)) }
     requires count { length v.old ≡ length word.now }
-    requires within { departure.place < length word.now }
-    requires state { departure.state < 16 }
-    ensures { v.new ≡ take departure.place word.now ++ (1 - slice_index word.now departure.place) ∷
-        traceback (drop (departure.place + 1) rows.now) (next_trellis_state departure.state (1 - slice_index word.now departure.place)) }
+    requires within { point.index < length word.now }
+    requires state { point.state < 16 }
+    ensures { v.new ≡ take point.index word.now ++ (1 - slice_index word.now point.index) ∷
+        traceback (drop (point.index + 1) rows.now) (next_trellis_state point.state (1 - slice_index word.now point.index)) }
 {
     v.copy_from_slice(word);
-    apply_deviation(rows, departure, v);
+    apply_deviation(rows, point, v);
 }
 
 /// Replaces `u` by the word that deviates from it at the given position. After that position, both the old and the new `u` follow the
 /// survivors.
-pub(crate) fn apply_deviation(rows: &[u16], departure: DeviationPoint, u: &mut [u8])
+pub(crate) fn apply_deviation(rows: &[u16], point: DeviationPoint, u: &mut [u8])
     requires bits { AllBits u.old }
     requires rows { length rows.now ≡ length u.old }
-    requires chosen { drop (departure.place + 1) u.old ≡
-        traceback (drop (departure.place + 1) rows.now) (next_trellis_state departure.state (slice_index u.old departure.place)) }
-    requires within { departure.place < length u.old }
-    requires state { departure.state < 16 }
-    ensures { u.new ≡ take departure.place u.old ++ (1 - slice_index u.old departure.place) ∷
-        traceback (drop (departure.place + 1) rows.now) (next_trellis_state departure.state (1 - slice_index u.old departure.place)) }
+    requires chosen { drop (point.index + 1) u.old ≡
+        traceback (drop (point.index + 1) rows.now) (next_trellis_state point.state (slice_index u.old point.index)) }
+    requires within { point.index < length u.old }
+    requires state { point.state < 16 }
+    ensures { u.new ≡ take point.index u.old ++ (1 - slice_index u.old point.index) ∷
+        traceback (drop (point.index + 1) rows.now) (next_trellis_state point.state (1 - slice_index u.old point.index)) }
 {
-    let place = usize::from(departure.place);
-    let old = u[place];
+    let index = usize::from(point.index);
+    let old = u[index];
     let bit = 1 - old;
-    u[place] = bit;
-    let before = u16::from(departure.state);
+    u[index] = bit;
+    let before = u16::from(point.state);
     let old_state = (2 * before + u16::from(old)) % 16;
     let state = (2 * before + u16::from(bit)) % 16;
-    replace_until_merged(&rows[place + 1..], old_state, state, &mut u[place + 1..]);
+    replace_until_merged(&rows[index + 1..], old_state, state, &mut u[index + 1..]);
 }
 
 /// Replaces the survivor of state `old_state` in `u` by the survivor of `state`. Once the two reach the same state, they agree, so the loop

@@ -1,5 +1,5 @@
 use Rattle.{std.proofs.Common.{◌≡◌, ◌<◌, take}, list_decode.specs.DeviatingWords.state_after_bits}
-use Rattle.list_decode.proofs.tails.find_merging_place.Given as goal
+use Rattle.list_decode.proofs.tails.find_merging_index.Given as goal
 
 abbrev pub invariant-loop-k : goal.invariant-loop-k
 invariant-loop-k l = record {

@@ -3,7 +3,7 @@ use Rattle.{
   trellis_decode.specs.Trellis.next_trellis_state,
   list_decode.proofs.DeviatingWords.state_after-more,
 }
-use Rattle.list_decode.proofs.tails.find_merging_place.Goals as goal
+use Rattle.list_decode.proofs.tails.find_merging_index.Goals as goal
 
 pub loop-k-preserved : goal.loop-k-preserved
 loop-k-preserved c =

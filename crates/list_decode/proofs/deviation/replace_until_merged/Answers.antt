@@ -2,7 +2,7 @@ use Rattle.{
   std.proofs.{Common.{ap, arith, drop, length, ◌∙◌, ◌*◌, ◌/◌, ◌-◌}, lemmas.List.{length-drop, length-take}},
   trellis_decode.proofs.Lemmas.length-traceback,
 }
-use Rattle.list_decode.proofs.departure.replace_until_merged.Goals as goal
+use Rattle.list_decode.proofs.deviation.replace_until_merged.Goals as goal
 
 pub slice_bounds-trace_back-start-2 : goal.slice_bounds-trace_back-start-2
 slice_bounds-trace_back-start-2 c =

@@ -4,7 +4,7 @@ use Rattle.{
   trellis_decode.{proofs.Lemmas.length-traceback, specs.Trellis.traceback},
   list_decode.{specs.DeviatingWords.state_after_bits, proofs.DeviatingWords.traceback-drop},
 }
-use Rattle.list_decode.proofs.departure.find_least_loss.Goals as goal
+use Rattle.list_decode.proofs.deviation.find_least_loss.Goals as goal
 
 pub returns-clause-list : goal.returns-clause-list
 returns-clause-list c =

@@ -1,5 +1,5 @@
 use Rattle.{std.proofs.Common.{◌≡◌, ◌<◌, ◌*◌, ◌+◌, ◌++◌, take, drop}, trellis_decode.specs.Trellis.traceback}
-use Rattle.list_decode.proofs.departure.replace_until_merged.Given as goal
+use Rattle.list_decode.proofs.deviation.replace_until_merged.Given as goal
 
 -- the result is the bits written so far, then the survivor of `state`; the bits not overwritten yet are the survivor of `old_state`
 abbrev pub invariant-loop-group : goal.invariant-loop-group

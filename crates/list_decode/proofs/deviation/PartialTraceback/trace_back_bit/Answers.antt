@@ -3,10 +3,10 @@ use Rattle.{
   std.proofs.{Common.{◌∙◌, to_z, of_z, w16, w32}, lemmas.{Int.{ints, to_z-of_z}, Nat.and_mask}},
   list_decode.proofs.{
     DeviatingWords.{least_loss-old, least_loss-new, partial_traceback-more},
-    departure.PartialTraceback.trace_back_bit.Goals.After-is_improved_by,
+    deviation.PartialTraceback.trace_back_bit.Goals.After-is_improved_by,
   },
 }
-use Rattle.list_decode.proofs.departure.PartialTraceback.trace_back_bit.Goals as goal
+use Rattle.list_decode.proofs.deviation.PartialTraceback.trace_back_bit.Goals as goal
 
 abbrev lost : After-is_improved_by → ℤ
 lost c = get_or (get_or c.args.losses.now c.args.k []) c.args.self.state (pos 0)
@@ -33,7 +33,7 @@ returns-then-is_improved_by c =
           (let within = c.requires.within in omega arith) bit (ap (λ bit. (2 * c.args.self.state + bit) % 16) c.from.ensures)
           (least_loss-new rows c.args.losses.now c.args.u.now k c.args.self c.requires.reading (inside at) c.new.result
           (let h = c.is_improved_by.ensures.after c.if-is_improved_by.true in omega (arith, ints))
-          new.place new.state (new.loss ∙ is_lost at) (let l = new.loss_limit in omega (arith, ints)));
+          new.index new.state (new.loss ∙ is_lost at) (let l = new.loss_limit in omega (arith, ints)));
     }
 
 pub returns-else-is_improved_by : goal.returns-else-is_improved_by
