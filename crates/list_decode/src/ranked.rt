@@ -63,9 +63,9 @@ impl ListDecoder {
         ensures ranked { IsRanked result.soft result.returned }
         ensures returned { result.returned ≡ u.now ∷ [] }
     {
-        let mut decoder = ListDecoder::new(soft);
-        decoder.words.begin(u, metric);
-        decoder
+        ListDecoder {
+            words: RankedWords::first_word(soft, u, metric),
+        }
     }
 
     /// Writes the next word to `u` and returns its path metric. Returns `None` if 64 words have been returned or no word is left.

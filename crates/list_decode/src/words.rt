@@ -1,8 +1,8 @@
 //! The returned words, and what is needed to find the next one. Every word but the first is stored as a deviation from an earlier word, and
 //! is written out only when needed.
 
-ghost use Rattle.std.specs.Prelude.{◌≡◌, ◌≤◌, ◌<◌, ◌+◌, ◌*◌, ◌%◌, ◌++◌, ◌∷◌, [], List, ℕ, length, take, drop};
-ghost use Rattle.std.specs.Prelude.{IfSome, MatchOption, slice_index_or};
+ghost use Rattle.std.specs.Prelude.{◌≡◌, ◌≤◌, ◌<◌, ◌+◌, ◌*◌, ◌%◌, ◌++◌, ◌∷◌, [], List, ℕ};
+ghost use Rattle.std.specs.Prelude.{take, drop, length, IfSome, MatchOption, slice_index_or};
 ghost use Rattle.weight_bound.specs.conv_code.Code.{encoding};
 ghost use Rattle.weight_bound.specs.conv_code.Likelihood.{AllSoftBits, IsMostLikely, likelihood};
 ghost use Rattle.list_decode.specs.Partitioning.{IsNextRankedWord};
@@ -51,45 +51,35 @@ impl RankedWords {
         ensures returned { returned_words result ≡ [] }
         ensures sound { IsRankingSoFar result }
     {
-        let span = WordSpan {
-            metric: 0,
-            word_index: 0,
-            from: 0,
-            to: 0,
-            state: 0,
-        };
-        let deviation = Deviation {
-            metric: 0,
-            point: DeviationPoint::new(0, 0, 0),
-            word_index: 0,
-        };
-        let branch = WordBranch {
-            span,
-            best: None,
-            metric: 0,
-        };
         RankedWords {
             pass: ViterbiPass::new(soft),
             first_word: [0; ENCODER_INPUT_BITS],
             first_metric: 0,
-            deviations: [deviation; 63],
+            deviations: [placeholder_deviation(); 63],
             count: 0,
-            branches: [branch; 127],
+            branches: [placeholder_branch(); 127],
         }
     }
 
-    /// Begins the ranking with `u`, the most likely word, and its path metric.
-    pub(crate) fn begin(&mut self, u: &[u8], metric: i32)
-        requires sound { IsRankingSoFar self.old }
-        requires best { IsMostLikely (soft_bits_of_pass self.old.pass) u.now }
-        requires metric { metric ≡ likelihood (soft_bits_of_pass self.old.pass) (encoding u.now) }
-        ensures sound { IsRankingSoFar self.new }
-        ensures soft { soft_bits_of_pass self.new.pass ≡ soft_bits_of_pass self.old.pass }
-        ensures returned { returned_words self.new ≡ u.now ∷ [] }
+    /// Only the most likely word, `u`, and its path metric.
+    pub(crate) fn first_word(soft: &[i8], u: &[u8], metric: i32) -> RankedWords
+        requires at_least { 10 ≤ length soft.now }
+        requires at_most { length soft.now ≤ CODED_BITS }
+        requires soft { AllSoftBits soft.now }
+        requires best { IsMostLikely soft.now u.now }
+        requires metric { metric ≡ likelihood soft.now (encoding u.now) }
+        ensures soft { soft_bits_of_pass result.pass ≡ soft.now }
+        ensures returned { returned_words result ≡ u.now ∷ [] }
+        ensures sound { IsRankingSoFar result }
     {
-        self.first_word = pad_with_zeros(u);
-        self.first_metric = metric;
-        self.count = 1;
+        RankedWords {
+            pass: ViterbiPass::new(soft),
+            first_word: pad_with_zeros(u),
+            first_metric: metric,
+            deviations: [placeholder_deviation(); 63],
+            count: 1,
+            branches: [placeholder_branch(); 127],
+        }
     }
 
     /// Writes the most likely word to `u` and returns its path metric.
@@ -102,7 +92,9 @@ impl RankedWords {
         ensures value { result ≡ likelihood (soft_bits_of_pass self.old.pass) (encoding u.new) }
     {
         let metric = decode(&self.pass.soft[..2 * self.pass.bits], u);
-        self.begin(u, metric);
+        self.first_word = pad_with_zeros(u);
+        self.first_metric = metric;
+        self.count = 1;
         metric
     }
 
@@ -230,4 +222,29 @@ fn pad_with_zeros(word: &[u8]) -> [u8; ENCODER_INPUT_BITS]
     let mut list = [0; ENCODER_INPUT_BITS];
     list[..word.len()].copy_from_slice(word);
     list
+}
+
+/// A deviation that is not in use.
+fn placeholder_deviation() -> Deviation {
+    Deviation {
+        metric: 0,
+        point: DeviationPoint::new(0, 0, 0),
+        word_index: 0,
+    }
+}
+
+/// A branch that is not in use.
+fn placeholder_branch() -> WordBranch {
+    let span = WordSpan {
+        metric: 0,
+        word_index: 0,
+        from: 0,
+        to: 0,
+        state: 0,
+    };
+    WordBranch {
+        span,
+        best: None,
+        metric: 0,
+    }
 }
