@@ -4,37 +4,36 @@ use Rattle.{
     proofs.{
       DeviatingWords.order-cases,
       Deviations.{FollowsFrom, follows-deviation, LosesAtLeast-in_class, is_deviation},
-      Rankings.{Disjoint, ranking-begins_with, deviations_after_place-place, DeviatesAt-earlier, DeviatesAt-unique, classes-parted, parts},
+      Rankings.{Disjoint, ranking-begins_with, deviations_after_index-index, DeviatesAt-earlier, DeviatesAt-unique, classes-parted, parts},
       Rankings.{IsPartWithout, lex_before-fork, lex_behind-fork, RanksAfter-trans, without_position-free},
       Spans.{between_from, between_to, is_between},
     },
     specs.{
       DeviatingWords.{is_in_range, FollowsSurvivors},
       Branches.{IsBranchOfReturnedWord, IsDeviation, IsMostLikelyDeviation, deviations_in_span, word_of_deviation},
-      Choices.{DecidesLexicographicOrder, DeviatesFromReturnedWord, AreMetricsOfBranches, IsFirstRankedBranch, IsNotOutrankedBy},
-      Choices.{deviating_word, placeholder_branch},
-      Classes.{DeviatesAt, DeviationClass, IsInClass, PartitionsUnreturnedWords, deviations_after_place, deviations_anywhere},
-      WordStorage.{DeviatesAtSamePosition, IsChainOfDeviations, IsDeviationTree, IsMadeByDeviation, placeholder_deviation, stored_words},
-      WordStorage.with_deviating_words,
+      Choices.{DecidesLexicographicOrder, DeviatesFromReturnedWord, IsFirstRankedBranch, IsNotOutrankedBy, deviating_word},
+      Classes.{DeviatesAt, DeviationClass, IsInClass, PartitionsUnreturnedWords, deviations_after_index, deviations_anywhere},
+      Words.{DeviatesAtSamePosition, DeviatesFromWords, IsChainOfDeviations, IsMadeByDeviation, IsRanking, placeholder_deviation},
+      Words.{returned_words, with_deviating_words, word_made_by},
       Passes.{IsCompletePass, decision_rows, losses_of_pass, soft_bits_of_pass},
       Ranking.{IsCandidate, IsRanked},
       declared.{branch.{Deviation.Deviation, WordBranch.WordBranch, WordSpan.WordSpan}, choice.BranchChoice.BranchChoice},
-      declared.{lists.StoredWords.StoredWords, pass.ViterbiPass.ViterbiPass},
+      declared.{words.RankedWords.RankedWords, pass.ViterbiPass.ViterbiPass},
     },
   },
   std.{
     proofs.{
-      lemmas.List.{get_or-set_same, drop-set-lt, Elements.{All-from_recursion, All-push, All-cons, All-nil}, get_or-set_other, get_or-take},
-      lemmas.{List.{get_or_append_left, get_or_push, length-append, length-set, length-take, take_all, take_more_set}, Bool.cases_lt},
-      lemmas.{Grind.get_or-set_at, Int.{ints, to_z-of_z}, Option.{get_or_from_slice_get, slice_get_within}},
+      lemmas.List.{get_or-set_same, drop-set-lt, Elements.{All-from_recursion, All-push, All-cons, All-nil}, get_or-set_other},
+      lemmas.{List.{get_or_append_left, get_or_push, length-append, length-set, take_all, take_more_set}, Bool.cases_lt},
+      lemmas.{Grind.get_or-set_at, Int.ints, Option.{get_or_from_slice_get, slice_get_within}},
       Common.{add-one, drop-cons, FitsSigned, List, None, Option, Some, [], append_assoc, ap, arith, drop, get_or, inl, inr, length},
-      Common.{negsuc, of_z, pos, refl, set, subst, suc, sym, take, to_z, true, w32, zero, ℕ, ℤ, ◌++◌, ◌+◌, ◌-◌, ◌<◌},
-      Common.{◌∙◌, ◌∷◌, ◌≡◌, ◌≢◌, ◌≤◌, ◌⊎◌},
+      Common.{negsuc, pos, refl, set, subst, suc, sym, take, true, w32, zero, ℕ, ℤ, ◌++◌, ◌+◌, ◌-◌, ◌<◌, ◌∙◌},
+      Common.{◌∷◌, ◌≡◌, ◌≢◌, ◌≤◌, ◌⊎◌},
     },
     specs.{List.{All, Contains, slice_get}, Prelude.{IfSome, nat_eq, ◌<ℤ◌, ◌≤ℤ◌}},
   },
   trellis_decode.proofs.Lemmas.{HasTailBits-from_tail, IsEncoderInput-ends},
-  weight_bound.{proofs.conv_code.Lemmas.{bit_at-most_1, same_list, same_number}, specs.conv_code.Likelihood.{IsMostLikely, RanksAfter}},
+  weight_bound.{proofs.conv_code.Lemmas.{bit_at-most_1, same_list}, specs.conv_code.Likelihood.{IsMostLikely, RanksAfter}},
 }
 
 -- ## Choices: The choice of the branch whose most likely word ranks first.
@@ -60,9 +59,9 @@ pub deviating_word-candidate : (pass : ViterbiPass) (us : List (List ℕ)) (x : 
 deviating_word-candidate pass us x is all deviation =
     deviation-candidate _ _ x is (all _ [] deviation.in_range) deviation.deviation
 
-deviation_departs_at : (pass : ViterbiPass) (u : List ℕ) (x : Deviation) → IsCompletePass pass →
-    IsCandidate (soft_bits_of_pass pass) u → IsDeviation pass u x → DeviatesAt u (word_of_deviation pass u x) x.departure.place
-deviation_departs_at pass u x is candidate deviation =
+deviation-deviates : (pass : ViterbiPass) (u : List ℕ) (x : Deviation) → IsCompletePass pass →
+    IsCandidate (soft_bits_of_pass pass) u → IsDeviation pass u x → DeviatesAt u (word_of_deviation pass u x) x.point.index
+deviation-deviates pass u x is candidate deviation =
     (is_deviation _ u _ _ _ 0 _ is.decisions (omega arith)
     (HasTailBits-from_tail u candidate.information.bits candidate.information.tail) deviation.follows (omega arith) (omega arith)).deviates
 
@@ -115,9 +114,9 @@ module _ (pass : ViterbiPass) (us : List (List ℕ)) (branches : List WordBranch
     over None most = tt
     over (Some y) most = elim most [
       | inl same ↦ inr (rw same before)
-      | inr deviations_after_place ↦
+      | inr behind ↦
           inr (RanksAfter-trans (soft_bits_of_pass pass) (deviating_word pass us y) (deviating_word pass us old.deviation)
-          (deviating_word pass us new.deviation) deviations_after_place before)
+          (deviating_word pass us new.deviation) behind before)
     ]
 
   pub first_ranked-old : (old new : BranchChoice) → IsFirstRankedBranch pass us branches (Some old) →
@@ -125,20 +124,20 @@ module _ (pass : ViterbiPass) (us : List (List ℕ)) (branches : List WordBranch
       (deviating_word pass us new.deviation ≡ deviating_word pass us old.deviation)
       ⊎ RanksAfter (soft_bits_of_pass pass) (deviating_word pass us new.deviation) (deviating_word pass us old.deviation) →
       IsFirstRankedBranch pass us (branches ++ branch ∷ []) (Some old)
-  first_ranked-old old new first best deviations_after_place = (
+  first_ranked-old old new first best behind = (
     (first.0.0, slice_get-early branches (branch ∷ []) _ old.branch first.0.1, first.0.2),
-    All-push (AtMost old.deviation) branches branch first.1 (rw best deviations_after_place),
+    All-push (AtMost old.deviation) branches branch first.1 (rw best behind),
   )
 
-  pub first_ranked-lower : (first : Option BranchChoice) (metric least : ℤ) → IsFirstRankedBranch pass us branches first →
+  pub first_ranked-lower : (first : Option BranchChoice) (least : ℤ) → IsFirstRankedBranch pass us branches first →
       IfSome first (λ choice. DeviatesFromReturnedWord pass us choice.deviation) →
-      IfSome first (λ choice. least ≤ℤ choice.deviation.likelihood) → (first ≡ None → least ≤ℤ metric) →
-      IsBranchOfReturnedWord pass us branch → IfSome branch.best (λ best. metric ≡ best.likelihood) → metric <ℤ least →
+      IfSome first (λ choice. least ≤ℤ choice.deviation.metric) → (first ≡ None → least ≤ℤ branch.metric) →
+      IsBranchOfReturnedWord pass us branch → branch.metric <ℤ least →
       IsFirstRankedBranch pass us (branches ++ branch ∷ []) first
-  first_ranked-lower None metric least old deviates most w32-lowest is same less = absurd (let l = w32-lowest refl in omega (arith, ints))
-  first_ranked-lower (Some choice) metric least old deviates most w32-lowest is same less = go branch.best refl same
+  first_ranked-lower None least old deviates most w32-lowest is less = absurd (let l = w32-lowest refl in omega (arith, ints))
+  first_ranked-lower (Some choice) least old deviates most w32-lowest is less = go branch.best refl is.is_branch.metric
     where
-      go : (best : Option Deviation) → branch.best ≡ best → IfSome best (λ best. metric ≡ best.likelihood) →
+      go : (best : Option Deviation) → branch.best ≡ best → IfSome best (λ best. branch.metric ≡ best.metric) →
           IsFirstRankedBranch pass us (branches ++ branch ∷ []) (Some choice)
       go None e same = first_ranked-empty (Some choice) old e
       go (Some x) e same =
@@ -162,49 +161,24 @@ first_ranked-deviation pass us branches None all first = tt
 first_ranked-deviation pass us branches (Some choice) all first =
     branch_deviation _ us first.0.0 _ (All-slice_get (IsBranchOfReturnedWord _ us) _ first.0.0 choice.branch all first.0.1) first.0.2
 
--- ---- lemmas about the list of the branches' path metrics
-
-pub likelihood-stored : (branch : WordBranch) (metric : ℤ) → FitsSigned w32 metric →
-    IfSome branch.best (λ best. metric ≡ best.likelihood) →
-    IfSome branch.best (λ best. to_z w32 (of_z w32 metric) ≡ best.likelihood)
-likelihood-stored branch metric fits is = rw (to_z-of_z w32 metric fits) is
-
-pub AreMetricsOfBranches-set : (branches : List WordBranch) (metrics : List ℤ) (i : ℕ) (branch : WordBranch) (metric : ℤ) →
-    i < length branches → i < length metrics → AreMetricsOfBranches branches metrics →
-    IfSome branch.best (λ best. metric ≡ best.likelihood) →
-    AreMetricsOfBranches (set branches i branch) (set metrics i metric)
-AreMetricsOfBranches-set branches metrics i branch metric in_branches in_metrics old new k lt = elim (same_number k i) [
-  | inl here ↦ rw (get_or-set_at branches i k branch placeholder_branch here in_branches)
-      (rw (get_or-set_at metrics i k metric (pos 0) here in_metrics) new)
-  | inr other ↦ rw (get_or-set_other branches i k branch placeholder_branch other)
-      (rw (get_or-set_other metrics i k metric (pos 0) other) (old k (omega (arith, length-set branches i branch))))
-]
-
-pub AreMetricsOfBranches-take : (branches : List WordBranch) (metrics : List ℤ) (n : ℕ) → AreMetricsOfBranches branches metrics →
-    AreMetricsOfBranches (take n branches) (take n metrics)
-AreMetricsOfBranches-take branches metrics n old k lt =
-    let within : k < n = omega (arith, length-take n branches) in
-    rw (get_or-take n branches k placeholder_branch within) (rw (get_or-take n metrics k (pos 0) within)
-    (old k (omega (arith, length-take n branches))))
-
--- the default branch, used when an index is out of range
-abbrev pub blank : WordBranch
-blank = record { span = record { likelihood = pos 0; word_index = 0; from = 0; to = 0; state = 0 }; best = None }
-
 pub None-if_not_some : (best : Option Deviation) → ((x : Deviation) → best ≢ Some x) → best ≡ None
 None-if_not_some None none = refl
 None-if_not_some (Some x) none = absurd (none x refl)
 
+-- the words after one more is returned, which the deviation `x` produces
+abbrev pub one_more_word : (words : RankedWords) (x : Deviation) (branches : List WordBranch) → RankedWords
+one_more_word words x branches = record {
+  pass = words.pass;
+  first_word = words.first_word;
+  first_metric = words.first_metric;
+  deviations = set words.deviations (words.count - 1) x;
+  count = words.count + 1;
+  branches = branches;
+}
+
 -- ## Trees: How returned words are stored: each word but the first is a deviation from an earlier word.
 
 -- ---- lemmas about the list of the returned words
-
-length-with_deviating_words : (pass : ViterbiPass) (us : List (List ℕ)) (xs : List Deviation) →
-    length (with_deviating_words pass us xs) ≡ length us + length xs
-length-with_deviating_words pass us [] = omega arith
-length-with_deviating_words pass us (x ∷ xs) =
-    let rest = length-with_deviating_words pass (us ++ deviating_word pass us x ∷ []) xs in
-    omega (arith, length-append us (deviating_word pass us x ∷ []))
 
 with_deviating_words-push : (pass : ViterbiPass) (us : List (List ℕ)) (xs : List Deviation) (x : Deviation) →
     with_deviating_words pass us (xs ++ x ∷ []) ≡ with_deviating_words pass us xs ++ deviating_word pass
@@ -222,34 +196,25 @@ with_deviating_words-first pass us (x ∷ xs) some =
     ))
     ∙ get_or_append_left us (deviating_word pass us x ∷ []) [] 0 some
 
-abbrev pub one_more_word : StoredWords → Deviation → StoredWords
-one_more_word lists x =
-    record { first_word = lists.first_word; deviations = set lists.deviations (lists.count - 1) x; count = lists.count + 1 }
+module _ (words : RankedWords) (many : length words.deviations ≡ 63) (some : 0 < words.count) where
+  pub returned_words-first : get_or (returned_words words) 0 [] ≡ take words.pass.bits words.first_word
+  returned_words-first =
+      rw (take_all words.count (take words.pass.bits words.first_word ∷ []) (omega arith))
+      (with_deviating_words-first words.pass (take words.pass.bits words.first_word ∷ []) (take (words.count - 1) words.deviations)
+      (omega arith))
 
-module _ (pass : ViterbiPass) (lists : StoredWords) (many : length lists.deviations ≡ 63) (most : lists.count ≤ 64) where
-  pub length-words : length (stored_words pass lists) ≡ lists.count
-  length-words =
-      let all = length-with_deviating_words pass (take lists.count (take pass.bits lists.first_word ∷ [])) (take
-      (lists.count - 1) lists.deviations) in
-      omega (arith, length-take lists.count (take pass.bits lists.first_word ∷ []), length-take (lists.count - 1) lists.deviations)
-
-  pub stored_words-first : 0 < lists.count → get_or (stored_words pass lists) 0 [] ≡ take pass.bits lists.first_word
-  stored_words-first some =
-      rw (take_all lists.count (take pass.bits lists.first_word ∷ []) (omega arith))
-      (with_deviating_words-first pass (take pass.bits lists.first_word ∷ []) (take (lists.count - 1) lists.deviations) (omega arith))
-
-  pub stored_words-push : (x : Deviation) → 0 < lists.count → lists.count < 64 →
-      stored_words pass (one_more_word lists x) ≡ stored_words pass lists ++ deviating_word pass (stored_words pass lists) x ∷ []
-  stored_words-push x some few =
-      let first = take pass.bits lists.first_word ∷ [] in
-      let more : lists.count + 1 - 1 ≡ lists.count - 1 + 1 = omega arith in
+  pub returned_words-push : (x : Deviation) (branches : List WordBranch) → words.count < 64 →
+      returned_words (one_more_word words x branches) ≡ returned_words words ++ word_made_by words x ∷ []
+  returned_words-push x branches few =
+      let first = take words.pass.bits words.first_word ∷ [] in
+      let more : words.count + 1 - 1 ≡ words.count - 1 + 1 = omega arith in
       rw (
-        take_all (lists.count + 1) first (omega arith),
-        take_all lists.count first (omega arith),
+        take_all (words.count + 1) first (omega arith),
+        take_all words.count first (omega arith),
         more,
-        take_more_set lists.deviations (lists.count - 1) x (omega arith),
+        take_more_set words.deviations (words.count - 1) x (omega arith),
       )
-      (with_deviating_words-push pass first (take (lists.count - 1) lists.deviations) x)
+      (with_deviating_words-push words.pass first (take (words.count - 1) words.deviations) x)
 
 -- ---- lemmas about storing one more word as a deviation
 
@@ -271,32 +236,23 @@ IsMadeByDeviation-new pass us i x end is =
       word_is = rw parent (get_or_push us _ [] i (sym end));
     }
 
-pub IsDeviationTree-more : (pass : ViterbiPass) (lists : StoredWords) (x : Deviation) → length lists.deviations ≡ 63 →
-    IsDeviationTree pass lists →
-    0 < lists.count → lists.count < 64 → DeviatesFromReturnedWord pass (stored_words pass lists) x →
-    IsDeviationTree pass (one_more_word lists x)
-IsDeviationTree-more pass lists x many tree some few is = record {
-  at_most = omega arith;
-  made_by_deviation = (λ k within. rw (stored_words-push pass lists many tree.at_most x some few) (one k within));
-} where
-  us : List (List ℕ)
-  us = stored_words pass lists
-
-  one : (k : ℕ) → k + 1 < lists.count + 1 →
-      IsMadeByDeviation pass (stored_words pass lists ++ deviating_word pass (stored_words pass lists) x ∷ []) (k + 1)
-      (get_or (set lists.deviations (lists.count - 1) x) k placeholder_deviation)
-  one k within = elim (cases_lt (k + 1) lists.count) [
-    | inl early ↦ rw (get_or-set_other lists.deviations (lists.count - 1) k x placeholder_deviation (λ e. omega arith))
-        (IsMadeByDeviation-push pass us (deviating_word pass us x) (k + 1) (get_or lists.deviations k placeholder_deviation)
-        (let n = length-words pass lists many tree.at_most in omega arith) (tree.made_by_deviation k early))
-    | inr late ↦ rw (get_or-set_at lists.deviations (lists.count - 1) k x placeholder_deviation (omega arith) (omega arith))
-        (IsMadeByDeviation-new pass us (k + 1) x (let n = length-words pass lists many tree.at_most in omega arith) is)
-  ]
+pub made_by_deviation-more : (words : RankedWords) (x : Deviation) (branches : List WordBranch) → length words.deviations ≡ 63 →
+    IsRanking words → words.count < 64 → DeviatesFromWords words x → (k : ℕ) → k + 1 < words.count + 1 →
+    IsMadeByDeviation words.pass (returned_words (one_more_word words x branches)) (k + 1)
+    (get_or (set words.deviations (words.count - 1) x) k placeholder_deviation)
+made_by_deviation-more words x branches many old few is k within =
+    rw (returned_words-push words many old.some x branches few) (elim (cases_lt (k + 1) words.count) [
+      | inl early ↦ rw (get_or-set_other words.deviations (words.count - 1) k x placeholder_deviation (λ e. omega arith))
+          (IsMadeByDeviation-push words.pass (returned_words words) (word_made_by words x) (k + 1)
+          (get_or words.deviations k placeholder_deviation) (omega arith) (old.made_by_deviation k early))
+      | inr late ↦ rw (get_or-set_at words.deviations (words.count - 1) k x placeholder_deviation (omega arith) (omega arith))
+          (IsMadeByDeviation-new words.pass (returned_words words) (k + 1) x (omega arith) is)
+    ])
 
 -- ---- lemmas about the lexicographic order of two words that deviate from a common word
 
 module _ (pass : ViterbiPass) (us : List (List ℕ)) (w : List ℕ) (x up : Deviation) (is : IsCompletePass pass) (all : All (IsCandidate
-    (soft_bits_of_pass pass)) us) (returned : IsMadeByDeviation pass us x.word_index up) (before : up.departure.place < x.departure.place)
+    (soft_bits_of_pass pass)) us) (returned : IsMadeByDeviation pass us x.word_index up) (before : up.point.index < x.point.index)
   where
     pub same_position-parent : DeviatesAtSamePosition us w x → DeviatesAtSamePosition us w up
     same_position-parent forks =
@@ -304,9 +260,9 @@ module _ (pass : ViterbiPass) (us : List (List ℕ)) (w : List ℕ) (x up : Devi
         let child : IsCandidate (soft_bits_of_pass pass) (get_or us x.word_index []) = all _ [] forks.in_range in
         record {
           in_range = omega arith;
-          deviates = DeviatesAt-earlier (get_or us up.word_index []) (get_or us x.word_index []) w up.departure.place x.departure.place
+          deviates = DeviatesAt-earlier (get_or us up.word_index []) (get_or us x.word_index []) w up.point.index x.point.index
               (omega arith)
-              (rw returned.word_is (deviation_departs_at pass (get_or us up.word_index []) up is parent returned.deviation)) forks.deviates
+              (rw returned.word_is (deviation-deviates pass (get_or us up.word_index []) up is parent returned.deviation)) forks.deviates
               before;
           bit = returned.deviation.bit;
         }
@@ -316,7 +272,7 @@ pub same_position-itself : (pass : ViterbiPass) (us : List (List ℕ)) (x : Devi
     DeviatesAtSamePosition us (deviating_word pass us x) x
 same_position-itself pass us x is all deviation = record {
   in_range = deviation.in_range;
-  deviates = deviation_departs_at _ _ x is (all _ [] deviation.in_range) deviation.deviation;
+  deviates = deviation-deviates _ _ x is (all _ [] deviation.in_range) deviation.deviation;
   bit = deviation.deviation.bit;
 }
 
@@ -333,15 +289,15 @@ module _ (pass : ViterbiPass) (us : List (List ℕ)) (v w : List ℕ) (x y : Dev
   equal_lengths : (t : List ℕ) → IsCandidate (soft_bits_of_pass pass) t → length t ≡ length here
   equal_lengths t is_t = let n = is_u.count in let m = is_t.count in omega arith
 
-  left_y : DeviatesAt here w y.departure.place
+  left_y : DeviatesAt here w y.point.index
   left_y = rw same fy.deviates
 
-  bit_y : y.departure.bit ≡ get_or here y.departure.place 0
+  bit_y : y.point.bit ≡ get_or here y.point.index 0
   bit_y = rw same fy.bit
 
-  pub order-earlier : x.departure.place < y.departure.place → DecidesLexicographicOrder v w (nat_eq x.departure.bit 1)
+  pub order-earlier : x.point.index < y.point.index → DecidesLexicographicOrder v w (nat_eq x.point.bit 1)
   order-earlier early =
-      let bit = bit_at-most_1 here x.departure.place is_u.information.bits in
+      let bit = bit_at-most_1 here x.point.index is_u.information.bits in
       let is = fx.bit in
       order-cases v w _
       (λ on. lex_before-fork here v w _ _ fx.deviates left_y early is_v.information.bits (equal_lengths v is_v) (equal_lengths w is_w)
@@ -350,9 +306,9 @@ module _ (pass : ViterbiPass) (us : List (List ℕ)) (v w : List ℕ) (x y : Dev
       (equal_lengths w is_w)
       (grind arith)))
 
-  pub order-later : y.departure.place < x.departure.place → DecidesLexicographicOrder v w (nat_eq y.departure.bit 0)
+  pub order-later : y.point.index < x.point.index → DecidesLexicographicOrder v w (nat_eq y.point.bit 0)
   order-later early =
-      let bit = bit_at-most_1 here y.departure.place is_u.information.bits in
+      let bit = bit_at-most_1 here y.point.index is_u.information.bits in
       let is = bit_y in
       order-cases v w _
       (λ on. lex_behind-fork here w v _ _ left_y fx.deviates early is_w.information.bits (equal_lengths w is_w) (equal_lengths v is_v)
@@ -375,50 +331,49 @@ drop-set xs k x within =
           (omega arith),
     ) refl
 
-pub chain-more : (lists : StoredWords) (xs : List ℕ) (start at i : ℕ) → start < length xs → 0 < at → at < lists.count →
-    IsChainOfDeviations lists (drop (start + 1) xs) at i →
-    IsChainOfDeviations lists (drop start (set xs start at)) (get_or lists.deviations (at - 1) placeholder_deviation).word_index i
-chain-more lists xs start at i within some small leads =
+pub chain-more : (words : RankedWords) (xs : List ℕ) (start at i : ℕ) → start < length xs → 0 < at → at < words.count →
+    IsChainOfDeviations words (drop (start + 1) xs) at i →
+    IsChainOfDeviations words (drop start (set xs start at)) (get_or words.deviations (at - 1) placeholder_deviation).word_index i
+chain-more words xs start at i within some small leads =
     rw drop-set (some, small, refl, leads)
 
 -- u is a word on the chain of deviations that leads to word number i, and cs is the rest of the chain
-abbrev pub IsOnChain : ViterbiPass → StoredWords → List ℕ → ℕ → List ℕ → Type 0
-IsOnChain pass lists cs i u = (at : ℕ) × (u ≡ get_or (stored_words pass lists) at []) × (at < lists.count) ×
-    IsChainOfDeviations lists cs at i
+abbrev pub IsOnChain : RankedWords → List ℕ → ℕ → List ℕ → Type 0
+IsOnChain words cs i u = (at : ℕ) × (u ≡ get_or (returned_words words) at []) × (at < words.count) ×
+    IsChainOfDeviations words cs at i
 
 -- the chain of deviations continues from the word u with word number c, which deviates from u
-pub record HasNextDeviation (pass : ViterbiPass) (lists : StoredWords) (cs : List ℕ) (i c : ℕ) (u : List ℕ) : Type 0 where
+pub record HasNextDeviation (words : RankedWords) (cs : List ℕ) (i c : ℕ) (u : List ℕ) : Type 0 where
   pub positive : 0 < c
-  pub in_range : c < lists.count
-  pub candidate : IsCandidate (soft_bits_of_pass pass) u
-  pub deviation : IsDeviation pass u (get_or lists.deviations (c - 1) placeholder_deviation)
-  pub next : (v : List ℕ) → v ≡ word_of_deviation pass u (get_or lists.deviations (c - 1) placeholder_deviation)
-      → IsOnChain pass lists cs i v
+  pub in_range : c < words.count
+  pub candidate : IsCandidate (soft_bits_of_pass words.pass) u
+  pub deviation : IsDeviation words.pass u (get_or words.deviations (c - 1) placeholder_deviation)
+  pub next : (v : List ℕ) → v ≡ word_of_deviation words.pass u (get_or words.deviations (c - 1) placeholder_deviation)
+      → IsOnChain words cs i v
 
-pub chain-next : (pass : ViterbiPass) (lists : StoredWords) (xs : List ℕ) (k i : ℕ) (u : List ℕ) →
-    length lists.deviations ≡ 63 →
-    IsDeviationTree pass lists →
-    All (IsCandidate (soft_bits_of_pass pass)) (stored_words pass lists) → k < length xs → IsOnChain pass lists (drop k xs) i u →
-    HasNextDeviation pass lists (drop (k + 1) xs) i (get_or xs k 0) u
-chain-next pass lists xs k i u many tree all within path =
+pub chain-next : (words : RankedWords) (xs : List ℕ) (k i : ℕ) (u : List ℕ) →
+    IsRanking words → k < length xs → IsOnChain words (drop k xs) i u →
+    HasNextDeviation words (drop (k + 1) xs) i (get_or xs k 0) u
+chain-next words xs k i u is_ranking within path =
     from path.0 path.1 path.2 (rw (drop-at xs k within) at path.3)
   where
-    from : (at : ℕ) → u ≡ get_or (stored_words pass lists) at [] → at < lists.count →
-        IsChainOfDeviations lists (get_or xs k 0 ∷ drop (k + 1) xs) at i →
-        HasNextDeviation pass lists (drop (k + 1) xs) i (get_or xs k 0) u
+    from : (at : ℕ) → u ≡ get_or (returned_words words) at [] → at < words.count →
+        IsChainOfDeviations words (get_or xs k 0 ∷ drop (k + 1) xs) at i →
+        HasNextDeviation words (drop (k + 1) xs) i (get_or xs k 0) u
     from at is small leads =
         let c = get_or xs k 0 in
         let back : c - 1 + 1 ≡ c = let s = leads.0 in omega arith in
-        let x = get_or lists.deviations (c - 1) placeholder_deviation in
-        let returned : IsMadeByDeviation pass (stored_words pass lists) c x =
-        rw back at (tree.made_by_deviation (c - 1) (let s = leads.1 in omega arith)) in
-        let here : get_or (stored_words pass lists) x.word_index [] ≡ u = ap (λ k. get_or (stored_words pass lists) k []) leads.2
+        let x = get_or words.deviations (c - 1) placeholder_deviation in
+        let returned : IsMadeByDeviation words.pass (returned_words words) c x =
+        rw back at (is_ranking.made_by_deviation (c - 1) (let s = leads.1 in omega arith)) in
+        let here : get_or (returned_words words) x.word_index [] ≡ u = ap (λ k. get_or (returned_words words) k []) leads.2
         ∙ sym is in record {
           positive = leads.0;
           in_range = leads.1;
-          candidate = rw is (all at [] (let n = length-words pass lists many tree.at_most in omega arith));
+          candidate = rw is (is_ranking.ranked.ranked_words_are_candidates at [] (omega arith));
           deviation = rw here at returned.deviation;
-          next = (λ v written. (c, written ∙ sym (returned.word_is ∙ ap (λ u. word_of_deviation pass u x) here), leads.1, leads.3));
+          next = λ v written.
+              (c, written ∙ sym (returned.word_is ∙ ap (λ u. word_of_deviation words.pass u x) here), leads.1, leads.3);
         }
 
 -- ## NextLists: The next word of a ranking is the most likely word of all branches.
@@ -451,9 +406,9 @@ before_the_last : (pass : ViterbiPass) (c : DeviationClass) (from : ℕ) (w : Li
     IsCandidate (soft_bits_of_pass pass) c.word →
     FollowsSurvivors from c.word (decision_rows pass) 0 → ((k : ℕ) → c.may_deviate_at k ≡ true → from ≤ k) →
     IsCandidate (soft_bits_of_pass pass) w →
-    (at : IsInClass c w) → at.place + 4 < pass.bits
+    (at : IsInClass c w) → at.index + 4 < pass.bits
 before_the_last pass c from w is candidate follows later is_w at =
-    let places = is.row_count in
+    let indices = is.row_count in
     let followed : FollowsFrom _ _ _ c _ =
     record {
       decisions = is.decisions;
@@ -473,33 +428,33 @@ pub ranking-begins : (pass : ViterbiPass) (u : List ℕ) (span : WordSpan) → I
     IsRanked (soft_bits_of_pass pass) (u ∷ []) ×
     PartitionsUnreturnedWords (soft_bits_of_pass pass) (u ∷ []) (deviations_in_span u span ∷ [])
 ranking-begins pass u span is best follows from to =
-    ranking-begins_with (soft_bits_of_pass pass) u (is_in_range span.from span.to) best (λ w place is_w at.
+    ranking-begins_with (soft_bits_of_pass pass) u (is_in_range span.from span.to) best (λ w index is_w at.
     let candidate : IsCandidate (soft_bits_of_pass pass) u = record { information = best.information; count = best.count } in
     let short = before_the_last pass (deviations_anywhere u) 0 w is candidate follows (λ k free. omega arith) is_w
-    (record { place = place; deviates = at; allowed = refl }) in
-    is_between span.from span.to place (omega arith) (omega arith))
+    (record { index = index; deviates = at; allowed = refl }) in
+    is_between span.from span.to index (omega arith) (omega arith))
 
 module _ (pass : ViterbiPass) (us : List (List ℕ)) (u : List ℕ) (span : WordSpan) (x : Deviation) (is : IsCompletePass pass)
     (candidate : IsCandidate (soft_bits_of_pass pass) u)
     (is_x : IsDeviation pass u x) (v_is : IsCandidate (soft_bits_of_pass pass) (word_of_deviation pass u x))
-    (from : span.from ≤ x.departure.place) (to : x.departure.place < span.to) where
-  abbrev place : ℕ
-  place = x.departure.place
+    (from : span.from ≤ x.point.index) (to : x.point.index < span.to) where
+  abbrev index : ℕ
+  index = x.point.index
 
   abbrev v : List ℕ
   v = word_of_deviation pass u x
 
-  left : DeviatesAt u v place
-  left = deviation_departs_at pass u x is candidate is_x
+  left : DeviatesAt u v index
+  left = deviation-deviates pass u x is candidate is_x
 
   module _ (before after : List DeviationClass) (first behind_v rest : WordSpan) (ranked : IsRanked (soft_bits_of_pass pass) us)
       (covers : PartitionsUnreturnedWords (soft_bits_of_pass pass) us (before ++ deviations_in_span u span ∷ after))
       (best : (e : DeviationClass) (w : List ℕ) → Contains (before ++ deviations_in_span u span ∷ after) e →
       IsCandidate (soft_bits_of_pass pass) w → IsInClass e w →
       w ≢ word_of_deviation pass u x → RanksAfter (soft_bits_of_pass pass) w (word_of_deviation pass u x))
-      (first_from : first.from ≡ span.from) (first_to : first.to ≡ x.departure.place) (behind_from : behind_v.from ≡
-      x.departure.place + 1)
-      (behind_to : behind_v.to + 4 ≡ pass.bits) (rest_from : rest.from ≡ x.departure.place + 1) (rest_to : rest.to ≡ span.to) where
+      (first_from : first.from ≡ span.from) (first_to : first.to ≡ x.point.index) (behind_from : behind_v.from ≡
+      x.point.index + 1)
+      (behind_to : behind_v.to + 4 ≡ pass.bits) (rest_from : rest.from ≡ x.point.index + 1) (rest_to : rest.to ≡ span.to) where
     abbrev s : List ℤ
     s = soft_bits_of_pass pass
 
@@ -517,25 +472,25 @@ module _ (pass : ViterbiPass) (us : List (List ℕ)) (u : List ℕ) (span : Word
 
     in_span : (t : List ℕ) (part : WordSpan) (w : List ℕ) (k : ℕ) → DeviatesAt t w k → part.from ≤ k → k < part.to →
         IsInClass (deviations_in_span t part) w
-    in_span t part w k at f l = record { place = k; deviates = at; allowed = is_between part.from part.to k f l }
+    in_span t part w k at f l = record { index = k; deviates = at; allowed = is_between part.from part.to k f l }
 
     -- the words of the three parts deviate from u before the position where v deviates, after it, or at it
-    in_first : (w : List ℕ) → IsInClass a w → (k : ℕ) × DeviatesAt u w k × (span.from ≤ k) × (k < place)
+    in_first : (w : List ℕ) → IsInClass a w → (k : ℕ) × DeviatesAt u w k × (span.from ≤ k) × (k < index)
     in_first w at =
-        let f = between_from _ _ at.place at.allowed in
-        let t = between_to _ _ at.place at.allowed in
-        (at.place, at.deviates, omega arith, omega arith)
+        let f = between_from _ _ at.index at.allowed in
+        let t = between_to _ _ at.index at.allowed in
+        (at.index, at.deviates, omega arith, omega arith)
 
-    in_rest : (w : List ℕ) → IsInClass r w → (k : ℕ) × DeviatesAt u w k × (place < k) × (k < span.to)
+    in_rest : (w : List ℕ) → IsInClass r w → (k : ℕ) × DeviatesAt u w k × (index < k) × (k < span.to)
     in_rest w at =
-        let f = between_from _ _ at.place at.allowed in
-        let t = between_to _ _ at.place at.allowed in
-        (at.place, at.deviates, omega arith, omega arith)
+        let f = between_from _ _ at.index at.allowed in
+        let t = between_to _ _ at.index at.allowed in
+        (at.index, at.deviates, omega arith, omega arith)
 
-    in_behind : (w : List ℕ) → IsInClass b w → DeviatesAt u w place
+    in_behind : (w : List ℕ) → IsInClass b w → DeviatesAt u w index
     in_behind w at =
-        let f = between_from _ _ at.place at.allowed in
-        DeviatesAt-earlier u v w place at.place (let n = v_is.count in let m = candidate.count in omega arith) left at.deviates
+        let f = between_from _ _ at.index at.allowed in
+        DeviatesAt-earlier u v w index at.index (let n = v_is.count in let m = candidate.count in omega arith) left at.deviates
         (omega arith)
 
     is_first : IsPartWithout s c v a
@@ -555,7 +510,7 @@ module _ (pass : ViterbiPass) (us : List (List ℕ)) (u : List ℕ) (span : Word
     is_behind : IsPartWithout s c v b
     is_behind = record {
       candidate = v_is;
-      part = λ w at. in_span u span w place (in_behind w at) from to;
+      part = λ w at. in_span u span w index (in_behind w at) from to;
       without = λ at. at.deviates.differs refl;
     }
 
@@ -573,22 +528,22 @@ module _ (pass : ViterbiPass) (us : List (List ℕ)) (u : List ℕ) (span : Word
 
     in_one : (w : List ℕ) → IsCandidate s w → IsInClass c w → w ≢ v
         → (p : DeviationClass) × Contains (a ∷ b ∷ r ∷ []) p × IsInClass p w
-    in_one w is_w at ne = elim (parts s c v place candidate v_is left (is_between span.from span.to place from to) w is_w at ne) [
+    in_one w is_w at ne = elim (parts s c v index candidate v_is left (is_between span.from span.to index from to) w is_w at ne) [
       | inl still ↦
-          let open_at = without_position-free c place still.place still.allowed in
+          let open_at = without_position-free c index still.index still.allowed in
           let other = open_at.0 in
-          let f = between_from span.from span.to still.place open_at.1 in
-          let t = between_to span.from span.to still.place open_at.1 in
-          elim (cases_lt still.place place) [
-            | inl early ↦ (a, (0, omega arith, refl), in_span u first w still.place still.deviates (omega arith) (omega arith))
-            | inr late ↦ (r, (2, omega arith, refl), in_span u rest w still.place still.deviates (omega arith) (omega arith))
+          let f = between_from span.from span.to still.index open_at.1 in
+          let t = between_to span.from span.to still.index open_at.1 in
+          elim (cases_lt still.index index) [
+            | inl early ↦ (a, (0, omega arith, refl), in_span u first w still.index still.deviates (omega arith) (omega arith))
+            | inr late ↦ (r, (2, omega arith, refl), in_span u rest w still.index still.deviates (omega arith) (omega arith))
           ]
       | inr now ↦
-          let later = deviations_after_place-place v place now.place now.allowed in
-          let follows : FollowsSurvivors (place + 1) v (decision_rows pass) 0 = follows-deviation u _ 0 _ (omega arith) (omega arith) in
-          let short = before_the_last pass (deviations_after_place v place) (place + 1) w is v_is follows
-          (λ k free. let l = deviations_after_place-place v place k free in omega arith) is_w now in
-          (b, (1, omega arith, refl), in_span v behind_v w now.place now.deviates (omega arith) (omega arith))
+          let later = deviations_after_index-index v index now.index now.allowed in
+          let follows : FollowsSurvivors (index + 1) v (decision_rows pass) 0 = follows-deviation u _ 0 _ (omega arith) (omega arith) in
+          let short = before_the_last pass (deviations_after_index v index) (index + 1) w is v_is follows
+          (λ k free. let l = deviations_after_index-index v index k free in omega arith) is_w now in
+          (b, (1, omega arith, refl), in_span v behind_v w now.index now.deviates (omega arith) (omega arith))
     ]
 
     -- three spans replace the span: the positions of u before and after the deviation, and those of the new word after it
@@ -596,7 +551,7 @@ module _ (pass : ViterbiPass) (us : List (List ℕ)) (u : List ℕ) (span : Word
         PartitionsUnreturnedWords (soft_bits_of_pass pass) (us ++ word_of_deviation pass u x ∷ [])
         (((before ++ deviations_in_span u first ∷ after) ++ deviations_in_span
         (word_of_deviation pass u x) behind_v ∷ []) ++ deviations_in_span u rest ∷ [])
-    ranking-goes_on = rw append_assoc (classes-parted s us before after c v ranked covers v_is (in_span u span v place left from to) best a
+    ranking-goes_on = rw append_assoc (classes-parted s us before after c v ranked covers v_is (in_span u span v index left from to) best a
         (b ∷ r ∷ [])
         (All-from_recursion (IsPartWithout s c v) (a ∷ b ∷ r ∷ []) (is_first, (is_behind, (is_rest, tt)))) (
           All-from_recursion (Disjoint a) (b ∷ r ∷ []) (lex_behind-deviates, (first_rest, tt)),

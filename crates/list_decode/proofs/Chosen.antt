@@ -1,22 +1,20 @@
 -- The branches of a `ListDecoder` after it returns a word, and the invariant of `ListDecoder`.
 use Rattle.{
   list_decode.{
-    proofs.Choices.{ranking-begins, below_best, blank, branch_deviation, deviation-candidate, ranking-goes_on, length-words},
-    proofs.{Choices.{stored_words-push, AreMetricsOfBranches-set, IsDeviationTree-more}, DeviatingWords.survivor-best},
-    proofs.Rankings.{ends_ranked, most_likely_is_ranked, IsRanked-not_repeated},
+    proofs.Choices.{ranking-begins, below_best, branch_deviation, deviation-candidate, ranking-goes_on, one_more_word, returned_words-push},
+    proofs.{Choices.made_by_deviation-more, DeviatingWords.survivor-best, Rankings.{ends_ranked, most_likely_is_ranked}},
+    proofs.Rankings.IsRanked-not_repeated,
     specs.{
       Branches.{IsBranchOfReturnedWord, IsBranch, IsDeviation, IsMostLikelyDeviation, IsSpanOfWord, class_of_branch, deviations_in_span},
       Branches.word_of_deviation,
-      Choices.{AreMetricsOfBranches, IsFirstRankedBranch, IsNotOutrankedBy},
+      Choices.{IsFirstRankedBranch, IsNotOutrankedBy, placeholder_branch},
       Classes.{DeviationClass, IsInClass, PartitionsUnreturnedWords},
-      WordStorage.{stored_words, with_deviating_words},
+      Words.{IsRanking, IsRankingSoFar, open_branches, ranking_of, returned_words, with_deviating_words},
       Partitioning.{IsNextRankedWord, NoBranchHasUnreturnedWord, branches_after_word},
       Passes.{HasSoftBits, IsCompletePass, decision_rows, losses_of_pass, soft_bits_of_pass},
-      DecoderInvariant.{HasPartitioningBranches, IsSoundListDecoder, ranking_of_decoder, returned_words},
-      Ranking.{IsCandidate, IsRanked, IsRankingDone, Ranking},
+      Ranking.{IsCandidate, IsRanked, IsRankingDone},
       declared.{branch.{Deviation.Deviation, WordBranch.WordBranch, WordSpan.WordSpan}, choice.BranchChoice.BranchChoice},
-      declared.{lists.StoredWords.StoredWords, partitioning.NextWord.NextWord, pass.ViterbiPass.ViterbiPass},
-      declared.ranked.ListDecoder.TheInside.Inside,
+      declared.{words.RankedWords.RankedWords, partitioning.NextWord.NextWord, pass.ViterbiPass.ViterbiPass},
     },
   },
   std.{
@@ -48,8 +46,8 @@ pub record IsDeviationInSpan (pass : ViterbiPass) (u : List ℕ) (span : WordSpa
   pub candidate : IsCandidate (soft_bits_of_pass pass) u
   pub is_span : IsSpanOfWord pass u span
   pub deviation : IsDeviation pass u x
-  pub from : span.from ≤ x.departure.place
-  pub to : x.departure.place < span.to
+  pub from : span.from ≤ x.point.index
+  pub to : x.point.index < span.to
 
 module _ (pass : ViterbiPass) (us : List (List ℕ)) (branches : List WordBranch) (choice : BranchChoice) (lists : All (IsCandidate
     (soft_bits_of_pass pass)) us)
@@ -57,18 +55,19 @@ module _ (pass : ViterbiPass) (us : List (List ℕ)) (branches : List WordBranch
   pub within : choice.branch < length branches
   within = slice_get_within branches choice.branch first.0.0 first.0.1
 
-  pub chosen_branch : IsBranchOfReturnedWord pass us (get_or branches choice.branch blank)
+  pub chosen_branch : IsBranchOfReturnedWord pass us (get_or branches choice.branch placeholder_branch)
   chosen_branch = all _ _ within
 
-  best_is : (get_or branches choice.branch blank).best ≡ Some choice.deviation
-  best_is = ap (λ (b : WordBranch). b.best) (get_or_from_slice_get branches choice.branch first.0.0 blank first.0.1) ∙ first.0.2
+  best_is : (get_or branches choice.branch placeholder_branch).best ≡ Some choice.deviation
+  best_is = ap (λ (b : WordBranch). b.best) (get_or_from_slice_get branches choice.branch first.0.0 placeholder_branch first.0.1)
+      ∙ first.0.2
 
-  best_chosen : IsMostLikelyDeviation pass (get_or us (get_or branches choice.branch blank).span.word_index [])
-      (get_or branches choice.branch blank).span (Some choice.deviation)
+  best_chosen : IsMostLikelyDeviation pass (get_or us (get_or branches choice.branch placeholder_branch).span.word_index [])
+      (get_or branches choice.branch placeholder_branch).span (Some choice.deviation)
   best_chosen = rw best_is at chosen_branch.is_branch.best
 
-  pub chosen : IsDeviationInSpan pass (get_or us (get_or branches choice.branch blank).span.word_index [])
-      (get_or branches choice.branch blank).span choice.deviation
+  pub chosen : IsDeviationInSpan pass (get_or us (get_or branches choice.branch placeholder_branch).span.word_index [])
+      (get_or branches choice.branch placeholder_branch).span choice.deviation
   chosen = record {
     candidate = lists _ [] chosen_branch.in_range;
     is_span = chosen_branch.is_branch.span;
@@ -103,19 +102,23 @@ Contains-class us (b ∷ bs) P e all (zero, lt, is) = (b, all 0 b (omega arith),
 Contains-class us (b ∷ bs) P e all (suc k, lt, is) = Contains-class us bs P e (All-tail P b bs all) (k, omega arith, is)
 
 module _ (pass : ViterbiPass) (us : List (List ℕ)) (branches : List WordBranch) (choice : BranchChoice) (is : IsCompletePass pass)
-    (lists : All (IsCandidate (soft_bits_of_pass pass)) us)
-    (all : All (IsBranchOfReturnedWord pass us) branches) (first : IsFirstRankedBranch pass us branches (Some choice)) where
+    (all : All (IsBranchOfReturnedWord pass us) branches) (first : IsFirstRankedBranch pass us branches (Some choice))
+    (ranked : IsRanked (soft_bits_of_pass pass) us)
+    (covers : PartitionsUnreturnedWords (soft_bits_of_pass pass) us (map (class_of_branch us) branches)) where
+  lists : All (IsCandidate (soft_bits_of_pass pass)) us
+  lists = ranked.ranked_words_are_candidates
+
   abbrev i : ℕ
   i = choice.branch
 
   abbrev b : WordBranch
-  b = get_or branches choice.branch blank
+  b = get_or branches choice.branch placeholder_branch
 
   abbrev u : List ℕ
-  u = get_or us (get_or branches choice.branch blank).span.word_index []
+  u = get_or us (get_or branches choice.branch placeholder_branch).span.word_index []
 
   abbrev chosen_word : List ℕ
-  chosen_word = word_of_deviation pass (get_or us (get_or branches choice.branch blank).span.word_index []) choice.deviation
+  chosen_word = word_of_deviation pass (get_or us (get_or branches choice.branch placeholder_branch).span.word_index []) choice.deviation
 
   has : IsDeviationInSpan pass u b.span choice.deviation
   has = chosen _ us _ _ lists all first
@@ -156,13 +159,13 @@ module _ (pass : ViterbiPass) (us : List (List ℕ)) (branches : List WordBranch
       (after : IsBranch pass u next.parts.branch_after)
       (before_span : (next.parts.branch_before.span.word_index ≡ b.span.word_index)
       × (next.parts.branch_before.span.from ≡ b.span.from)
-      × (next.parts.branch_before.span.to ≡ choice.deviation.departure.place))
+      × (next.parts.branch_before.span.to ≡ choice.deviation.point.index))
       (behind_span : (next.parts.branch_of_new_word.span.word_index ≡ length us)
-      × (next.parts.branch_of_new_word.span.from ≡ choice.deviation.departure.place + 1)
+      × (next.parts.branch_of_new_word.span.from ≡ choice.deviation.point.index + 1)
       ×
       (next.parts.branch_of_new_word.span.to + 4 ≡ pass.bits))
       (after_span : (next.parts.branch_after.span.word_index ≡ b.span.word_index)
-      × (next.parts.branch_after.span.from ≡ choice.deviation.departure.place + 1)
+      × (next.parts.branch_after.span.from ≡ choice.deviation.point.index + 1)
       × (next.parts.branch_after.span.to ≡ b.span.to)) where
     abbrev first_part : WordBranch
     first_part = next.parts.branch_before
@@ -224,20 +227,23 @@ module _ (pass : ViterbiPass) (us : List (List ℕ)) (branches : List WordBranch
         (sym (same_u last_part.span.word_index after_span.0)) in
         rw (set_split branches i first_part inside) (simp map-append (cc (early, late, one, two, three)))
 
+    went : IsRanked (soft_bits_of_pass pass) us' × PartitionsUnreturnedWords (soft_bits_of_pass pass) us'
+        (((map (class_of_branch us) (take i branches) ++ deviations_in_span u first_part.span ∷ map (class_of_branch us)
+        (drop (suc i) branches)) ++ deviations_in_span chosen_word new_part.span ∷ []) ++ deviations_in_span u last_part.span ∷ [])
+    went = ranking-goes_on pass us u b.span choice.deviation is has.candidate has.deviation v_is has.from has.to
+        (map (class_of_branch us) (take i branches)) (map (class_of_branch us) (drop (suc i) branches))
+        first_part.span new_part.span last_part.span ranked (rw split at covers) (λ e w member. best e w (rw split member))
+        before_span.1 before_span.2 behind_span.1 behind_span.2 after_span.1 after_span.2
+
     is_next_deviation : IsNextRankedWord pass us branches chosen_word next
     is_next_deviation = record {
       in_range = rw at inside;
-      value = ap (λ (x : Deviation). x.likelihood) left ∙ has.deviation.value;
+      value = ap (λ (x : Deviation). x.metric) left ∙ has.deviation.value;
       deviation = rw left (branch_deviation pass us b choice.deviation chosen_here best_here);
       word_is = rw (left, (best_chosen pass us branches choice lists all first).1) refl;
       all_branches = rw at all_branches;
-      ranking_continues = (λ ranked covers.
-          let went = ranking-goes_on pass us u b.span choice.deviation is has.candidate has.deviation v_is has.from has.to
-          (map (class_of_branch us) (take i branches)) (map (class_of_branch us) (drop (suc i) branches))
-          first_part.span new_part.span last_part.span
-          ranked (rw split at covers) (λ e w member. best e w (rw split member))
-          before_span.1 before_span.2 behind_span.1 behind_span.2 after_span.1 after_span.2 in
-          (went.0, rw (at, ← classes) went.1));
+      ranked = went.0;
+      partition = rw (at, ← classes) went.1;
     }
 
     pub is_next : (written : List ℕ) → written ≡ chosen_word → IsNextRankedWord pass us branches written next
@@ -259,7 +265,7 @@ most_likely-traceback pass u is best =
     (survivor-best (decision_rows pass) (losses_of_pass pass) (soft_bits_of_pass pass) is.decisions (omega arith) 0 (omega arith))) best
 
 pub IsSpanOfWord-first : (pass : ViterbiPass) (u : List ℕ) (span : WordSpan) → IsCompletePass pass →
-    IsMostLikely (soft_bits_of_pass pass) u → span.likelihood ≡ likelihood (soft_bits_of_pass pass) (encoding u) → span.from ≡ 0 →
+    IsMostLikely (soft_bits_of_pass pass) u → span.metric ≡ likelihood (soft_bits_of_pass pass) (encoding u) → span.from ≡ 0 →
     span.to + 4 ≡ pass.bits → span.state ≡ 0 →
     IsSpanOfWord pass u span
 IsSpanOfWord-first pass u span is best value from to state =
@@ -272,292 +278,190 @@ IsSpanOfWord-first pass u span is best value from to state =
       state = rw from state;
     }
 
-pub stored_words-one : (pass : ViterbiPass) (lists : StoredWords) → lists.count ≡ 1 →
-    stored_words pass lists ≡ take pass.bits lists.first_word ∷ []
-stored_words-one pass lists one = ap (λ n. with_deviating_words pass (take n (take pass.bits lists.first_word ∷ [])) (take
-    (n - 1) lists.deviations)) one
+pub returned_words-one : (words : RankedWords) → words.count ≡ 1 →
+    returned_words words ≡ take words.pass.bits words.first_word ∷ []
+returned_words-one words one = ap (λ n. with_deviating_words words.pass (take n (take words.pass.bits words.first_word ∷ [])) (take
+    (n - 1) words.deviations)) one
 
-module _ (pass : ViterbiPass) (lists : StoredWords) (one : lists.count ≡ 1) (branches : List WordBranch) (metrics : List ℤ)
-    (room : length branches ≡ 127) (is_pass : IsCompletePass pass)
-    (best : IsMostLikely (soft_bits_of_pass pass) (take pass.bits lists.first_word)) (b : WordBranch) where
+-- the backward pass leaves the soft bits, so the first word remains the most likely one
+module _ (words : RankedWords) (pass : ViterbiPass) (sound : IsRankingSoFar words) (one : words.count ≡ 1)
+    (soft : soft_bits_of_pass pass ≡ soft_bits_of_pass words.pass) (bits : pass.bits ≡ words.pass.bits) where
+  pub first_word-most_likely : IsMostLikely (soft_bits_of_pass pass) (take pass.bits words.first_word)
+  first_word-most_likely = subst (λ s. IsMostLikely s (take pass.bits words.first_word)) (sym soft)
+      (subst (λ n. IsMostLikely (soft_bits_of_pass words.pass) (take n words.first_word)) (sym bits)
+      ((most_likely_is_ranked _ _).1 (subst (IsRanked (soft_bits_of_pass words.pass)) (returned_words-one words one) sound.ranked)))
+
+  pub first_word-metric : words.first_metric ≡ likelihood (soft_bits_of_pass pass) (encoding (take pass.bits words.first_word))
+  first_word-metric = sound.first_metric one
+      ∙ ap₂ (λ s n. likelihood s (encoding (take n words.first_word))) (sym soft) (sym bits)
+
+module _ (words : RankedWords) (b : WordBranch) (one : words.count ≡ 1) (is_open : open_branches words ≡ b ∷ [])
+    (pass : IsCompletePass words.pass) (best : IsMostLikely (soft_bits_of_pass words.pass) (take words.pass.bits words.first_word)) where
   abbrev first : List ℕ
-  first = take pass.bits lists.first_word
+  first = take words.pass.bits words.first_word
 
-  one_branch : take (2 * lists.count - 1) (set branches 0 b) ≡ b ∷ []
-  one_branch = take-set_at _ 0 (2 * lists.count - 1) b (omega arith) (omega arith)
-
-  pub HasPartitioningBranches-first : IsBranch pass first b → b.span.word_index ≡ 0 → b.span.from ≡ 0 →
-      b.span.to + 4 ≡ pass.bits →
-      AreMetricsOfBranches (set branches 0 b) metrics → HasPartitioningBranches pass lists (set branches 0 b) metrics
-  HasPartitioningBranches-first is_b list from to has =
-      let begun = ranking-begins pass first b.span is_pass best (most_likely-traceback pass first is_pass best) from to in
-      let read : get_or (first ∷ []) b.span.word_index [] ≡ first = ap (λ k. get_or (first ∷ []) k []) list in
+  pub IsRanking-first : IsBranch words.pass first b → b.span.word_index ≡ 0 → b.span.from ≡ 0 →
+      b.span.to + 4 ≡ words.pass.bits → IsRanking words
+  IsRanking-first is_b index from to =
+      let begun = ranking-begins words.pass first b.span pass best (most_likely-traceback words.pass first pass best) from to in
+      let returned = returned_words-one words one in
+      let read : get_or (first ∷ []) b.span.word_index [] ≡ first = ap (λ k. get_or (first ∷ []) k []) index in
       record {
-        complete = is_pass;
-        tree = record { at_most = omega arith; made_by_deviation = (λ k within. absurd (omega arith)) };
-        values = has;
-        all_branches = subst (λ us. All (IsBranchOfReturnedWord pass us) (take (2 * lists.count - 1) (set branches 0 b))) (sym
-            (stored_words-one pass lists one))
-            (subst (All (IsBranchOfReturnedWord pass (first ∷ []))) (sym one_branch)
-            (All-cons (IsBranchOfReturnedWord pass (first ∷ [])) b []
-            (record { in_range = omega arith; is_branch = subst (λ u. IsBranch pass u b) (sym read) is_b })
-            (All-nil (IsBranchOfReturnedWord pass (first ∷ [])))));
-        partition = subst (λ us. PartitionsUnreturnedWords (soft_bits_of_pass pass) us (map (class_of_branch us)
-            (take (2 * lists.count - 1) (set branches 0 b)))) (sym (stored_words-one pass lists one))
-            (subst (λ bs. PartitionsUnreturnedWords (soft_bits_of_pass pass) (first ∷ []) (map (class_of_branch (first ∷ [])) bs))
-            (sym one_branch)
-            (subst (λ u'. PartitionsUnreturnedWords (soft_bits_of_pass pass) (first ∷ []) (deviations_in_span u' b.span ∷ []))
+        pass = pass;
+        some = omega arith;
+        at_most = omega arith;
+        count = ap length returned ∙ sym one;
+        ranked = subst (IsRanked (soft_bits_of_pass words.pass)) (sym returned) begun.0;
+        made_by_deviation = (λ k within. absurd (omega arith));
+        all_branches = subst (λ us. All (IsBranchOfReturnedWord words.pass us) (open_branches words)) (sym returned)
+            (subst (All (IsBranchOfReturnedWord words.pass (first ∷ []))) (sym is_open)
+            (All-cons (IsBranchOfReturnedWord words.pass (first ∷ [])) b []
+            (record { in_range = omega arith; is_branch = subst (λ u. IsBranch words.pass u b) (sym read) is_b })
+            (All-nil (IsBranchOfReturnedWord words.pass (first ∷ [])))));
+        partition = subst (λ us. PartitionsUnreturnedWords (soft_bits_of_pass words.pass) us (map (class_of_branch us)
+            (open_branches words))) (sym returned)
+            (subst (λ bs. PartitionsUnreturnedWords (soft_bits_of_pass words.pass) (first ∷ [])
+            (map (class_of_branch (first ∷ [])) bs)) (sym is_open)
+            (subst (λ u'. PartitionsUnreturnedWords (soft_bits_of_pass words.pass) (first ∷ []) (deviations_in_span u' b.span ∷ []))
             (sym read) begun.1));
       }
 
-abbrev pub ranking : ViterbiPass → StoredWords → Ranking
-ranking pass lists = record { soft = soft_bits_of_pass pass; returned = stored_words pass lists }
-
-pub soft_bits-same : (old new : ViterbiPass) → new.soft ≡ old.soft → new.bits ≡ old.bits →
-    soft_bits_of_pass new ≡ soft_bits_of_pass old
-soft_bits-same old new soft bits = ap₂ (λ n xs. take (2 * n) xs) bits soft
-
-pub ranking-same : (old new : ViterbiPass) (lists : StoredWords) → new.soft ≡ old.soft → new.bits ≡ old.bits →
-    stored_words new lists ≡ stored_words old lists → ranking new lists ≡ ranking old lists
-ranking-same old new lists soft bits words =
-    ap₂ (λ s us. record { soft = s; returned = us }) (soft_bits-same old new soft bits) words
-
-pub IsMostLikely-first_word : (old new : ViterbiPass) (lists : StoredWords) → lists.count ≡ 1 → new.soft ≡ old.soft →
-    new.bits ≡ old.bits → IsRanked (soft_bits_of_pass old) (stored_words old lists) →
-    IsMostLikely (soft_bits_of_pass new) (take new.bits lists.first_word)
-IsMostLikely-first_word old new lists one soft bits ranked =
-    subst (λ n. IsMostLikely (soft_bits_of_pass new) (take n lists.first_word)) (sym bits)
-    (subst (λ s. IsMostLikely s (take old.bits lists.first_word)) (sym (soft_bits-same old new soft bits))
-    ((most_likely_is_ranked _ _).1 (subst (IsRanked (soft_bits_of_pass old)) (stored_words-one old lists one) ranked)))
-
-pub likelihood-first_word : (old new : ViterbiPass) (first : List ℕ) (metric : ℤ) → new.soft ≡ old.soft →
-    new.bits ≡ old.bits →
-    metric ≡ likelihood (soft_bits_of_pass old) (encoding (take old.bits first)) →
-    metric ≡ likelihood (soft_bits_of_pass new) (encoding (take new.bits first))
-likelihood-first_word old new first metric soft bits value =
-    value ∙ ap₂ (λ s n. likelihood s (encoding (take n first))) (sym (soft_bits-same old new soft bits)) (sym bits)
-
-pub sound_first : (pass : ViterbiPass) (row u : List ℕ) (deviations : List Deviation) (branches : List WordBranch) (metrics : List ℤ)
-    (metric : ℤ) → HasSoftBits pass → take pass.bits row ≡ u → IsMostLikely (soft_bits_of_pass pass) u →
-    metric ≡ likelihood (soft_bits_of_pass pass) (encoding u) → AreMetricsOfBranches branches metrics →
-    IsSoundListDecoder (record {
-      pass = pass;
-      lists = record { first_word = row; deviations = deviations; count = 1 };
-      branches = branches;
-      best_metrics = metrics;
-      first_metric = metric;
-    })
-sound_first pass row u deviations branches metrics metric has reads best value has_metrics = record {
-  has_soft_bits = has;
-  at_most = omega arith;
-  ranked = subst (IsRanked (soft_bits_of_pass pass)) (sym (ap (λ u. u ∷ []) reads)) ((most_likely_is_ranked _ u).0 best);
-  first_metric = λ some. value ∙ ap (λ u. likelihood (soft_bits_of_pass pass) (encoding u)) (sym reads);
-  best_metrics = has_metrics;
-  later = λ more. absurd (omega arith);
-}
-
-pub sound_prepared : (r : Inside) (pass : ViterbiPass) (branches : List WordBranch) (metrics : List ℤ) → IsSoundListDecoder r →
-    pass.soft ≡ r.pass.soft → pass.bits ≡ r.pass.bits → stored_words pass r.lists ≡ stored_words r.pass r.lists →
-    HasPartitioningBranches pass r.lists branches metrics →
-    IsSoundListDecoder (record {
-      pass = pass;
-      lists = r.lists;
-      branches = branches;
-      best_metrics = metrics;
-      first_metric = r.first_metric;
-    })
-sound_prepared r pass branches metrics sound soft bits words has = record {
+pub IsRankingSoFar-from : (words : RankedWords) → IsRanking words →
+    (words.count ≡ 1 → words.first_metric ≡ likelihood (soft_bits_of_pass words.pass) (encoding
+    (take words.pass.bits words.first_word))) →
+    IsRankingSoFar words
+IsRankingSoFar-from words ranking value = record {
   has_soft_bits = record {
-    at_least = has.complete.at_least;
-    at_most = has.complete.at_most;
-    soft_bit_count = has.complete.soft_bit_count;
-    row_count = has.complete.row_count;
-    soft = has.complete.soft;
+    at_least = ranking.pass.at_least;
+    at_most = ranking.pass.at_most;
+    soft_bit_count = ranking.pass.soft_bit_count;
+    row_count = ranking.pass.row_count;
+    soft = ranking.pass.soft;
   };
-  at_most = sound.at_most;
-  ranked = subst (λ (x : Ranking). IsRanked x.soft x.returned) (sym (ranking-same r.pass pass r.lists soft bits words)) sound.ranked;
-  first_metric = λ some. likelihood-first_word r.pass pass r.lists.first_word r.first_metric soft bits (sound.first_metric some);
-  best_metrics = has.values;
-  later = λ more. has;
+  at_most = ranking.at_most;
+  count = ranking.count;
+  ranked = ranking.ranked;
+  first_metric = value;
+  later = λ more. ranking;
 }
 
--- ---- lemmas about the invariant after each word that follows the first
+pub IsRankingSoFar-first : (words : RankedWords) (u : List ℕ) → HasSoftBits words.pass → words.count ≡ 1 →
+    take words.pass.bits words.first_word ≡ u → IsMostLikely (soft_bits_of_pass words.pass) u →
+    words.first_metric ≡ likelihood (soft_bits_of_pass words.pass) (encoding u) → IsRankingSoFar words
+IsRankingSoFar-first words u has one reads best value =
+    let returned = returned_words-one words one ∙ ap (λ u. u ∷ []) reads in
+    record {
+      has_soft_bits = has;
+      at_most = omega arith;
+      count = ap length returned ∙ sym one;
+      ranked = rw returned ((most_likely_is_ranked _ u).0 best);
+      first_metric = λ one. rw reads value;
+      later = λ more. absurd (omega arith);
+    }
 
-module _ (pass : ViterbiPass) (lists : StoredWords) (branches : List WordBranch) (metrics : List ℤ)
-    (has : HasPartitioningBranches pass lists
-    branches metrics) (some : 0 < lists.count) (few : lists.count < 64) (many : length lists.deviations ≡ 63)
-    (room : length branches ≡ 127) (u : List ℕ) (next : NextWord)
-    (is : IsNextRankedWord pass (stored_words pass lists) (take (2 * lists.count - 1) branches) u next) where
-  abbrev lists' : StoredWords
-  lists' = record {
-    first_word = lists.first_word;
-    deviations = set lists.deviations (lists.count - 1) next.deviation;
-    count = lists.count + 1;
-  }
+-- ---- lemmas about the words after one more is returned
 
-  abbrev branches' : List WordBranch
-  branches' = set (set (set branches next.branch next.parts.branch_before) (2 * lists.count - 1) next.parts.branch_of_new_word)
-      (2 * lists.count - 1 + 1) next.parts.branch_after
+module _ (words : RankedWords) (old : IsRanking words) (few : words.count < 64) (many : length words.deviations ≡ 63)
+    (room : length words.branches ≡ 127) (u : List ℕ) (next : NextWord)
+    (is : IsNextRankedWord words.pass (returned_words words) (open_branches words) u next) where
+  -- the branch of the next word is replaced, and two are added
+  abbrev branches : List WordBranch
+  branches = set (set (set words.branches next.branch next.parts.branch_before) (2 * words.count - 1) next.parts.branch_of_new_word)
+      (2 * words.count - 1 + 1) next.parts.branch_after
 
-  pub stored_words-next : stored_words pass (record {
-    first_word = lists.first_word;
-    deviations = set lists.deviations (lists.count - 1) next.deviation;
-    count = lists.count + 1;
-  }) ≡ stored_words pass lists ++ u ∷ []
-  stored_words-next =
-      stored_words-push pass _ many has.tree.at_most _ some few
-      ∙ ap (λ u. stored_words pass lists ++ u ∷ []) (sym is.word_is)
+  abbrev more : RankedWords
+  more = one_more_word words next.deviation branches
 
-  next_branches : take (2 * lists'.count - 1) branches' ≡ branches_after_word (take (2 * lists.count - 1) branches) next
+  pub returned_words-next : returned_words (one_more_word words next.deviation (set
+      (set (set words.branches next.branch next.parts.branch_before) (2 * words.count - 1) next.parts.branch_of_new_word)
+      (2 * words.count - 1 + 1) next.parts.branch_after)) ≡ returned_words words ++ u ∷ []
+  returned_words-next = returned_words-push words many old.some next.deviation branches few
+      ∙ ap (λ u. returned_words words ++ u ∷ []) (sym is.word_is)
+
+  next_branches : open_branches more ≡ branches_after_word (open_branches words) next
   next_branches =
-      let n = 2 * lists.count - 1 in
+      let n = 2 * words.count - 1 in
+      let some = old.some in
       let one = set _ _ next.parts.branch_before in
-      let within : next.branch < n = omega (arith, length-take n branches) in
-      let long : length one ≡ 127 = length-set branches next.branch next.parts.branch_before ∙ room in
-      take-set_at (set one n next.parts.branch_of_new_word) (n + 1) (2 * (lists.count + 1) - 1) next.parts.branch_after (omega arith)
+      let within : next.branch < n = omega (arith, is.in_range, length-take n words.branches) in
+      let long : length one ≡ 127 = length-set words.branches next.branch next.parts.branch_before ∙ room in
+      take-set_at (set one n next.parts.branch_of_new_word) (n + 1) (2 * (words.count + 1) - 1) next.parts.branch_after (omega arith)
       (omega (arith, length-set one n next.parts.branch_of_new_word))
       ∙ ap (λ bs. bs ++ next.parts.branch_after ∷ []) (
       take_more_set one n next.parts.branch_of_new_word (omega arith)
-      ∙ ap (λ bs. bs ++ next.parts.branch_of_new_word ∷ []) (take-set-lt n branches next.branch next.parts.branch_before within))
+      ∙ ap (λ bs. bs ++ next.parts.branch_of_new_word ∷ []) (take-set-lt n words.branches next.branch next.parts.branch_before within))
 
-  pub IsRanked-next : IsRanked (soft_bits_of_pass pass) (stored_words pass lists) →
-      IsRanked (soft_bits_of_pass pass) (stored_words pass lists')
-  IsRanked-next ranked = subst (IsRanked (soft_bits_of_pass pass)) (sym stored_words-next) (is.ranking_continues ranked has.partition).0
-
-  pub HasPartitioningBranches-next : IsRanked (soft_bits_of_pass pass) (stored_words pass lists) → (metrics' : List ℤ) →
-      AreMetricsOfBranches (set
-      (set (set branches next.branch next.parts.branch_before) (2 * lists.count - 1) next.parts.branch_of_new_word)
-      (2 * lists.count - 1 + 1) next.parts.branch_after) metrics' → HasPartitioningBranches pass lists' branches' metrics'
-  HasPartitioningBranches-next ranked metrics' values = record {
-    complete = has.complete;
-    tree = IsDeviationTree-more pass lists next.deviation many has.tree some few is.deviation;
-    values = values;
-    all_branches = subst (λ us. All (IsBranchOfReturnedWord pass us) (take (2 * lists'.count - 1) branches')) (sym stored_words-next)
-        (subst (All (IsBranchOfReturnedWord pass (stored_words pass lists ++ u ∷ []))) (sym next_branches) is.all_branches);
-    partition = subst (λ us. PartitionsUnreturnedWords (soft_bits_of_pass pass) us (map (class_of_branch us)
-        (take (2 * lists'.count - 1) branches'))) (sym stored_words-next)
-        (subst (λ bs. PartitionsUnreturnedWords (soft_bits_of_pass pass) (stored_words pass lists ++ u ∷ []) (map (class_of_branch
-        (stored_words pass lists ++ u ∷ [])) bs)) (sym next_branches) (is.ranking_continues ranked has.partition).1);
+  pub IsRanking-next : IsRanking (one_more_word words next.deviation (set
+      (set (set words.branches next.branch next.parts.branch_before) (2 * words.count - 1) next.parts.branch_of_new_word)
+      (2 * words.count - 1 + 1) next.parts.branch_after))
+  IsRanking-next = record {
+    pass = old.pass;
+    some = omega arith;
+    at_most = omega arith;
+    count = ap length returned_words-next ∙ length-append (returned_words words) (u ∷ []) ∙ ap (λ n. n + 1) old.count;
+    ranked = subst (IsRanked (soft_bits_of_pass words.pass)) (sym returned_words-next) is.ranked;
+    made_by_deviation = made_by_deviation-more words next.deviation branches many old few is.deviation;
+    all_branches = subst (λ us. All (IsBranchOfReturnedWord words.pass us) (open_branches more)) (sym returned_words-next)
+        (subst (All (IsBranchOfReturnedWord words.pass (returned_words words ++ u ∷ []))) (sym next_branches) is.all_branches);
+    partition = subst (λ us. PartitionsUnreturnedWords (soft_bits_of_pass words.pass) us (map (class_of_branch us)
+        (open_branches more))) (sym returned_words-next)
+        (subst (λ bs. PartitionsUnreturnedWords (soft_bits_of_pass words.pass) (returned_words words ++ u ∷ []) (map (class_of_branch
+        (returned_words words ++ u ∷ [])) bs)) (sym next_branches) is.partition);
   }
-
-pub sound_next : (r : Inside) (sound : IsSoundListDecoder r) (has : HasPartitioningBranches r.pass r.lists r.branches r.best_metrics) →
-    0 < r.lists.count →
-    r.lists.count < 64 → length r.lists.deviations ≡ 63 → length r.branches ≡ 127 → (u : List ℕ) (next : NextWord) →
-    IsNextRankedWord r.pass (stored_words r.pass r.lists) (take (2 * r.lists.count - 1) r.branches) u next → (metrics : List ℤ) →
-    AreMetricsOfBranches (set
-    (set (set r.branches next.branch next.parts.branch_before) (2 * r.lists.count - 1) next.parts.branch_of_new_word)
-    (2 * r.lists.count - 1 + 1) next.parts.branch_after) metrics →
-    IsSoundListDecoder (record {
-      pass = r.pass;
-      lists = record {
-        first_word = r.lists.first_word;
-        deviations = set r.lists.deviations (r.lists.count - 1) next.deviation;
-        count = r.lists.count + 1;
-      };
-      branches = set (set (set r.branches next.branch next.parts.branch_before) (2 * r.lists.count - 1) next.parts.branch_of_new_word)
-          (2 * r.lists.count - 1 + 1) next.parts.branch_after;
-      best_metrics = metrics;
-      first_metric = r.first_metric;
-    })
-sound_next r sound has some few many room u next is metrics values = record {
-  has_soft_bits = sound.has_soft_bits;
-  at_most = omega arith;
-  ranked = IsRanked-next r.pass r.lists r.branches r.best_metrics has some few many room u next is sound.ranked;
-  first_metric = λ more. sound.first_metric some;
-  best_metrics = values;
-  later = λ more.
-      HasPartitioningBranches-next r.pass r.lists r.branches r.best_metrics has some few many room u next is sound.ranked metrics values;
-}
-
-pub AreMetricsOfBranches-partition : (branches : List WordBranch) (metrics : List ℤ) (i n : ℕ) (before behind after : WordBranch)
-    (a b c : ℤ) →
-    i < n → n + 1 < length branches → length metrics ≡ length branches → AreMetricsOfBranches branches metrics →
-    IfSome before.best (λ best. a ≡ best.likelihood) → IfSome behind.best (λ best. b ≡ best.likelihood) →
-    IfSome after.best (λ best. c ≡ best.likelihood) →
-    AreMetricsOfBranches (set (set (set branches i before) n behind) (n + 1) after) (set (set (set metrics i a) n b) (n + 1) c)
-AreMetricsOfBranches-partition branches metrics i n before behind after a b c within room same has is_a is_b is_c =
-    let bs = set branches i before in
-    let ms = set metrics i a in
-    let long = length-set branches i before in
-    let long' = length-set metrics i a in
-    let more = length-set bs n behind in
-    let more' = length-set ms n b in
-    AreMetricsOfBranches-set (set bs n behind) (set ms n b) (n + 1) after c (omega arith) (omega arith)
-    (AreMetricsOfBranches-set bs ms n behind b (omega arith) (omega arith)
-    (AreMetricsOfBranches-set branches metrics i before a (omega arith) (omega arith) has is_a) is_b) is_c
 
 -- ---- lemmas about the case that no branch has a word left
 
-pub every_word_returned : (pass : ViterbiPass) (lists : StoredWords) (branches : List WordBranch) (metrics : List ℤ) →
-    HasPartitioningBranches pass lists branches metrics → NoBranchHasUnreturnedWord (take (2 * lists.count - 1) branches) →
-    (w : List ℕ) →
-    IsCandidate (soft_bits_of_pass pass) w → Contains (stored_words pass lists) w
-every_word_returned pass lists branches metrics has none w is_w =
-    ends_ranked (soft_bits_of_pass pass) _ (map _ _) has.partition
+pub every_word_returned : (words : RankedWords) → IsRanking words → NoBranchHasUnreturnedWord (open_branches words) →
+    (w : List ℕ) → IsCandidate (soft_bits_of_pass words.pass) w → Contains (returned_words words) w
+every_word_returned words has none w is_w =
+    ends_ranked (soft_bits_of_pass words.pass) _ (map _ _) has.partition
     (λ e w member is_w in_class.
-    let found = Contains-class (stored_words pass lists) (take (2 * lists.count - 1) branches)
-    (λ b. IsBranchOfReturnedWord pass (stored_words pass lists) b × (b.best ≡ None)) e
+    let found = Contains-class (returned_words words) (open_branches words)
+    (λ b. IsBranchOfReturnedWord words.pass (returned_words words) b × (b.best ≡ None)) e
     (λ k d lt. (has.all_branches k d lt, none k d lt)) member in
-    let u = get_or (stored_words pass lists) found.0.span.word_index [] in
-    subst (IsMostLikelyDeviation pass u found.0.span) found.1.1 found.1.0.is_branch.best w is_w
+    let u = get_or (returned_words words) found.0.span.word_index [] in
+    subst (IsMostLikelyDeviation words.pass u found.0.span) found.1.1 found.1.0.is_branch.best w is_w
     (subst (λ e. IsInClass e w) (sym found.2) in_class))
     w is_w
-
-IsCandidate-last : (s : List ℤ) (us : List (List ℕ)) (u : List ℕ) → IsRanked s (us ++ u ∷ []) → IsCandidate s u
-IsCandidate-last s us u ranked = All-contains (IsCandidate s) (us ++ u ∷ []) u ranked.ranked_words_are_candidates (Contains-push us u)
-
-not_done : (old : Ranking) (u : List ℕ) → length old.returned < 64 → IsRanked old.soft (old.returned ++ u ∷ []) →
-    IsRankingDone old → ⊥
-not_done old u few ranked (inl full) = omega arith
-not_done old u few ranked (inr all) =
-    IsRanked-not_repeated old.soft old.returned u ranked (all u (IsCandidate-last old.soft old.returned u ranked))
-
--- ---- the fields of a `ListDecoder` agree with the `Ranking` that represents it in contracts
-
-module _ (r : Inside) (view : Ranking) (is : ranking_of_decoder r ≡ view) where
-  pub view-soft : soft_bits_of_pass r.pass ≡ view.soft
-  view-soft = ap (λ (v : Ranking). v.soft) is
-
-  pub view-returned : returned_words r ≡ view.returned
-  view-returned = ap (λ (v : Ranking). v.returned) is
-
-  pub view-count : length r.lists.deviations ≡ 63 → r.lists.count ≤ 64 → length view.returned ≡ r.lists.count
-  view-count many most = sym (ap length view-returned) ∙ length-words r.pass r.lists many most
-
-  pub view-bits : HasSoftBits r.pass → (n : ℕ) → length view.soft ≡ 2 * n → n ≡ r.pass.bits
-  view-bits pass n count = let s = ap length view-soft in omega arith
 
 pub take-same_length : (bits : ℕ) (row u : List ℕ) → take (length u) row ≡ u → length u ≡ bits → take bits row ≡ u
 take-same_length bits row u reads same = rw (← same) reads
 
 -- ---- lemmas about the result of `next`
 
-pub not_done_at_first : (old new : Ranking) (u : List ℕ) → length old.returned ≡ 0 → new.soft ≡ old.soft →
-    new.returned ≡ u ∷ [] → IsRanked new.soft new.returned → IsRankingDone old → ⊥
-not_done_at_first old new u none soft returned ranked (inl full) = omega arith
-not_done_at_first old new u none soft returned ranked (inr all) =
-    let found = all u (rw (← soft) (IsCandidate-last _ [] u (rw (← returned) ranked))) in
-    omega arith
-
-pub Some-not_none : {X : Type 0} {x : X} → Some x ≡ None → ⊥
+Some-not_none : {X : Type 0} {x : X} → Some x ≡ None → ⊥
 Some-not_none e = cc
 
-module _ (old new : Ranking) (u : List ℕ) (P Q : Type 0) (few : length old.returned < 64) (soft : new.soft ≡ old.soft)
-    (ranked : IsRanked new.soft new.returned) where
-  last_ranked : new.returned ≡ old.returned ++ u ∷ [] → IsRanked old.soft (old.returned ++ u ∷ [])
-  last_ranked returned = rw (← soft) (rw (← returned) ranked)
+pub push-empty : (us : List (List ℕ)) (u : List ℕ) → length us ≡ 0 → us ++ u ∷ [] ≡ u ∷ []
+push-empty [] u none = refl
+push-empty (v ∷ us) u none = absurd (omega arith)
 
-  pub IsRankingDone-none : (result : Option ℤ) →
-      MatchOption result (P × Q × IsRankingDone old) (λ value. (new.returned ≡ old.returned ++ u ∷ [])
-      × (value ≡ likelihood old.soft (encoding u))) →
-      (result ≡ None → IsRankingDone old) × (IsRankingDone old → result ≡ None)
-  IsRankingDone-none None none = ((λ e. none.2), (λ done. refl))
-  IsRankingDone-none (Some value) some =
-      ((λ e. absurd (Some-not_none e)), (λ done. absurd (not_done old u few (last_ranked some.0) done)))
+-- `new` has one word more than `old`, or no word is left
+module _ (old new : RankedWords) (u : List ℕ) (sound : IsRankingSoFar new)
+    (soft : soft_bits_of_pass new.pass ≡ soft_bits_of_pass old.pass) where
+  ranked : returned_words new ≡ returned_words old ++ u ∷ [] → IsRanked (soft_bits_of_pass new.pass) (returned_words old ++ u ∷ [])
+  ranked returned = subst (IsRanked (soft_bits_of_pass new.pass)) returned sound.ranked
 
-  pub information : (result : Option ℤ) →
-      MatchOption result (P × Q × IsRankingDone old) (λ value. (new.returned ≡ old.returned ++ u ∷ [])
-      × (value ≡ likelihood old.soft (encoding u))) →
+  candidate : returned_words new ≡ returned_words old ++ u ∷ [] → IsCandidate (soft_bits_of_pass new.pass) u
+  candidate returned = All-contains (IsCandidate (soft_bits_of_pass new.pass)) (returned_words old ++ u ∷ []) u
+      (ranked returned).ranked_words_are_candidates (Contains-push (returned_words old) u)
+
+  not_done : length (returned_words old) < 64 → returned_words new ≡ returned_words old ++ u ∷ [] →
+      IsRankingDone (ranking_of old) → ⊥
+  not_done few returned (inl full) = omega arith
+  not_done few returned (inr all) =
+      IsRanked-not_repeated (soft_bits_of_pass new.pass) (returned_words old) u (ranked returned)
+      (all u (subst (λ s. IsCandidate s u) soft (candidate returned)))
+
+  pub information : (P : Type 0) (R : ℤ → Type 0) (result : Option ℤ) →
+      MatchOption result P (λ value. (returned_words new ≡ returned_words old ++ u ∷ []) × R value) →
       IfSome result (λ value. IsEncoderInput u)
-  information None none = tt
-  information (Some value) some = (IsCandidate-last old.soft old.returned u (last_ranked some.0)).information
+  information P R None none = tt
+  information P R (Some value) some = (candidate some.0).information
+
+  pub IsRankingDone-none : (P Q : Type 0) (R : ℤ → Type 0) (result : Option ℤ) → length (returned_words old) < 64 →
+      MatchOption result (P × Q × IsRankingDone (ranking_of old))
+      (λ value. (returned_words new ≡ returned_words old ++ u ∷ []) × R value) →
+      (result ≡ None → IsRankingDone (ranking_of old)) × (IsRankingDone (ranking_of old) → result ≡ None)
+  IsRankingDone-none P Q R None few none = ((λ e. none.2), (λ done. refl))
+  IsRankingDone-none P Q R (Some value) few some = ((λ e. absurd (Some-not_none e)), (λ done. absurd (not_done few some.0 done)))

@@ -5,7 +5,7 @@ use Rattle.{
       Classes.DeviatesAt,
       DeviatingWords.{IsLeastLossPosition, deviation_loss, state_after_bits, FollowsSurvivors},
       PartialTracebacks.{IsLeastLossDeviation, IsPartialTraceback},
-      declared.departure.{PartialTraceback.PartialTraceback, PossibleDeviation.PossibleDeviation},
+      declared.deviation.{PartialTraceback.PartialTraceback, PossibleDeviation.PossibleDeviation},
       Choices.DecidesLexicographicOrder,
     },
     proofs.Rankings.{DeviatesAt-tail, deviates, lex_before-deviates, lex_behind-deviates},
@@ -37,13 +37,13 @@ pub test-slice_cmp : (u v : List ℕ) (r : Bool) → r ≡ is_some_and is_lt (sl
     r ≡ test u v
 test-slice_cmp = same_from_slice_cmp_tested _ _ _ refl (λ _ _. refl) (λ _ _. refl) (λ x y xs ys o h. grind (arith))
 
-test-deviates : (u v : List ℕ) (place : ℕ) → length v ≡ length u → DeviatesAt u v place →
-    test u v ≡ ltb (get_or u place 0) (get_or v place 0)
+test-deviates : (u v : List ℕ) (index : ℕ) → length v ≡ length u → DeviatesAt u v index →
+    test u v ≡ ltb (get_or u index 0) (get_or v index 0)
 test-deviates (x ∷ u) (y ∷ v) zero same at = ap (λ t. cond t (test u v) (ltb x y)) (ne_eqb x y at.differs)
-test-deviates (x ∷ u) (y ∷ v) (suc place) same at =
+test-deviates (x ∷ u) (y ∷ v) (suc index) same at =
     ap (λ t. cond t (test u v) (ltb x y)) (eq-eqb x y (at.equal_before 0 (omega arith)))
-    ∙ test-deviates u v place (omega arith) (DeviatesAt-tail x y u v place at)
-test-deviates u v place same at = absurd (let i = at.in_range in omega arith)
+    ∙ test-deviates u v index (omega arith) (DeviatesAt-tail x y u v index at)
+test-deviates u v index same at = absurd (let i = at.in_range in omega arith)
 
 test-itself : (u : List ℕ) → test u u ≡ false
 test-itself [] = refl
@@ -136,9 +136,9 @@ follows-drop zero u rows state follows = follows
 follows-drop (suc n) (x ∷ u) (row ∷ rows) state follows = follows-drop n u rows _ follows
 follows-drop n u rows state follows = absurd follows
 
-pub traceback-drop : (rows : List ℕ) (state place : ℕ) → place ≤ length rows →
-    drop place (traceback rows state) ≡ traceback (drop place rows) (state_after_bits state (take place (traceback rows state)))
-traceback-drop rows state place within = follows-drop place (traceback rows state) rows state (follows_all place rows state within)
+pub traceback-drop : (rows : List ℕ) (state index : ℕ) → index ≤ length rows →
+    drop index (traceback rows state) ≡ traceback (drop index rows) (state_after_bits state (take index (traceback rows state)))
+traceback-drop rows state index within = follows-drop index (traceback rows state) rows state (follows_all index rows state within)
 
 pub chosen_bit : (rows : List ℕ) (state k : ℕ) → k < length rows →
     get_or (traceback rows state) k 0 ≡ get_or rows k 0 / 2 ^ state_after_bits state (take k (traceback rows state)) % 2
@@ -150,31 +150,31 @@ pub traceback-small : (rows : List ℕ) (state k : ℕ) → get_or (traceback ro
 traceback-small (row ∷ rows) state (suc k) = traceback-small rows _ k
 traceback-small rows state k = omega arith
 
-pub follows_past : (u rows : List ℕ) (place state : ℕ) → FollowsSurvivors place u rows 0 → place < length rows →
-    state ≡ state_after_bits 0 (take place u)
-    → drop (place + 1) u ≡ traceback (drop (place + 1) rows) (next_trellis_state state (get_or u place 0))
-follows_past u rows place state follows within at =
-    let long = length-follows place u rows 0 follows in
-    follows-drop (place + 1) u rows 0 (follows_later place (place + 1) u rows 0 follows (omega arith) (omega arith))
-    ∙ ap (traceback (drop (place + 1) rows))
-    (state_after-more u place 0 (omega arith) ∙ ap (λ state. next_trellis_state state (get_or u place 0)) (sym at))
+pub follows_past : (u rows : List ℕ) (index state : ℕ) → FollowsSurvivors index u rows 0 → index < length rows →
+    state ≡ state_after_bits 0 (take index u)
+    → drop (index + 1) u ≡ traceback (drop (index + 1) rows) (next_trellis_state state (get_or u index 0))
+follows_past u rows index state follows within at =
+    let long = length-follows index u rows 0 follows in
+    follows-drop (index + 1) u rows 0 (follows_later index (index + 1) u rows 0 follows (omega arith) (omega arith))
+    ∙ ap (traceback (drop (index + 1) rows))
+    (state_after-more u index 0 (omega arith) ∙ ap (λ state. next_trellis_state state (get_or u index 0)) (sym at))
 
-pub traceback-drop_next : (rows u : List ℕ) (place state : ℕ) → u ≡ traceback rows 0 → place < length rows →
-    length rows ≡ length u → state ≡ state_after_bits 0 (take place u) →
-    drop (place + 1) u ≡ traceback (drop (place + 1) rows) (next_trellis_state state (get_or u place 0))
-traceback-drop_next rows u place state is within count at =
-    follows_past u rows place state (follows_later 0 place u rows 0 is (omega arith) (omega arith)) within at
+pub traceback-drop_next : (rows u : List ℕ) (index state : ℕ) → u ≡ traceback rows 0 → index < length rows →
+    length rows ≡ length u → state ≡ state_after_bits 0 (take index u) →
+    drop (index + 1) u ≡ traceback (drop (index + 1) rows) (next_trellis_state state (get_or u index 0))
+traceback-drop_next rows u index state is within count at =
+    follows_past u rows index state (follows_later 0 index u rows 0 is (omega arith) (omega arith)) within at
 
--- bit j of u is 0: if j is `place`, bit `place` is 0; if j is smaller, by assumption; and if j were greater, bit `place` would be 1
-pub zero_at : (u : List ℕ) (place j : ℕ) → get_or u place 0 ≡ 0 → (j < place → get_or u j 0 ≡ 0) →
-    (place < j → get_or u place 0 ≡ 1) → get_or u j 0 ≡ 0
-zero_at u place j none before after = grind arith
+-- bit j of u is 0: if j is `index`, bit `index` is 0; if j is smaller, by assumption; and if j were greater, bit `index` would be 1
+pub zero_at : (u : List ℕ) (index j : ℕ) → get_or u index 0 ≡ 0 → (j < index → get_or u j 0 ≡ 0) →
+    (index < j → get_or u index 0 ≡ 1) → get_or u j 0 ≡ 0
+zero_at u index j none before after = grind arith
 
-IsLeastLossPosition-old : (u : List ℕ) (losses : List (List ℤ)) (k place : ℕ) (loss : ℤ) → get_or u place 0 ≤ 1 →
-    IsLeastLossPosition u losses k place loss → (loss <ℤ deviation_loss 0 u losses k)
-    ⊎ ((deviation_loss 0 u losses k ≡ loss) × (get_or u place 0 ≢ 0)) →
-    IsLeastLossPosition u losses (k + 1) place loss
-IsLeastLossPosition-old u losses k place loss kept_bit old more = record {
+IsLeastLossPosition-old : (u : List ℕ) (losses : List (List ℤ)) (k index : ℕ) (loss : ℤ) → get_or u index 0 ≤ 1 →
+    IsLeastLossPosition u losses k index loss → (loss <ℤ deviation_loss 0 u losses k)
+    ⊎ ((deviation_loss 0 u losses k ≡ loss) × (get_or u index 0 ≢ 0)) →
+    IsLeastLossPosition u losses (k + 1) index loss
+IsLeastLossPosition-old u losses k index loss kept_bit old more = record {
   value = old.value;
   least = below_more _ _ old.least (elim more [ inl less ↦ omega (arith, ints) | inr tie ↦ let e = tie.0 in omega (arith, ints) ]);
   tie_before = old.tie_before;
@@ -186,11 +186,11 @@ IsLeastLossPosition-old u losses k place loss kept_bit old more = record {
   ];
 }
 
-IsLeastLossPosition-new : (u : List ℕ) (losses : List (List ℤ)) (k place : ℕ) (loss : ℤ) → place ≤ k →
-    IsLeastLossPosition u losses k place loss → (deviation_loss 0 u losses k <ℤ loss)
-    ⊎ ((deviation_loss 0 u losses k ≡ loss) × (get_or u place 0 ≡ 0)) →
+IsLeastLossPosition-new : (u : List ℕ) (losses : List (List ℤ)) (k index : ℕ) (loss : ℤ) → index ≤ k →
+    IsLeastLossPosition u losses k index loss → (deviation_loss 0 u losses k <ℤ loss)
+    ⊎ ((deviation_loss 0 u losses k ≡ loss) × (get_or u index 0 ≡ 0)) →
     IsLeastLossPosition u losses (k + 1) k (deviation_loss 0 u losses k)
-IsLeastLossPosition-new u losses k place loss found old less = record {
+IsLeastLossPosition-new u losses k index loss found old less = record {
   value = refl;
   least = below_more _ _ (λ j lt. let low = old.least j lt in elim less [
     | inl less ↦ omega (arith, ints)
@@ -198,7 +198,7 @@ IsLeastLossPosition-new u losses k place loss found old less = record {
   ]) (omega (arith, ints));
   tie_before = λ j lt equal. elim less [
     | inl less ↦ absurd (let low = old.least j lt in omega (arith, ints))
-    | inr tie ↦ zero_at u place j tie.1 (λ early. old.tie_before j early (equal ∙ tie.0))
+    | inr tie ↦ zero_at u index j tie.1 (λ early. old.tie_before j early (equal ∙ tie.0))
         (λ late. old.tie_after j late lt (equal ∙ tie.0))
   ];
   tie_after = λ j late lt equal. absurd (omega arith);
@@ -236,25 +236,25 @@ module _ (rows : List ℕ) (losses : List (List ℤ)) (u : List ℕ) (k : ℕ) (
   bit_is : kept_bit ≡ get_or chosen k 0
   bit_is = ap (λ s. get_or rows k 0 / 2 ^ s % 2) reading.state ∙ sym (chosen_bit _ 0 k (omega arith))
 
-  pub least_loss-new : (new : PossibleDeviation) → lost ≤ℤ old.best.loss_limit → new.place ≡ k → new.state ≡ old.state →
+  pub least_loss-new : (new : PossibleDeviation) → lost ≤ℤ old.best.loss_limit → new.index ≡ k → new.state ≡ old.state →
       new.loss ≡ lost → new.loss_limit ≡ lost -ℤ pos kept_bit → IsLeastLossDeviation chosen losses (k + 1) new
-  least_loss-new new less place state loss loss_limit =
+  least_loss-new new less index state loss loss_limit =
       let best = reading.best in
       let is = lost_is in
       let inside = inside_chosen in
-      let small = traceback-small rows 0 old.best.place in
+      let small = traceback-small rows 0 old.best.index in
       let better = loss_limit-below _ _ _ small (omega (arith, ints)) in
       record {
-        place_at_most_limit = omega arith;
+        index_at_most_limit = omega arith;
         in_range = omega arith;
-        state = rw place (state ∙ reading.state);
+        state = rw index (state ∙ reading.state);
         least = rw (
-          place,
+          index,
           loss,
           is,
-        ) (IsLeastLossPosition-new chosen losses k old.best.place old.best.loss best.place_at_most_limit best.least
+        ) (IsLeastLossPosition-new chosen losses k old.best.index old.best.loss best.index_at_most_limit best.least
             better);
-        loss_limit = rw (place, loss, ← bit_is) loss_limit;
+        loss_limit = rw (index, loss, ← bit_is) loss_limit;
       }
 
   pub least_loss-old : old.best.loss_limit <ℤ lost → IsLeastLossDeviation chosen losses (k + 1) old.best
@@ -262,13 +262,13 @@ module _ (rows : List ℕ) (losses : List (List ℤ)) (u : List ℕ) (k : ℕ) (
       let best = reading.best in
       let is = lost_is in
       let known = best.loss_limit in
-      let small = traceback-small rows 0 old.best.place in
+      let small = traceback-small rows 0 old.best.index in
       let worse = loss_limit-not_below _ _ _ small (omega (arith, ints)) in
       record {
-        place_at_most_limit = let f = best.place_at_most_limit in omega arith;
+        index_at_most_limit = let f = best.index_at_most_limit in omega arith;
         in_range = best.in_range;
         state = best.state;
-        least = IsLeastLossPosition-old chosen losses k old.best.place old.best.loss small best.least worse;
+        least = IsLeastLossPosition-old chosen losses k old.best.index old.best.loss small best.least worse;
         loss_limit = best.loss_limit;
       }
 

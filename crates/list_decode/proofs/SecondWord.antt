@@ -1,17 +1,12 @@
 -- `second_most_likely` is the second most likely encoder input.
 use Rattle.{
   bit_blocks.{proofs.Greatest.{LeadsBelow, leads}, specs.Greatest.first_greatest},
-  list_decode.specs.{
-    Ranking.{IsCandidate, IsSecondMostLikely},
-    SecondWord.{metric_of_input, most_likely_except, other_number, second_most_likely},
-  },
-  std.{
-    proofs.{
-      Common.{List, ap, arith, get_or, inl, inr, length, refl, subst, sym, ℕ, ℤ, ◌*◌, ◌+◌},
-      Common.{◌-◌, ◌/◌, ◌<◌, ◌^◌, ◌∙◌, ◌≡◌, ◌≢◌, ◌≤◌, ◌<ℤ◌, ◌⊎◌},
-      Math.Nat.div-eq_of_lt,
-      lemmas.{Bool.{cases_eq, cases_lt}, Nat.{pow-add, pow_pos}},
-    },
+  list_decode.specs.{Ranking.IsSecondMostLikely, SecondWord.{metric_of_input, most_likely_except, other_number, second_most_likely}},
+  std.proofs.{
+    Common.{List, ap, arith, get_or, inl, inr, length, subst, sym, ℕ, ℤ, ◌*◌, ◌+◌, ◌-◌, ◌/◌, ◌<◌, ◌^◌},
+    Common.{◌∙◌, ◌≡◌, ◌≢◌, ◌≤◌, ◌<ℤ◌, ◌⊎◌},
+    Math.Nat.div-eq_of_lt,
+    lemmas.{Bool.cases_lt, Nat.{pow-add, pow_pos}},
   },
   trellis_decode.{
     proofs.Lemmas.{IsEncoderInput-to_binary, lex_before-to_binary, length-to_binary, to_binary-information},

@@ -1,7 +1,7 @@
 -- A span is a range of positions in a returned word. A branch consists of a span and the most likely word that deviates from the returned
 -- word within the span.
 use Rattle.std.specs.Prelude.{ℕ, ◌≡◌, ◌≢◌, ◌≤◌, ◌<◌, ◌+◌, List, [], length}
-use Rattle.std.specs.Prelude.{take, slice_index, slice_index_or, Option, Some, None}
+use Rattle.std.specs.Prelude.{take, slice_index, slice_index_or, IfSome, Option, Some, None}
 use Rattle.weight_bound.specs.conv_code.Code.{encoding}
 use Rattle.weight_bound.specs.conv_code.Likelihood.{likelihood, RanksAfter}
 use Rattle.list_decode.specs.Classes.{DeviationClass, IsInClass}
@@ -20,13 +20,13 @@ deviations_in_span u span = record { word = u; may_deviate_at = is_in_range span
 
 -- the word that results from applying a deviation to a given word
 abbrev pub word_of_deviation : (pass : ViterbiPass) (word : List ℕ) (deviation : Deviation) → List ℕ
-word_of_deviation pass u x = word_deviating_at u (decision_rows pass) 0 x.departure.place
+word_of_deviation pass u x = word_deviating_at u (decision_rows pass) 0 x.point.index
 
 -- `span` is a span of `word`: it holds the path metric of `word` and the trellis state before the span, and `word` follows the survivors
 -- from the start of the span on
 pub record IsSpanOfWord (pass : ViterbiPass) (word : List ℕ) (span : WordSpan) : Type 0 where
   pub follows : FollowsSurvivors span.from word (decision_rows pass) 0
-  pub value : span.likelihood ≡ likelihood (soft_bits_of_pass pass) (encoding word)
+  pub value : span.metric ≡ likelihood (soft_bits_of_pass pass) (encoding word)
   pub order : span.from ≤ span.to
   pub span_ends_before_tail : span.to + 4 ≤ length word
   pub state_in_range : span.state < 16
@@ -34,12 +34,12 @@ pub record IsSpanOfWord (pass : ViterbiPass) (word : List ℕ) (span : WordSpan)
 
 -- `deviation` is a deviation from `word`, and `word` follows the survivors from the position of the deviation on
 pub record IsDeviation (pass : ViterbiPass) (word : List ℕ) (deviation : Deviation) : Type 0 where
-  pub in_range : deviation.departure.place + 4 < length word
-  pub follows : FollowsSurvivors deviation.departure.place word (decision_rows pass) 0
-  pub value : deviation.likelihood ≡ likelihood (soft_bits_of_pass pass) (encoding (word_of_deviation pass word deviation))
-  pub state_in_range : deviation.departure.state < 16
-  pub state : deviation.departure.state ≡ state_after_bits 0 (take deviation.departure.place word)
-  pub bit : deviation.departure.bit ≡ slice_index word deviation.departure.place
+  pub in_range : deviation.point.index + 4 < length word
+  pub follows : FollowsSurvivors deviation.point.index word (decision_rows pass) 0
+  pub value : deviation.metric ≡ likelihood (soft_bits_of_pass pass) (encoding (word_of_deviation pass word deviation))
+  pub state_in_range : deviation.point.state < 16
+  pub state : deviation.point.state ≡ state_after_bits 0 (take deviation.point.index word)
+  pub bit : deviation.point.bit ≡ slice_index word deviation.point.index
 
 -- `best` is the deviation that produces the most likely word that deviates from `word` within `span`, or `None` if no candidate deviates
 -- there
@@ -47,15 +47,16 @@ abbrev pub IsMostLikelyDeviation : (pass : ViterbiPass) (word : List ℕ) (span 
 IsMostLikelyDeviation pass u span None = (w : List ℕ) → IsCandidate (soft_bits_of_pass pass) w →
     IsInClass (deviations_in_span u span) w → ⊥
 IsMostLikelyDeviation pass u span (Some x) =
-    IsDeviation pass u x × (x.word_index ≡ span.word_index) × (span.from ≤ x.departure.place) × (x.departure.place < span.to) ×
+    IsDeviation pass u x × (x.word_index ≡ span.word_index) × (span.from ≤ x.point.index) × (x.point.index < span.to) ×
     ((w : List ℕ) → IsCandidate (soft_bits_of_pass pass) w → IsInClass (deviations_in_span u span) w →
     w ≢ word_of_deviation pass u x →
     RanksAfter (soft_bits_of_pass pass) w (word_of_deviation pass u x))
 
--- `branch` consists of a span of `word` and the most likely word that deviates from `word` within it
+-- `branch` consists of a span of `word`, the most likely word that deviates from `word` within it, and the path metric of that word
 pub record IsBranch (pass : ViterbiPass) (word : List ℕ) (branch : WordBranch) : Type 0 where
   pub span : IsSpanOfWord pass word branch.span
   pub best : IsMostLikelyDeviation pass word branch.span branch.best
+  pub metric : IfSome branch.best (λ best. branch.metric ≡ best.metric)
 
 -- `branch` is a branch of one of the returned words `returned`
 pub record IsBranchOfReturnedWord (pass : ViterbiPass) (returned : List (List ℕ)) (branch : WordBranch) : Type 0 where

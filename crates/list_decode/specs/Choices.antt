@@ -1,5 +1,5 @@
 -- The selection of the branch whose most likely word ranks first.
-use Rattle.std.specs.Prelude.{ℕ, ◌≡◌, ◌⊎◌, ◌<◌, ℤ, pos, IfSome}
+use Rattle.std.specs.Prelude.{ℕ, ◌≡◌, ◌⊎◌, ◌<◌, pos}
 use Rattle.std.specs.Prelude.{Bool, true, false, List, [], length, slice_get, slice_index_or, Option, Some, None}
 use Rattle.std.specs.List.{All}
 use Rattle.weight_bound.specs.conv_code.Likelihood.{RanksAfter, IsLexicographicallyBefore}
@@ -32,12 +32,7 @@ DecidesLexicographicOrder u v false = (u ≡ v) ⊎ IsLexicographicallyBefore v 
 
 -- a branch without a word, used when an index is out of range
 abbrev pub placeholder_branch : WordBranch
-placeholder_branch = record { span = record { likelihood = pos 0; word_index = 0; from = 0; to = 0; state = 0 }; best = None }
-
--- `metrics` holds the path metric of the most likely word of each branch that has one
-abbrev pub AreMetricsOfBranches : (branches : List WordBranch) (metrics : List ℤ) → Type 0
-AreMetricsOfBranches branches metrics = (k : ℕ) → k < length branches →
-    IfSome (slice_index_or branches k placeholder_branch).best (λ best. slice_index_or metrics k (pos 0) ≡ best.likelihood)
+placeholder_branch = record { span = record { metric = pos 0; word_index = 0; from = 0; to = 0; state = 0 }; best = None; metric = pos 0 }
 
 -- `choice` is the branch whose most likely word ranks first, or `None` if no branch has a word
 abbrev pub IsFirstRankedBranch : (pass : ViterbiPass) (returned : List (List ℕ)) (branches : List WordBranch)

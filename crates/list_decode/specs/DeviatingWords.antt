@@ -10,25 +10,25 @@ abbrev pub state_after_bits : (state : ℕ) (bits : List ℕ) → ℕ
 state_after_bits state [] = state
 state_after_bits state (x ∷ u) = state_after_bits (next_trellis_state state x) u
 
--- the loss of a deviation from `word` at `place`, read from the table `losses`: how much path metric the deviation costs
-abbrev pub deviation_loss : (state : ℕ) (word : List ℕ) (losses : List (List ℤ)) (place : ℕ) → ℤ
-deviation_loss state u losses place = slice_index_or (slice_index_or losses place []) (state_after_bits state (take place u)) (pos 0)
+-- the loss of a deviation from `word` at `index`, read from the table `losses`: how much path metric the deviation costs
+abbrev pub deviation_loss : (state : ℕ) (word : List ℕ) (losses : List (List ℤ)) (index : ℕ) → ℤ
+deviation_loss state u losses index = slice_index_or (slice_index_or losses index []) (state_after_bits state (take index u)) (pos 0)
 
 -- the word that follows the survivors from a given state, but takes the other bit at one position
-abbrev pub survivor_with_deviation : (rows : List ℕ) (state place : ℕ) → List ℕ
-survivor_with_deviation [] state place = []
+abbrev pub survivor_with_deviation : (rows : List ℕ) (state index : ℕ) → List ℕ
+survivor_with_deviation [] state index = []
 survivor_with_deviation (row ∷ rows) state zero =
     (1 - row / 2 ^ state % 2) ∷ traceback rows (next_trellis_state state (1 - row / 2 ^ state % 2))
-survivor_with_deviation (row ∷ rows) state (suc place) = (row / 2 ^ state % 2) ∷ survivor_with_deviation rows (next_trellis_state state
-    (row / 2 ^ state % 2)) place
+survivor_with_deviation (row ∷ rows) state (suc index) = (row / 2 ^ state % 2) ∷ survivor_with_deviation rows (next_trellis_state state
+    (row / 2 ^ state % 2)) index
 
--- `place` is the position before `limit` where deviating from `word` has the least loss, which is `loss`; among positions with this loss,
+-- `index` is the position before `limit` where deviating from `word` has the least loss, which is `loss`; among positions with this loss,
 -- it gives the first word in lexicographic order
-pub record IsLeastLossPosition (word : List ℕ) (losses : List (List ℤ)) (limit place : ℕ) (loss : ℤ) : Type 0 where
-  pub value : loss ≡ deviation_loss 0 word losses place
+pub record IsLeastLossPosition (word : List ℕ) (losses : List (List ℤ)) (limit index : ℕ) (loss : ℤ) : Type 0 where
+  pub value : loss ≡ deviation_loss 0 word losses index
   pub least : (k : ℕ) → k < limit → loss ≤ℤ deviation_loss 0 word losses k
-  pub tie_before : (k : ℕ) → k < place → deviation_loss 0 word losses k ≡ loss → slice_index word k ≡ 0
-  pub tie_after : (k : ℕ) → place < k → k < limit → deviation_loss 0 word losses k ≡ loss → slice_index word place ≡ 1
+  pub tie_before : (k : ℕ) → k < index → deviation_loss 0 word losses k ≡ loss → slice_index word k ≡ 0
+  pub tie_after : (k : ℕ) → index < k → k < limit → deviation_loss 0 word losses k ≡ loss → slice_index word index ≡ 1
 
 -- the word, starting in a given state, follows the survivors from position `from` on
 abbrev pub FollowsSurvivors : (from : ℕ) (word rows : List ℕ) (state : ℕ) → Type 0
@@ -39,25 +39,25 @@ FollowsSurvivors (suc from) (x ∷ u) (row ∷ rows) state = FollowsSurvivors fr
 
 -- the word that agrees with a given word before a given position, differs there, and then follows the survivors; both words start in a
 -- given state
-abbrev pub word_deviating_at : (word rows : List ℕ) (state place : ℕ) → List ℕ
-word_deviating_at [] rows state place = []
-word_deviating_at (x ∷ u) [] state place = []
+abbrev pub word_deviating_at : (word rows : List ℕ) (state index : ℕ) → List ℕ
+word_deviating_at [] rows state index = []
+word_deviating_at (x ∷ u) [] state index = []
 word_deviating_at (x ∷ u) (row ∷ rows) state zero = (1 - x) ∷ traceback rows (next_trellis_state state (1 - x))
-word_deviating_at (x ∷ u) (row ∷ rows) state (suc place) = x ∷ word_deviating_at u rows (next_trellis_state state x) place
+word_deviating_at (x ∷ u) (row ∷ rows) state (suc index) = x ∷ word_deviating_at u rows (next_trellis_state state x) index
 
--- whether position `place` is at least `from` and less than `to`
-abbrev pub is_in_range : (from to place : ℕ) → Bool
+-- whether position `index` is at least `from` and less than `to`
+abbrev pub is_in_range : (from to index : ℕ) → Bool
 is_in_range from to k = nat_le from k && nat_lt k to
 
--- of all deviations from `word` at positions before `limit` where `free` is true, the one at `place` loses the least path metric; of those
+-- of all deviations from `word` at positions before `limit` where `free` is true, the one at `index` loses the least path metric; of those
 -- that lose the same, it produces the first word in lexicographic order
-pub record IsLeastLossFreePosition (word : List ℕ) (losses : List (List ℤ)) (free : ℕ → Bool) (limit place : ℕ) : Type 0 where
-  pub in_range : place < limit
-  pub place_is_free : free place ≡ true
-  pub least : (k : ℕ) → k < limit → free k ≡ true → deviation_loss 0 word losses place ≤ℤ deviation_loss 0 word losses k
-  pub tie_before : (k : ℕ) → k < place → free k ≡ true → deviation_loss 0 word losses k ≡ deviation_loss 0 word losses place
+pub record IsLeastLossFreePosition (word : List ℕ) (losses : List (List ℤ)) (free : ℕ → Bool) (limit index : ℕ) : Type 0 where
+  pub in_range : index < limit
+  pub index_is_free : free index ≡ true
+  pub least : (k : ℕ) → k < limit → free k ≡ true → deviation_loss 0 word losses index ≤ℤ deviation_loss 0 word losses k
+  pub tie_before : (k : ℕ) → k < index → free k ≡ true → deviation_loss 0 word losses k ≡ deviation_loss 0 word losses index
       →
       slice_index word k ≡ 0
-  pub tie_after : (k : ℕ) → place < k → k < limit → free k ≡ true → deviation_loss 0 word losses k
-      ≡ deviation_loss 0 word losses place →
-      slice_index word place ≡ 1
+  pub tie_after : (k : ℕ) → index < k → k < limit → free k ≡ true → deviation_loss 0 word losses k
+      ≡ deviation_loss 0 word losses index →
+      slice_index word index ≡ 1

@@ -26,11 +26,10 @@ pub record IsNextRankedWord (pass : ViterbiPass) (returned : List (List ℕ)) (b
     NextWord) : Type
     0 where
   pub in_range : next.branch < length branches
-  pub value : next.deviation.likelihood ≡ likelihood (soft_bits_of_pass pass) (encoding word)
+  pub value : next.deviation.metric ≡ likelihood (soft_bits_of_pass pass) (encoding word)
   pub deviation : DeviatesFromReturnedWord pass returned next.deviation
   pub word_is : word ≡ deviating_word pass returned next.deviation
+  pub ranked : IsRanked (soft_bits_of_pass pass) (returned ++ word ∷ [])
   pub all_branches : All (IsBranchOfReturnedWord pass (returned ++ word ∷ [])) (branches_after_word branches next)
-  pub ranking_continues : IsRanked (soft_bits_of_pass pass) returned → PartitionsUnreturnedWords (soft_bits_of_pass pass) returned
-      (map (class_of_branch returned) branches) → IsRanked (soft_bits_of_pass pass) (returned ++ word ∷ []) ×
-      PartitionsUnreturnedWords (soft_bits_of_pass pass) (returned ++ word ∷ [])
+  pub partition : PartitionsUnreturnedWords (soft_bits_of_pass pass) (returned ++ word ∷ [])
       (map (class_of_branch (returned ++ word ∷ [])) (branches_after_word branches next))

@@ -1,7 +1,7 @@
 //! Spans of returned words, and the best deviation from the word in each span.
 
 ghost use Rattle.std.specs.Prelude.{◌≡◌, ◌≤◌, ◌+◌, ℕ, ◌<◌, ℤ, pos, ◌-ℤ◌, List};
-ghost use Rattle.std.specs.Prelude.{IfSome, length, slice_index, take};
+ghost use Rattle.std.specs.Prelude.{length, slice_index, take};
 ghost use Rattle.weight_bound.specs.bit_blocks.Bits.{AllBits};
 ghost use Rattle.list_decode.specs.Branches.{IsBranch, IsSpanOfWord, IsDeviation, is_in_range, word_of_deviation};
 ghost use Rattle.list_decode.specs.DeviatingWords.{deviation_loss, state_after_bits};
@@ -9,15 +9,15 @@ ghost use Rattle.list_decode.specs.LeastLosses.{IsLeastLossDeviationOrNone, IsLe
 ghost use Rattle.list_decode.specs.Passes.{IsCompletePass, losses_of_pass, soft_bits_of_pass};
 ghost use Rattle.list_decode.specs.Ranking.{IsCandidate};
 
-use crate::departure::{DeviationPoint, PossibleDeviation, apply_deviation};
+use crate::deviation::{DeviationPoint, PossibleDeviation, apply_deviation};
 use crate::pass::ViterbiPass;
-use crate::tails::{find_merging_place, survivor_deviation};
+use crate::tails::{find_merging_index, survivor_deviation};
 use trellis_decode::ENCODER_INPUT_BITS;
 
-/// The positions `from..to` of a returned word, the path metric of the word (`likelihood`), and the trellis state before `from`.
+/// The positions `from..to` of a returned word, its path metric, and the trellis state before `from`.
 #[derive(Clone, Copy)]
 pub(crate) struct WordSpan {
-    pub(crate) likelihood: i32,
+    pub(crate) metric: i32,
     /// The number of the word, counted from 0 in order of rank.
     pub(crate) word_index: u8,
     pub(crate) from: u8,
@@ -25,11 +25,11 @@ pub(crate) struct WordSpan {
     pub(crate) state: u8,
 }
 
-/// A word that deviates from a returned word at one position and then follows the survivors, and its path metric (`likelihood`).
+/// A word that deviates from a returned word at one position and then follows the survivors, and its path metric.
 #[derive(Clone, Copy)]
 pub(crate) struct Deviation {
-    pub(crate) likelihood: i32,
-    pub(crate) departure: DeviationPoint,
+    pub(crate) metric: i32,
+    pub(crate) point: DeviationPoint,
     /// The number of the returned word that this word deviates from.
     pub(crate) word_index: u8,
 }
@@ -39,6 +39,8 @@ pub(crate) struct Deviation {
 pub(crate) struct WordBranch {
     pub(crate) span: WordSpan,
     pub(crate) best: Option<Deviation>,
+    /// The path metric of `best`, or the least `i32`, so that most branches are ruled out by one comparison.
+    pub(crate) metric: i32,
 }
 
 impl WordBranch {
@@ -50,28 +52,22 @@ impl WordBranch {
         ensures span { result.span ≡ span }
         ensures branch { IsBranch pass.now u.now result }
     {
-        let best = match find_least_loss(pass, u, &span) {
-            None => None,
-            Some(departure) => Some(Deviation {
-                likelihood: span.likelihood - departure.loss,
-                departure: DeviationPoint::new(
-                    departure.place,
-                    departure.state,
-                    u[departure.place],
-                ),
-                word_index: span.word_index,
-            }),
-        };
-        WordBranch { span, best }
-    }
-
-    /// The path metric of the word that the best deviation produces, if there is one.
-    pub(crate) fn metric(&self) -> i32
-        ensures { IfSome self.now.best (λ best. result ≡ best.likelihood) }
-    {
-        match &self.best {
-            Some(best) => best.likelihood,
-            None => i32::MIN,
+        match find_least_loss(pass, u, &span) {
+            None => WordBranch {
+                span,
+                best: None,
+                metric: i32::MIN,
+            },
+            Some(found) => {
+                let metric = span.metric - found.loss;
+                let point = DeviationPoint::new(found.index, found.state, u[found.index]);
+                let best = Some(Deviation {
+                    metric,
+                    point,
+                    word_index: span.word_index,
+                });
+                WordBranch { span, best, metric }
+            }
         }
     }
 }
@@ -83,7 +79,7 @@ impl Deviation {
         requires deviation { IsDeviation pass.now u.old self.now }
         ensures { u.new ≡ word_of_deviation pass.now u.old self.now }
     {
-        apply_deviation(&pass.decisions[..pass.bits], self.departure, u);
+        apply_deviation(&pass.decisions[..pass.bits], self.point, u);
     }
 }
 
@@ -99,7 +95,7 @@ fn find_least_loss(pass: &ViterbiPass, u: &[u8], span: &WordSpan) -> Option<Poss
     if usize::from(span.to) + 4 < pass.bits {
         return find_least_loss_in_span(u, losses, span);
     }
-    let merging = find_merging_place(u, &pass.tails.states, span);
+    let merging = find_merging_index(u, &pass.tails.states, span);
     let early = find_least_loss_in_span(
         u,
         losses,
@@ -115,7 +111,7 @@ fn find_least_loss(pass: &ViterbiPass, u: &[u8], span: &WordSpan) -> Option<Poss
         &pass.decisions[..pass.bits],
         losses,
         &pass.tails.states,
-        usize::from(pass.tails.places[usize::from(merging)]),
+        usize::from(pass.tails.indices[usize::from(merging)]),
     );
     match early {
         None => Some(later),
@@ -152,10 +148,10 @@ fn find_least_loss_in_span(
         state = (2 * state + usize::from(list[k])) % 16;
     }
     Some(PossibleDeviation::new(
-        best.place,
+        best.index,
         best.state,
-        losses[best.place][best.state],
-        list[best.place],
+        losses[best.index][best.state],
+        list[best.index],
     ))
 }
 
@@ -163,20 +159,20 @@ fn find_least_loss_in_span(
 /// deviation there is at most this limit.
 #[derive(Clone, Copy)]
 struct LeastLossSoFar {
-    place: usize,
+    index: usize,
     state: usize,
     loss_limit: i32,
 }
 
 impl LeastLossSoFar {
-    fn new(place: usize, state: usize, loss: i16, bit: u8) -> LeastLossSoFar
+    fn new(index: usize, state: usize, loss: i16, bit: u8) -> LeastLossSoFar
         requires { bit ≤ 1 }
-        ensures place { result.place ≡ place }
+        ensures index { result.index ≡ index }
         ensures state { result.state ≡ state }
         ensures loss_limit { result.loss_limit ≡ loss -ℤ pos bit }
     {
         LeastLossSoFar {
-            place,
+            index,
             state,
             loss_limit: i32::from(loss) - i32::from(bit),
         }
@@ -184,20 +180,20 @@ impl LeastLossSoFar {
 
     fn or_later_position_if_better(
         self,
-        place: usize,
+        index: usize,
         state: usize,
         loss: i16,
         bit: u8,
     ) -> LeastLossSoFar
         requires { bit ≤ 1 }
         ensures { (u : List ℕ) (losses : List (List ℤ)) (from : ℕ) →
-            IsLeastLossSoFar u losses (is_in_range from place) place self →
-            state ≡ state_after_bits 0 (take place u) → loss ≡ deviation_loss 0 u losses place → bit ≡ slice_index u place →
+            IsLeastLossSoFar u losses (is_in_range from index) index self →
+            state ≡ state_after_bits 0 (take index u) → loss ≡ deviation_loss 0 u losses index → bit ≡ slice_index u index →
             AllBits u →
-            IsLeastLossSoFar u losses (is_in_range from (place + 1)) (place + 1) result }
+            IsLeastLossSoFar u losses (is_in_range from (index + 1)) (index + 1) result }
     {
         if i32::from(loss) <= self.loss_limit {
-            LeastLossSoFar::new(place, state, loss, bit)
+            LeastLossSoFar::new(index, state, loss, bit)
         } else {
             self
         }

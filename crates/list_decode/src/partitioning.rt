@@ -1,18 +1,16 @@
 //! Finds the next word in the ranking, and splits the branch of this word (Lawler's partition).
 
 ghost use Rattle.std.specs.Prelude.{◌≡◌, ◌≤◌, ◌+◌, ◌<◌, length, MatchOption};
-ghost use Rattle.std.specs.List.{All};
-ghost use Rattle.list_decode.specs.Branches.{IsBranch, IsBranchOfReturnedWord, IsSpanOfWord, IsDeviation, word_of_deviation};
-ghost use Rattle.list_decode.specs.Choices.{AreMetricsOfBranches};
-ghost use Rattle.list_decode.specs.WordStorage.{IsDeviationTree, stored_words};
+ghost use Rattle.list_decode.specs.Branches.{IsBranch, IsSpanOfWord, IsDeviation, word_of_deviation};
 ghost use Rattle.list_decode.specs.Partitioning.{NoBranchHasUnreturnedWord, IsNextRankedWord};
 ghost use Rattle.list_decode.specs.Passes.{IsCompletePass, soft_bits_of_pass};
 ghost use Rattle.list_decode.specs.Ranking.{IsCandidate};
+ghost use Rattle.list_decode.specs.Words.{IsRanking, open_branches, returned_words};
 
 use crate::branch::{Deviation, WordBranch, WordSpan};
 use crate::choice::find_first_ranked_branch;
-use crate::lists::StoredWords;
 use crate::pass::ViterbiPass;
+use crate::words::RankedWords;
 
 /// The next word in the ranking.
 #[derive(Clone, Copy)]
@@ -33,27 +31,17 @@ pub(crate) struct ReplacementBranches {
 }
 
 /// Writes the next word in the ranking to `u`. Returns `None` if no branch has a word left.
-pub(crate) fn find_next_word(
-    pass: &ViterbiPass,
-    lists: &StoredWords,
-    branches: &[WordBranch],
-    metrics: &[i32],
-    u: &mut [u8],
-) -> Option<NextWord>
-    requires pass { IsCompletePass pass.now }
-    requires tree { IsDeviationTree pass.now lists.now }
-    requires lists { All (IsCandidate (soft_bits_of_pass pass.now)) (stored_words pass.now lists.now) }
-    requires branches { All (IsBranchOfReturnedWord pass.now (stored_words pass.now lists.now)) branches.now }
-    requires same { length metrics.now ≡ length branches.now }
-    requires metrics { AreMetricsOfBranches branches.now metrics.now }
-    requires count { length u.old ≡ pass.now.bits }
-    ensures next { MatchOption result (NoBranchHasUnreturnedWord branches.now × (u.new ≡ u.old))
-        (IsNextRankedWord pass.now (stored_words pass.now lists.now) branches.now u.new) }
+pub(crate) fn find_next_word(words: &RankedWords, u: &mut [u8]) -> Option<NextWord>
+    requires ranking { IsRanking words.now }
+    requires count { length u.old ≡ words.now.pass.bits }
+    ensures next { MatchOption result (NoBranchHasUnreturnedWord (open_branches words.now) × (u.new ≡ u.old))
+        (IsNextRankedWord words.now.pass (returned_words words.now) (open_branches words.now) u.new) }
 {
-    let choice = find_first_ranked_branch(pass, lists, branches, metrics)?;
+    let choice = find_first_ranked_branch(words)?;
+    let branches = &words.branches[..2 * words.count - 1];
     let span = branches[choice.branch].span;
-    lists.write_word(pass, span.word_index, u);
-    let parts = partition(pass, u, span, &choice.deviation, lists.count as u8);
+    words.write_word(span.word_index, u);
+    let parts = partition(&words.pass, u, span, &choice.deviation, words.count as u8);
     Some(NextWord {
         branch: choice.branch,
         deviation: choice.deviation,
@@ -76,37 +64,37 @@ fn partition(
     requires list { IsCandidate (soft_bits_of_pass pass.now) u.old }
     requires span { IsSpanOfWord pass.now u.old span }
     requires deviation { IsDeviation pass.now u.old deviation.now }
-    requires from { span.from ≤ deviation.now.departure.place }
-    requires to { deviation.now.departure.place < span.to }
+    requires from { span.from ≤ deviation.now.point.index }
+    requires to { deviation.now.point.index < span.to }
     ensures written { u.new ≡ word_of_deviation pass.now u.old deviation.now }
     ensures before { IsBranch pass.now u.old result.branch_before }
     ensures new_word { IsBranch pass.now u.new result.branch_of_new_word }
     ensures after { IsBranch pass.now u.old result.branch_after }
     ensures before_span { (result.branch_before.span.word_index ≡ span.word_index) × (result.branch_before.span.from ≡ span.from) ×
-        (result.branch_before.span.to ≡ deviation.now.departure.place) }
+        (result.branch_before.span.to ≡ deviation.now.point.index) }
     ensures new_word_span { (result.branch_of_new_word.span.word_index ≡ new_index)
-        × (result.branch_of_new_word.span.from ≡ deviation.now.departure.place + 1) ×
+        × (result.branch_of_new_word.span.from ≡ deviation.now.point.index + 1) ×
         (result.branch_of_new_word.span.to + 4 ≡ pass.now.bits) }
     ensures after_span { (result.branch_after.span.word_index ≡ span.word_index)
-        × (result.branch_after.span.from ≡ deviation.now.departure.place + 1) ×
+        × (result.branch_after.span.from ≡ deviation.now.point.index + 1) ×
         (result.branch_after.span.to ≡ span.to) }
 {
-    let place = deviation.departure.place;
-    let before = WordSpan { to: place, ..span };
+    let index = deviation.point.index;
+    let before = WordSpan { to: index, ..span };
     let after = WordSpan {
-        from: place + 1,
-        state: (2 * deviation.departure.state + u[usize::from(place)]) % 16,
+        from: index + 1,
+        state: (2 * deviation.point.state + u[usize::from(index)]) % 16,
         ..span
     };
     let branch_before = WordBranch::new(pass, u, before);
     let branch_after = WordBranch::new(pass, u, after);
     deviation.apply(pass, u);
     let behind = WordSpan {
-        likelihood: deviation.likelihood,
+        metric: deviation.metric,
         word_index: new_index,
-        from: place + 1,
+        from: index + 1,
         to: (pass.bits - 4) as u8,
-        state: (2 * deviation.departure.state + u[usize::from(place)]) % 16,
+        state: (2 * deviation.point.state + u[usize::from(index)]) % 16,
     };
     ReplacementBranches {
         branch_before,

@@ -38,7 +38,7 @@ impl ViterbiPass {
             losses: [[0; 16]; ENCODER_INPUT_BITS],
             tails: BestLaterDeviations {
                 states: [0; ENCODER_INPUT_BITS],
-                places: [0; ENCODER_INPUT_BITS],
+                indices: [0; ENCODER_INPUT_BITS],
             },
         }
     }
@@ -46,7 +46,7 @@ impl ViterbiPass {
     /// Runs the backward pass: computes the decisions, their losses, and the best later deviations.
     pub(crate) fn run_backward_pass(&mut self)
         requires has_soft_bits { HasSoftBits self.old }
-        ensures soft { self.new.soft ≡ self.old.soft }
+        ensures soft { soft_bits_of_pass self.new ≡ soft_bits_of_pass self.old }
         ensures bits { self.new.bits ≡ self.old.bits }
         ensures pass { IsCompletePass self.new }
     {

@@ -7,10 +7,10 @@ ghost use Rattle.std.specs.Prelude.{◌≡◌, ◌+◌, ◌<◌, ◌≤◌, leng
 ghost use Rattle.trellis_decode.specs.Trellis.{traceback};
 ghost use Rattle.list_decode.specs.DeviatingWords.{state_after_bits};
 ghost use Rattle.list_decode.specs.LeastLosses.{IsPossibleDeviation};
-ghost use Rattle.list_decode.specs.SurvivorTails.{AreBestLaterDeviations, AreSurvivorStates, AreBestLaterPlaces};
+ghost use Rattle.list_decode.specs.SurvivorTails.{AreBestLaterDeviations, AreSurvivorStates, AreBestLaterIndices};
 
 use crate::branch::WordSpan;
-use crate::departure::PossibleDeviation;
+use crate::deviation::PossibleDeviation;
 use trellis_decode::ENCODER_INPUT_BITS;
 
 /// For each position of the most likely word: the trellis state before it, and the best position at or after it for a deviation. A word
@@ -18,7 +18,7 @@ use trellis_decode::ENCODER_INPUT_BITS;
 #[derive(Clone, Copy)]
 pub(crate) struct BestLaterDeviations {
     pub(crate) states: [u8; ENCODER_INPUT_BITS],
-    pub(crate) places: [u8; ENCODER_INPUT_BITS],
+    pub(crate) indices: [u8; ENCODER_INPUT_BITS],
 }
 
 impl BestLaterDeviations {
@@ -29,7 +29,7 @@ impl BestLaterDeviations {
         ensures { AreBestLaterDeviations rows.now losses.now self.new }
     {
         fill_survivor_states(rows, &mut self.states);
-        fill_best_later_places(rows, losses, &self.states, &mut self.places);
+        fill_best_later_indices(rows, losses, &self.states, &mut self.indices);
     }
 }
 
@@ -47,24 +47,24 @@ fn fill_survivor_states(rows: &[u16], states: &mut [u8; ENCODER_INPUT_BITS])
 }
 
 /// Writes, for each position of the survivor of state 0, the position at or after it where a deviation has the least loss.
-fn fill_best_later_places(
+fn fill_best_later_indices(
     rows: &[u16],
     losses: &[[i16; 16]],
     states: &[u8; ENCODER_INPUT_BITS],
-    places: &mut [u8; ENCODER_INPUT_BITS],
+    indices: &mut [u8; ENCODER_INPUT_BITS],
 )
     requires same { length losses.now ≡ length rows.now }
     requires at_least { 5 ≤ length rows.now }
     requires at_most { length rows.now ≤ ENCODER_INPUT_BITS }
     requires states { AreSurvivorStates rows.now states.now }
-    ensures { AreBestLaterPlaces rows.now losses.now places.new }
+    ensures { AreBestLaterIndices rows.now losses.now indices.new }
 {
     let last = rows.len() - 5;
     let mut best = survivor_deviation(rows, losses, states, last);
-    places[last] = best.place as u8;
+    indices[last] = best.index as u8;
     for k in (0..last).rev() {
         best = survivor_deviation(rows, losses, states, k).or_later_deviation_if_better(best);
-        places[k] = best.place as u8;
+        indices[k] = best.index as u8;
     }
 }
 
@@ -79,7 +79,7 @@ pub(crate) fn survivor_deviation(
     requires within { k < length rows.now }
     requires at_most { length rows.now ≤ ENCODER_INPUT_BITS }
     requires states { AreSurvivorStates rows.now states.now }
-    ensures place { result.place ≡ k }
+    ensures index { result.index ≡ k }
     ensures possible { IsPossibleDeviation (traceback rows.now 0) losses.now result }
 {
     let state = states[k];
@@ -94,7 +94,7 @@ pub(crate) fn survivor_deviation(
 
 /// Returns the first position of the span where `list` is in the same state as the most likely word (`states`), or the end of the span. A
 /// table of the positions where the most likely word meets each state was no faster.
-pub(crate) fn find_merging_place(
+pub(crate) fn find_merging_index(
     list: &[u8],
     states: &[u8; ENCODER_INPUT_BITS],
     span: &WordSpan,

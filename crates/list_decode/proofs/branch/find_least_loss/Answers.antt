@@ -8,11 +8,11 @@ use Rattle.{
 use Rattle.list_decode.proofs.branch.find_least_loss.Goals as goal
 
 tail : (c : After-survivor_deviation-later) → IsLeastLossDeviationOrNone c.args.u.now (losses_of_pass c.args.pass.now)
-    (is_in_range c.find_merging_place-merging.result c.args.span.now.to) c.args.span.now.to (Some c.survivor_deviation-later.result)
+    (is_in_range c.find_merging_index-merging.result c.args.span.now.to) c.args.span.now.to (Some c.survivor_deviation-later.result)
 tail c =
     let span = c.args.span.now in
-    let m = c.find_merging_place-merging.result in
-    let is = c.find_merging_place-merging.ensures in
+    let m = c.find_merging_index-merging.result in
+    let is = c.find_merging_index-merging.ensures in
     let not_before_end = c.if-from-pass.false in
     let is_to = c.from.ensures in
     let not_at_end = c.if-merging-span.false in
@@ -21,7 +21,7 @@ tail c =
     let inside : m < span.to = omega arith in
     let later = c.survivor_deviation-later in
     merged_tail c.args.pass.now c.args.u.now span m later.result c.requires.pass c.requires.list c.requires.span (omega arith) from inside
-    (is.merged inside) (later.ensures.place ∙ c.from-3.ensures ∙ ap (λ i. get_or c.args.pass.now.tails.places i 0) c.from-2.ensures)
+    (is.merged inside) (later.ensures.index ∙ c.from-3.ensures ∙ ap (λ i. get_or c.args.pass.now.tails.indices i 0) c.from-2.ensures)
     later.ensures.possible
 
 pub returns-in-None : goal.returns-in-None
@@ -29,8 +29,8 @@ returns-in-None c =
     let u = c.args.u.now in
     let span = c.args.span.now in
     let losses = losses_of_pass c.args.pass.now in
-    let m = c.find_merging_place-merging.result in
-    let from = c.find_merging_place-merging.ensures.from in
+    let m = c.find_merging_index-merging.result in
+    let from = c.find_merging_index-merging.ensures.from in
     let none = subst (IsLeastLossDeviationOrNone u losses (is_in_range span.from m) m) c.in-None.is
     c.find_least_loss_in_span-early.ensures in
     elim (cases_lt span.from m) [
@@ -47,7 +47,7 @@ returns-in-Some c =
     let u = c.args.u.now in
     let span = c.args.span.now in
     let losses = losses_of_pass c.args.pass.now in
-    let m = c.find_merging_place-merging.result in
+    let m = c.find_merging_index-merging.result in
     c.or_later_deviation_if_better.ensures u losses span.from m span.to
     (subst (IsLeastLossDeviationOrNone u losses (is_in_range span.from m) m) c.in-Some.is c.find_least_loss_in_span-early.ensures)
     (tail (goal.at.returns-in-Some c).After-survivor_deviation-later)

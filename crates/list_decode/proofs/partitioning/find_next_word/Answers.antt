@@ -1,43 +1,58 @@
 use Rattle.{
-  std.proofs.Common.{arith, rules, ◌≡◌, [], length, get_or, refl, ap, sym, ◌∙◌, subst},
+  std.proofs.Common.{arith, rules, ◌<◌, [], length, get_or, refl, ap, sym, ◌∙◌, subst},
   list_decode.{
-    specs.{Branches.{IsBranch, IsSpanOfWord, IsDeviation, word_of_deviation}, WordStorage.stored_words, Passes.soft_bits_of_pass},
-    specs.Ranking.IsCandidate,
-    proofs.{Choices.{blank, length-words}, Chosen.{IsDeviationInSpan, chosen, chosen_branch, is_next}},
-    proofs.partitioning.find_next_word.Goals.In_ok-choice,
+    specs.{Branches.{IsBranch, IsSpanOfWord, IsDeviation, word_of_deviation}, Choices.placeholder_branch, Passes.soft_bits_of_pass},
+    specs.{Ranking.IsCandidate, Words.{open_branches, returned_words}},
+    proofs.{Chosen.{IsDeviationInSpan, chosen, chosen_branch, is_next, within}, partitioning.find_next_word.Goals.In_ok-choice},
   },
 }
 use Rattle.list_decode.proofs.partitioning.find_next_word.Goals as goal
 
-chosen_here : (c : In_ok-choice) → IsDeviationInSpan c.args.pass.now
-    (get_or (stored_words c.args.pass.now c.args.lists.now) (get_or c.args.branches.now c.in_ok-choice.choice.branch blank).span.word_index
-    [])
-    (get_or c.args.branches.now c.in_ok-choice.choice.branch blank).span c.in_ok-choice.choice.deviation
-chosen_here c = chosen c.args.pass.now (stored_words c.args.pass.now c.args.lists.now) c.args.branches.now c.in_ok-choice.choice
-    c.requires.lists c.requires.branches c.in_ok-choice.ensures.first
+chosen_here : (c : In_ok-choice) → IsDeviationInSpan c.args.words.now.pass
+    (get_or (returned_words c.args.words.now) (get_or (open_branches c.args.words.now) c.in_ok-choice.choice.branch
+    placeholder_branch).span.word_index [])
+    (get_or (open_branches c.args.words.now) c.in_ok-choice.choice.branch placeholder_branch).span c.in_ok-choice.choice.deviation
+chosen_here c =
+    let words = c.args.words.now in
+    let is = c.requires.ranking in
+    chosen words.pass (returned_words words) (open_branches words) c.in_ok-choice.choice is.ranked.ranked_words_are_candidates
+    is.all_branches c.in_ok-choice.ensures.first
+
+inside : (c : In_ok-choice) → c.in_ok-choice.choice.branch < length (open_branches c.args.words.now)
+inside c =
+    let words = c.args.words.now in
+    let is = c.requires.ranking in
+    within words.pass (returned_words words) (open_branches words) c.in_ok-choice.choice is.ranked.ranked_words_are_candidates
+    is.all_branches c.in_ok-choice.ensures.first
+
+pub offset_bounds-branches-choice : goal.offset_bounds-branches-choice
+offset_bounds-branches-choice c = let i = inside (goal.at.offset_bounds-branches-choice c).In_ok-choice in search rules
+
+pub bounds-branches-choice : goal.bounds-branches-choice
+bounds-branches-choice c = inside (goal.at.bounds-branches-choice c).In_ok-choice
 
 pub write_word-requires-clause-within : goal.write_word-requires-clause-within
 write_word-requires-clause-within c =
-    let many : length c.args.lists.now.deviations ≡ 63 = search rules in
-    let n = length-words c.args.pass.now c.args.lists.now many c.requires.tree.at_most in
-    let i = (chosen_branch c.args.pass.now (stored_words c.args.pass.now c.args.lists.now) c.args.branches.now c.in_ok-choice.choice
-    c.requires.lists c.requires.branches c.in_ok-choice.ensures.first).in_range in
+    let words = c.args.words.now in
+    let is = c.requires.ranking in
+    let i = (chosen_branch words.pass (returned_words words) (open_branches words) c.in_ok-choice.choice
+    is.ranked.ranked_words_are_candidates is.all_branches c.in_ok-choice.ensures.first).in_range in
     omega arith
 
 pub partition-parts-requires-clause-list : goal.partition-parts-requires-clause-list
 partition-parts-requires-clause-list c =
-    subst (IsCandidate (soft_bits_of_pass c.args.pass.now)) (sym c.write_word.ensures)
+    subst (IsCandidate (soft_bits_of_pass c.args.words.now.pass)) (sym c.write_word.ensures)
     (chosen_here (goal.at.partition-parts-requires-clause-list c).In_ok-choice).candidate
 
 pub partition-parts-requires-clause-span : goal.partition-parts-requires-clause-span
 partition-parts-requires-clause-span c =
-    subst (λ u. IsSpanOfWord c.args.pass.now u (get_or c.args.branches.now c.in_ok-choice.choice.branch blank).span)
-    (sym c.write_word.ensures)
+    subst (λ u. IsSpanOfWord c.args.words.now.pass u (get_or (open_branches c.args.words.now) c.in_ok-choice.choice.branch
+    placeholder_branch).span) (sym c.write_word.ensures)
     (chosen_here (goal.at.partition-parts-requires-clause-span c).In_ok-choice).is_span
 
 pub partition-parts-requires-clause-deviation : goal.partition-parts-requires-clause-deviation
 partition-parts-requires-clause-deviation c =
-    subst (λ u. IsDeviation c.args.pass.now u c.in_ok-choice.choice.deviation) (sym c.write_word.ensures)
+    subst (λ u. IsDeviation c.args.words.now.pass u c.in_ok-choice.choice.deviation) (sym c.write_word.ensures)
     (chosen_here (goal.at.partition-parts-requires-clause-deviation c).In_ok-choice).deviation
 
 pub partition-parts-requires-clause-from : goal.partition-parts-requires-clause-from
@@ -48,20 +63,17 @@ partition-parts-requires-clause-to c = (chosen_here (goal.at.partition-parts-req
 
 pub returns : goal.returns
 returns c =
-    let pass = c.args.pass.now in
-    let branches = c.args.branches.now in
+    let words = c.args.words.now in
     let choice = c.in_ok-choice.choice in
-    let us = stored_words pass c.args.lists.now in
-    let r = c.requires in
+    let is = c.requires.ranking in
     let p = c.partition-parts.ensures in
-    let many : length c.args.lists.now.deviations ≡ 63 = search rules in
-    let count = length-words pass c.args.lists.now many r.tree.at_most in
     let read = c.write_word.ensures in
-    let written = p.written ∙ ap (λ u. word_of_deviation pass u choice.deviation) read in
+    let written = p.written ∙ ap (λ u. word_of_deviation words.pass u choice.deviation) read in
     record {
-      next = is_next pass us branches choice r.pass r.lists r.branches c.in_ok-choice.ensures.first _ refl refl
-          (subst (λ u. IsBranch pass u c.partition-parts.result.branch_before) read p.before)
-          (subst (λ v. IsBranch pass v c.partition-parts.result.branch_of_new_word) written p.new_word)
-          (subst (λ u. IsBranch pass u c.partition-parts.result.branch_after) read p.after) p.before_span
-          (p.new_word_span.0 ∙ sym count, p.new_word_span.1, p.new_word_span.2) p.after_span c.partition-parts.new.u written;
+      next = is_next words.pass (returned_words words) (open_branches words) choice is.pass is.all_branches c.in_ok-choice.ensures.first
+          is.ranked is.partition _ refl refl
+          (subst (λ u. IsBranch words.pass u c.partition-parts.result.branch_before) read p.before)
+          (subst (λ v. IsBranch words.pass v c.partition-parts.result.branch_of_new_word) written p.new_word)
+          (subst (λ u. IsBranch words.pass u c.partition-parts.result.branch_after) read p.after) p.before_span
+          (p.new_word_span.0 ∙ sym is.count, p.new_word_span.1, p.new_word_span.2) p.after_span c.partition-parts.new.u written;
     }

@@ -26,16 +26,16 @@ overflow_add-behind-2 c =
 pub new-branch_after-requires-clause-span : goal.new-branch_after-requires-clause-span
 new-branch_after-requires-clause-span c =
     let r = c.requires in
-    let fits : FitsSigned w32 c.args.span.likelihood = search rules in
+    let fits : FitsSigned w32 c.args.span.metric = search rules in
     IsSpanOfWord-after c.args.pass.now c.args.u.now c.args.deviation.now r.pass r.list r.deviation c.args.span _ r.span r.to refl refl
-    (to_z-of_z w32 c.args.span.likelihood fits)
-    (ap (λ place. (2 * c.args.deviation.now.departure.state + get_or c.args.u.now place 0) % 16) c.from.ensures)
+    (to_z-of_z w32 c.args.span.metric fits)
+    (ap (λ index. (2 * c.args.deviation.now.point.state + get_or c.args.u.now index 0) % 16) c.from.ensures)
 
 pub new-requires-clause-span : goal.new-requires-clause-span
 new-requires-clause-span c =
     let r = c.requires in
-    let fits : FitsSigned w32 c.args.deviation.now.likelihood = search rules in
+    let fits : FitsSigned w32 c.args.deviation.now.metric = search rules in
     IsSpanOfWord-deviation c.args.pass.now c.args.u.now c.args.deviation.now r.pass r.list r.deviation c.apply.new.u _ c.apply.ensures
     (deviating_word (goal.at.new-requires-clause-span c).After-apply) refl
-    (let five = r.pass.at_least in omega arith) (to_z-of_z w32 c.args.deviation.now.likelihood fits)
-    (ap (λ place. (2 * c.args.deviation.now.departure.state + get_or c.apply.new.u place 0) % 16) c.from-2.ensures)
+    (let five = r.pass.at_least in omega arith) (to_z-of_z w32 c.args.deviation.now.metric fits)
+    (ap (λ index. (2 * c.args.deviation.now.point.state + get_or c.apply.new.u index 0) % 16) c.from-2.ensures)

@@ -31,5 +31,5 @@ returns-clause-possible c =
     to_z-of_z w16 _ fits ∙ ap (λ s. get_or (get_or losses k []) s (pos 0)) c.from-2.ensures in
     let new = c.new.ensures in
     IsPossibleDeviation-survivor rows losses k state bit lost c.new.result c.requires.within (c.requires.states k c.requires.within) refl
-    (and_mask (get_or rows k 0 / 2 ^ state) 1) new.place (new.state ∙ c.from.ensures) (new.loss ∙ is_lost)
+    (and_mask (get_or rows k 0 / 2 ^ state) 1) new.index (new.state ∙ c.from.ensures) (new.loss ∙ is_lost)
     (new.loss_limit ∙ ap (λ lost. lost -ℤ pos bit) is_lost)

@@ -22,7 +22,7 @@ returns-then-from-self c u losses from old state lost bit bits =
     let less = c.if-from-self.true in
     let is = c.new.ensures in
     let small : FitsSigned w16 c.args.loss = search rules in
-    least_so_far-new u _ _ _ _ c.new.result bits old is.place (is.state ∙ state)
+    least_so_far-new u _ _ _ _ c.new.result bits old is.index (is.state ∙ state)
     (is.loss_limit ∙ ap₂ (λ loss bit. loss -ℤ pos bit) (to_z-of_z w16 c.args.loss small ∙ lost) bit)
     (omega (arith, ints))
 

@@ -6,40 +6,41 @@ use Rattle.{
 }
 use Rattle.list_decode.proofs.branch.WordBranch.new.Goals as goal
 
-pub overflow_sub-best : goal.overflow_sub-best
-overflow_sub-best c =
+pub overflow_sub-metric : goal.overflow_sub-metric
+overflow_sub-metric c =
     let span = c.args.span in
-    let departure = c.in-Some.departure in
+    let deviation = c.in-Some.found in
     let found = subst (IsLeastLossDeviationOrNone c.args.u.now (losses_of_pass c.args.pass.now) (is_in_range span.from span.to) span.to)
     c.in-Some.is
     c.find_least_loss.ensures in
-    let a : FitsSigned w32 span.likelihood = search rules in
-    let b : FitsSigned w32 departure.loss = search rules in
-    subst (FitsSigned w32) (sym (ap₂ (λ x y. x -ℤ y) (to_z-of_z w32 span.likelihood a) (to_z-of_z w32 departure.loss b)))
-    (deviation-fits c.args.pass.now c.args.u.now span c.requires.pass c.requires.list c.requires.span departure found)
+    let a : FitsSigned w32 span.metric = search rules in
+    let b : FitsSigned w32 deviation.loss = search rules in
+    subst (FitsSigned w32) (sym (ap₂ (λ x y. x -ℤ y) (to_z-of_z w32 span.metric a) (to_z-of_z w32 deviation.loss b)))
+    (deviation-fits c.args.pass.now c.args.u.now span c.requires.pass c.requires.list c.requires.span deviation found)
 
 pub returns-in-Some-clause-branch : goal.returns-in-Some-clause-branch
 returns-in-Some-clause-branch c =
     let span = c.args.span in
-    let departure = c.in-Some.departure in
+    let deviation = c.in-Some.found in
     let found = subst (IsLeastLossDeviationOrNone c.args.u.now (losses_of_pass c.args.pass.now) (is_in_range span.from span.to) span.to)
     c.in-Some.is
     c.find_least_loss.ensures in
-    let a : FitsSigned w32 span.likelihood = search rules in
-    let b : FitsSigned w32 departure.loss = search rules in
-    let both = ap₂ (λ x y. x -ℤ y) (to_z-of_z w32 span.likelihood a) (to_z-of_z w32 departure.loss b) in
-    let fits = deviation-fits c.args.pass.now c.args.u.now span c.requires.pass c.requires.list c.requires.span departure found in
+    let a : FitsSigned w32 span.metric = search rules in
+    let b : FitsSigned w32 deviation.loss = search rules in
+    let both = ap₂ (λ x y. x -ℤ y) (to_z-of_z w32 span.metric a) (to_z-of_z w32 deviation.loss b) in
+    let fits = deviation-fits c.args.pass.now c.args.u.now span c.requires.pass c.requires.list c.requires.span deviation found in
     record {
       span = c.requires.span;
-      best = best_deviation c.args.pass.now c.args.u.now span c.requires.pass c.requires.list c.requires.span departure found _ refl
-          c.new.ensures.place c.new.ensures.state c.new.ensures.bit
-          (ap (λ z. to_z w32 (of_z w32 z)) both ∙ to_z-of_z w32 (span.likelihood -ℤ departure.loss) fits);
+      best = best_deviation c.args.pass.now c.args.u.now span c.requires.pass c.requires.list c.requires.span deviation found _ refl
+          c.new-point.ensures.index c.new-point.ensures.state c.new-point.ensures.bit
+          (ap (λ z. to_z w32 (of_z w32 z)) both ∙ to_z-of_z w32 (span.metric -ℤ deviation.loss) fits);
+      metric = refl;
     }
 
-pub new-requires-clause-state : goal.new-requires-clause-state
-new-requires-clause-state c =
+pub new-point-requires-clause-state : goal.new-point-requires-clause-state
+new-point-requires-clause-state c =
     let span = c.args.span in
     let found = subst (IsLeastLossDeviationOrNone c.args.u.now (losses_of_pass c.args.pass.now) (is_in_range span.from span.to) span.to)
     c.in-Some.is
     c.find_least_loss.ensures in
-    subst (λ s. s < 16) (sym found.0.state) (state_after-below 0 (take c.in-Some.departure.place c.args.u.now) (omega arith))
+    subst (λ s. s < 16) (sym found.0.state) (state_after-below 0 (take c.in-Some.found.index c.args.u.now) (omega arith))

@@ -1,63 +1,61 @@
 use Rattle.{
-  std.proofs.Common.{arith, rules, ◌≡◌, ◌<◌, inl, length, refl},
-  list_decode.proofs.{
-    Chosen.{view-count, IsRankingDone-none, information, Some-not_none, not_done_at_first},
-    ranked.ListDecoder.next.Goals.After-write_next_best_word,
+  std.proofs.Common.{arith, ◌≡◌, ◌<◌, ◌++◌, ◌∷◌, [], Some, None, ap, length, of_z, subst, sym, to_z, w32, ◌∙◌},
+  list_decode.{
+    proofs.{
+      Chosen.{IsRankingDone-none, information, push-empty},
+      ranked.ListDecoder.next.Goals.{After-write_first_word, After-write_next_word},
+    },
+    specs.{Ranking.{IsRankingDone, Ranking}, Words.returned_words},
   },
 }
 use Rattle.list_decode.proofs.ranked.ListDecoder.next.Goals as goal
 
+pub write_first_word-requires-clause-count : goal.write_first_word-requires-clause-count
+write_first_word-requires-clause-count c =
+    let p = c.self.invariant.has_soft_bits in
+    let s = c.requires.count in
+    let v = ap (λ (v : Ranking). length v.soft) c.self.view_is in
+    omega arith
+
+first : (c : After-write_first_word) →
+    returned_words c.write_first_word.new.self ≡ returned_words c.self.inside.words ++ c.write_first_word.new.u ∷ []
+first c = c.write_first_word.ensures.returned ∙ sym (push-empty (returned_words c.self.inside.words) c.write_first_word.new.u
+    (c.self.invariant.count ∙ c.if-self-eq0.true))
+
+pub returns-then-self-eq0-clause-information : goal.returns-then-self-eq0-clause-information
+returns-then-self-eq0-clause-information c =
+    let is = c.write_first_word.ensures in
+    information c.self.inside.words c.write_first_word.new.self c.write_first_word.new.u is.sound is.soft (Unit {0}) (λ value. Unit {0})
+    (Some c.write_first_word.result) (first (goal.at.returns-then-self-eq0-clause-information c).After-write_first_word, tt)
+
 pub returns-then-self-eq0-clause-done : goal.returns-then-self-eq0-clause-done
 returns-then-self-eq0-clause-done c =
-    let many : length c.self.inside.lists.deviations ≡ 63 = search rules in
-    let count = view-count c.self.inside c.args.self.now c.self.view_is many c.self.invariant.at_most in
-    let none : length c.args.self.now.returned ≡ 0 = let zero = c.if-self-eq0.true in omega arith in (
-      (λ e. absurd (Some-not_none e)),
-      (λ done. absurd
-          (not_done_at_first c.args.self.now c.write_most_likely_word.new.self c.write_most_likely_word.new.u none
-          c.write_most_likely_word.ensures.soft c.write_most_likely_word.ensures.returned c.write_most_likely_word.ensures.ranked done)),
-    )
+    let is = c.write_first_word.ensures in
+    let n = c.self.invariant.count in
+    let zero = c.if-self-eq0.true in
+    let result = Some (to_z w32 (of_z w32 c.write_first_word.result)) in
+    subst (λ (old : Ranking). (result ≡ None → IsRankingDone old) × (IsRankingDone old → result ≡ None)) c.self.view_is
+    (IsRankingDone-none c.self.inside.words c.write_first_word.new.self c.write_first_word.new.u is.sound is.soft (Unit {0}) (Unit {0})
+    (λ value. Unit {0}) result (omega arith)
+    (first (goal.at.returns-then-self-eq0-clause-done c).After-write_first_word, tt))
 
-fewer_than_64_returned : (c : After-write_next_best_word) → length c.args.self.now.returned < 64
-fewer_than_64_returned c =
-    let many : length c.self.inside.lists.deviations ≡ 63 = search rules in
+few : (c : After-write_next_word) → length (returned_words c.self.inside.words) < 64
+few c =
+    let n = c.self.invariant.count in
     let most = c.self.invariant.at_most in
-    let count = view-count c.self.inside c.args.self.now c.self.view_is many c.self.invariant.at_most in
     let not_all = c.if-self-eq-MAX_RANK.false in
     omega arith
 
 pub returns-clause-information : goal.returns-clause-information
 returns-clause-information c =
-    information c.args.self.now c.write_next_best_word.new.self c.write_next_best_word.new.u _ _ (fewer_than_64_returned
-    (goal.at.returns-clause-information c).After-write_next_best_word)
-    c.write_next_best_word.ensures.soft c.write_next_best_word.ensures.ranked c.write_next_best_word.result
-    c.write_next_best_word.ensures.returned
+    let is = c.write_next_word.ensures in
+    information c.self.inside.words c.write_next_word.new.self c.write_next_word.new.u is.sound is.soft _ _ c.write_next_word.result
+    is.returned
 
 pub returns-clause-done : goal.returns-clause-done
 returns-clause-done c =
-    IsRankingDone-none c.args.self.now c.write_next_best_word.new.self c.write_next_best_word.new.u _ _ (fewer_than_64_returned
-    (goal.at.returns-clause-done c).After-write_next_best_word)
-    c.write_next_best_word.ensures.soft c.write_next_best_word.ensures.ranked c.write_next_best_word.result
-    c.write_next_best_word.ensures.returned
-
-pub returns-then-self-eq-MAX_RANK-clause-done : goal.returns-then-self-eq-MAX_RANK-clause-done
-returns-then-self-eq-MAX_RANK-clause-done c =
-    let many : length c.self.inside.lists.deviations ≡ 63 = search rules in
-    let count = view-count c.self.inside c.args.self.now c.self.view_is many c.self.invariant.at_most in
-    let full : length c.args.self.now.returned ≡ 64 = let all = c.if-self-eq-MAX_RANK.true in omega arith in
-    ((λ e. inl full), (λ done. refl))
-
-pub write_next_best_word-requires-clause-some : goal.write_next_best_word-requires-clause-some
-write_next_best_word-requires-clause-some c =
-    let many : length c.self.inside.lists.deviations ≡ 63 = search rules in
-    let count = view-count c.self.inside c.args.self.now c.self.view_is many c.self.invariant.at_most in
-    let some = c.if-self-eq0.false in
-    omega arith
-
-pub write_next_best_word-requires-clause-space : goal.write_next_best_word-requires-clause-space
-write_next_best_word-requires-clause-space c =
-    let many : length c.self.inside.lists.deviations ≡ 63 = search rules in
-    let most = c.self.invariant.at_most in
-    let count = view-count c.self.inside c.args.self.now c.self.view_is many c.self.invariant.at_most in
-    let not_all = c.if-self-eq-MAX_RANK.false in
-    omega arith
+    let is = c.write_next_word.ensures in
+    subst (λ (old : Ranking). (c.write_next_word.result ≡ None → IsRankingDone old) ×
+    (IsRankingDone old → c.write_next_word.result ≡ None)) c.self.view_is
+    (IsRankingDone-none c.self.inside.words c.write_next_word.new.self c.write_next_word.new.u is.sound is.soft _ _ _
+    c.write_next_word.result (few (goal.at.returns-clause-done c).After-write_next_word) is.returned)
