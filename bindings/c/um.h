@@ -503,7 +503,7 @@ typedef struct um_timed_end {
 	um_end end;
 	uint8_t t200;       /* T200 in slots, not 0 */
 	uint8_t sent;       /* whether the frame that awaits an answer was sent; any value but 0 means yes */
-	uint8_t clock;      /* slots until that frame is due; 0: due */
+	uint8_t clock;      /* slots until that frame is due, at most t200; 0: due */
 	uint8_t owed;       /* whether `answer` waits for its slot; any value but 0 means yes */
 	uint8_t answer[23]; /* a block with a UA, DM, RR or REJ, as calls write it; zeros if none is owed */
 } um_timed_end;

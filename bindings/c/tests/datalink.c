@@ -246,6 +246,11 @@ static void test_refusals(void)
 	b.link0.t200 = 0;
 	check(!um_datalink_valid(&b), "a T200 of 0");
 	b = a;
+	b.link0.clock = 2, b.link3.clock = 4;
+	check(um_datalink_valid(&b), "clocks of T200");
+	b.link3.clock = 5;
+	check(!um_datalink_valid(&b), "a clock longer than T200");
+	b = a;
 	b.link0.owed = 1;
 	check(!um_datalink_valid(&b), "an answer that is none");
 	memset(b.link0.answer, 0x2b, 23);

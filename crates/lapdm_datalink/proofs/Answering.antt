@@ -1,5 +1,5 @@
 -- What a link does in a slot: nothing is owed after it, and the slot after an I frame carries its answer.
-use Rattle.std.specs.Prelude.{◌≡◌, ℕ, ◌-◌, Bool, true, false, ◌||◌, ◌⊎◌, nat_eq, Option, Some, None}
+use Rattle.std.specs.Prelude.{◌≡◌, ℕ, Bool, true, false, ◌||◌, ◌⊎◌, nat_eq, Option, Some, None}
 use Rattle.std.proofs.Common.{inl, inr, arith, refl}
 use Rattle.lapdm_frame.specs.Content.{Frame}
 use Rattle.lapdm_end.specs.lapdm_window.declared.State.TheVariants.{Open, Closed}
@@ -81,11 +81,16 @@ answers_i_frame l h g ns nr p segment k =
 module _ (l : LinkState) where
   due_step : (a : Option Frame) → l.answer ≡ a → (b : Bool) → is_due l ≡ b → (c : Bool) → l.is_sent ≡ c → (k : Bool) →
       ((f : Frame) → a ≡ Some f → keeps_back f l ≡ k) → IsStepOfEndpoint l (slot_outcome l)
-  due_step None n false e c g k kept = inl (record { endpoint = grind (arith, n, e); frame = inl (grind (arith, n, e)) })
+  due_step None n false e c g k kept = inl (record {
+    endpoint = grind (arith, n, e);
+    frame = inl (grind (arith, n, e));
+    notices = grind (arith, n, e);
+  })
   due_step None n true e false g k kept = inr (inl (record {
     awaits = grind (arith, e);
     repeats = grind (arith, n, e, g);
     frame = grind (arith, n, e, g);
+    notices = grind (arith, n, e, g);
   }))
   due_step None n true e true g k kept = inr (inr (record {
     awaits = grind (arith, e);
@@ -96,13 +101,19 @@ module _ (l : LinkState) where
   due_step (Some f) n b e c g false kept = inl (record {
     endpoint = grind (arith, n, kept f refl);
     frame = inr (grind (arith, n, kept f refl));
+    notices = grind (arith, n, kept f refl);
   })
   due_step (Some f) n false e c g true kept =
-      inl (record { endpoint = grind (arith, n, kept f refl, e); frame = inl (grind (arith, n, kept f refl, e)) })
+      inl (record {
+        endpoint = grind (arith, n, kept f refl, e);
+        frame = inl (grind (arith, n, kept f refl, e));
+        notices = grind (arith, n, kept f refl, e);
+      })
   due_step (Some f) n true e false g true kept = inr (inl (record {
     awaits = grind (arith, e);
     repeats = grind (arith, n, kept f refl, e, g);
     frame = grind (arith, n, kept f refl, e, g);
+    notices = grind (arith, n, kept f refl, e, g);
   }))
   due_step (Some f) n true e true g true kept = inr (inr (record {
     awaits = grind (arith, e);

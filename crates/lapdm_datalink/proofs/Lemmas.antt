@@ -1,5 +1,5 @@
 -- Lemmas about links and data links.
-use Rattle.std.proofs.Common.{◌≡◌, ◌≢◌, ◌≤◌, ◌∙◌, refl, sym, arith, subst, ap, ℕ, Bool, true, false, List, []}
+use Rattle.std.proofs.Common.{◌≡◌, ◌≢◌, ◌≤◌, ◌∙◌, refl, sym, arith, ap, ℕ, Bool, true, false, List, []}
 use Rattle.std.proofs.Common.{◌∷◌, map, length, get_or}
 use Rattle.std.proofs.Common.{All, if◌then◌else◌}
 use Rattle.std.proofs.Common.{Option, Some, None, Result, Ok, Err, OnOk, OnErr}
@@ -30,7 +30,6 @@ use Rattle.lapdm_datalink.specs.DataLinks.{with_clocks_moved}
 use Rattle.lapdm_datalink.specs.DataLinks.{data_link_outcome}
 use Rattle.lapdm_end.specs.lapdm_window.declared.Sapi.TheVariants.{Zero, Three}
 use Rattle.lapdm_datalink.specs.Links.{afresh, for_call, for_frame, after_call, after_frame, ignores, received_outcome, slot_outcome}
-use Rattle.lapdm_datalink.specs.Links.{after_slot}
 use Rattle.lapdm_end.specs.lapdm_window.declared.Sapi.{Sapi}
 use Rattle.lapdm_datalink.specs.Abstraction.{Represents, MayWait, MayBeReturned}
 use Rattle.lapdm_datalink.specs.Parts.{LinkValues, ValuesRepresent, SomeLinkHasValues, IsAnswerBlock, HasAnswerBlockIfAny}
@@ -249,13 +248,14 @@ one_data_link_values x y s h g = λ i. record {
   is_main_established = (h.is_main_established ∙ sym g.is_main_established) i;
 }
 
--- ## Addresses: No step changes the role, SAPI, channel or T200 of a link.
+-- ## Addresses: No step changes the role, SAPI, channel or T200 of a link, or makes its clock longer than T200.
 
 pub record IsSameLink (l m : LinkState) : Type 0 where
   pub role : m.endpoint.role ≡ l.endpoint.role
   pub sapi : m.endpoint.sapi ≡ l.endpoint.sapi
   pub channel : m.endpoint.channel ≡ l.endpoint.channel
   pub t200 : m.t200 ≡ l.t200
+  pub clock : l.clock ≤ l.t200 → m.clock ≤ m.t200
 
 t200_with_frame : (f : Frame) (l : LinkState) → (with_frame f l).t200 ≡ l.t200
 t200_with_frame f l = grind arith
@@ -268,6 +268,13 @@ t200_with_frames : (fs : List Frame) (l : LinkState) → (with_frames fs l).t200
 t200_with_frames [] l = refl
 t200_with_frames (f ∷ fs) l = t200_with_frames fs (with_frame f l) ∙ t200_with_frame f l
 
+clock_with_frame : (f : Frame) (l : LinkState) → l.clock ≤ l.t200 → (with_frame f l).clock ≤ (with_frame f l).t200
+clock_with_frame f l h = grind arith
+
+clock_with_frames : (fs : List Frame) (l : LinkState) → l.clock ≤ l.t200 → (with_frames fs l).clock ≤ (with_frames fs l).t200
+clock_with_frames [] l h = h
+clock_with_frames (f ∷ fs) l h = clock_with_frames fs (with_frame f l) (clock_with_frame f l h)
+
 same_outcome : (l : LinkState) (o : Outcome) → Keeps l.endpoint o → IsSameLink l (with_outcome o l)
 same_outcome l o k =
     let m : LinkState = record l { endpoint = o.new_state } in
@@ -277,7 +284,11 @@ same_outcome l o k =
       sapi = ap (λ (x : EndpointState). x.sapi) e ∙ k.sapi;
       channel = ap (λ (x : EndpointState). x.channel) e ∙ k.channel;
       t200 = t200_with_frames o.frames m;
+      clock = clock_with_frames o.frames m;
     }
+
+same_itself : (l : LinkState) → IsSameLink l l
+same_itself l = record { role = refl; sapi = refl; channel = refl; t200 = refl; clock = λ h. h }
 
 same_trans : {l m n : LinkState} → IsSameLink l m → IsSameLink m n → IsSameLink l n
 same_trans h g = record {
@@ -285,10 +296,11 @@ same_trans h g = record {
   sapi = g.sapi ∙ h.sapi;
   channel = g.channel ∙ h.channel;
   t200 = g.t200 ∙ h.t200;
+  clock = λ x. g.clock (h.clock x);
 }
 
 pub same_afresh : (l : LinkState) → IsSameLink l (afresh l)
-same_afresh l = record { role = refl; sapi = refl; channel = refl; t200 = refl }
+same_afresh l = record { role = refl; sapi = refl; channel = refl; t200 = refl; clock = λ h. omega arith }
 
 pub same_for_call : (call : Call) (l : LinkState) → IsSameLink l (for_call call l)
 same_for_call call l = grind arith
@@ -322,11 +334,8 @@ same_after_frame f l h fits =
   where
     by_test : (b : Bool) → IsSameLink l (let m = for_frame f l in with_outcome (received_outcome f m) m) →
         IsSameLink l (if b then l else (let m = for_frame f l in with_outcome (received_outcome f m) m))
-    by_test true h = record { role = refl; sapi = refl; channel = refl; t200 = refl }
+    by_test true h = same_itself l
     by_test false h = h
-
-same_itself : (l : LinkState) → IsSameLink l l
-same_itself l = record { role = refl; sapi = refl; channel = refl; t200 = refl }
 
 pub either : (P : SlotOutcome → Type 0) (b : Bool) (x y : SlotOutcome) → P x → P y → P (if b then x else y)
 either P true x y h g = h
@@ -338,17 +347,20 @@ same_needless l = grind arith
 same_expires : (l : LinkState) → IsSameLink l (expires l).link
 same_expires l = grind arith
 
+same_awaited : (l : LinkState) → IsSameLink l (sends_awaited l).link
+same_awaited l = record { role = refl; sapi = refl; channel = refl; t200 = refl; clock = λ h. omega arith }
+
 same_due : (l : LinkState) → IsSameLink l (sends_due_frame l).link
 same_due l =
     let m = without_needless_answer l in
     either (λ o. IsSameLink l o.link) (is_due l) (if l.is_sent then expires m else sends_awaited m) (sends_nothing l)
     (either (λ o. IsSameLink l o.link) l.is_sent (expires m) (sends_awaited m) (same_trans (same_needless l) (same_expires m))
-    (same_trans (same_needless l) (record { role = refl; sapi = refl; channel = refl; t200 = refl }))) (same_itself l)
+    (same_trans (same_needless l) (same_awaited m))) (same_itself l)
 
 same_owing : (answer : Option Frame) (l : LinkState) → IsSameLink l (slot_outcome_owing answer l).link
 same_owing None l = same_due l
 same_owing (Some f) l = either (λ o. IsSameLink l o.link) (keeps_back f l) (sends_due_frame l) (sends_answer f l) (same_due l)
-    (record { role = refl; sapi = refl; channel = refl; t200 = refl })
+    (record { role = refl; sapi = refl; channel = refl; t200 = refl; clock = λ h. h })
 
 pub same_slot : (l : LinkState) → IsSameLink l (slot_outcome l).link
 same_slot l = same_owing l.answer l
@@ -366,6 +378,8 @@ valid_with_flags heard main s h = record {
   channel = h.channel;
   t200 = h.t200;
   t200_sapi3 = h.t200_sapi3;
+  clock = h.clock;
+  clock_sapi3 = h.clock_sapi3;
 }
 
 pub valid_clocks : (s : DataLinkState) → IsDataLink s → IsDataLink (with_clocks_moved s)

@@ -21,3 +21,4 @@ mod RunsWorlds
 mod RunsQueues
 mod RunsLinks
 mod Runs
+mod Lockstep

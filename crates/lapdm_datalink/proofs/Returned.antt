@@ -1,10 +1,9 @@
 -- What an endpoint returns to its link: each frame awaits an answer, or is an answer of the link.
-use Rattle.std.proofs.Common.{◌≡◌, ◌∙◌, ◌++◌, ◌∷◌, refl, subst, arith, ℕ, Bool, true, false, if◌then◌else◌}
+use Rattle.std.proofs.Common.{◌≡◌, ◌∙◌, ◌∷◌, subst, arith, ℕ, Bool, true, false, if◌then◌else◌}
 use Rattle.std.proofs.Common.{List, [], All}
 use Rattle.std.proofs.lemmas.List.Elements.{All-append, All-head, All-tail, All-cons, All-nil}
 use Rattle.lapdm_frame.specs.Content.{Frame}
 use Rattle.lapdm_frame.specs.Frames.{FrameFits}
-use Rattle.lapdm_frame.specs.declared.Channel.{Channel}
 use Rattle.lapdm_end.specs.lapdm_window.declared.Sapi.{Sapi}
 use Rattle.lapdm_end.specs.lapdm_window.Ends.{EndpointState, Outcome, Role, ◌then◌}
 use Rattle.lapdm_end.specs.lapdm_window.segmenting.Segments.{Segment}
@@ -17,7 +16,7 @@ use Rattle.lapdm_datalink.specs.Links.{is_awaiting_kind, IsLinkCall}
 use Rattle.lapdm_datalink.specs.Abstraction.{IsAnswer, MayBeReturned}
 
 -- the frame awaits an answer, or is an answer of a link with this role and SAPI
-abbrev IsReturned : Role → Sapi → Frame → Type 0
+abbrev pub IsReturned : Role → Sapi → Frame → Type 0
 IsReturned role sapi f = is_awaiting_kind f.content ≡ false → IsAnswer role sapi f
 
 -- so is each frame of the outcome, after which role and SAPI are the same

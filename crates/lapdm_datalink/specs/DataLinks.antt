@@ -1,6 +1,6 @@
 -- A data link: both links of one side of a channel, of which SAPI 0 goes first.
-use Rattle.std.specs.Prelude.{◌≡◌, ◌≢◌, ℕ, Bool, true, false, not, ◌&&◌, ◌||◌, if◌then◌else◌, nat_eq, List}
-use Rattle.std.specs.Prelude.{[], Option, Some, None}
+use Rattle.std.specs.Prelude.{◌≡◌, ◌≢◌, ◌≤◌, ℕ, Bool, true, false, not, ◌&&◌, ◌||◌, if◌then◌else◌, nat_eq}
+use Rattle.std.specs.Prelude.{List, [], Option, Some, None}
 use Rattle.lapdm_frame.specs.declared.Channel.{Channel}
 use Rattle.lapdm_frame.specs.declared.Channel.TheVariants.{Sdcch, Sacch}
 use Rattle.lapdm_frame.specs.Content.{Content, Ui, Frame}
@@ -21,7 +21,7 @@ pub record DataLinkState : Type 0 where
   -- on SACCH, whether the link of SAPI 0 on the main channel is established, as layer 3 said last
   pub is_main_established : Bool
 
--- the two links have SAPI 0 and SAPI 3, the same role and the same channel, and neither T200 is 0
+-- the two links have SAPI 0 and SAPI 3, the same role and the same channel; neither T200 is 0, and neither clock is longer than T200
 pub record IsDataLink (s : DataLinkState) : Type 0 where
   pub sapi0 : s.link0.endpoint.sapi ≡ Zero
   pub sapi3 : s.link3.endpoint.sapi ≡ Three
@@ -29,6 +29,8 @@ pub record IsDataLink (s : DataLinkState) : Type 0 where
   pub channel : s.link3.endpoint.channel ≡ s.link0.endpoint.channel
   pub t200 : s.link0.t200 ≢ 0
   pub t200_sapi3 : s.link3.t200 ≢ 0
+  pub clock : s.link0.clock ≤ s.link0.t200
+  pub clock_sapi3 : s.link3.clock ≤ s.link3.t200
 
 -- the initial state of a data link
 abbrev pub initial_data_link : (role : Role) (channel : Channel) (t200 t200_sapi3 : ℕ) → DataLinkState

@@ -8,3 +8,4 @@ pub mod Slots
 pub mod Channels
 pub mod Progress
 pub mod Runs
+pub mod Lockstep

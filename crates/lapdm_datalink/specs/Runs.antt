@@ -71,7 +71,7 @@ OpensNoClosedLink None s = Unit {0}
 OpensNoClosedLink (Some f) s = IfSome (sapi_for_frame f s) (λ sapi. is_reopened_by_frame f (link_with_sapi sapi s) ≡ false)
 
 -- The event is possible in this state: a call is one of layer 3 that the endpoint does not refuse, and a UI frame is sent in a free slot.
--- Each link is opened once, by a call (an endpoint in Closed refuses it) or by a frame.
+-- Each link is opened once, by a call (an endpoint in Closed refuses it) or by a frame. The events before a second opening are a run.
 abbrev pub IsPossible : RunEvent → RunState → Type 0
 IsPossible (Calls role sapi call) r =
     IsLayer3Call call × IsCallAllowedFor role sapi call × (refusal_of call (link_at role sapi r).endpoint ≡ None)

@@ -1,23 +1,24 @@
 -- What a link does to its endpoint in a slot, and how soon it answers an I frame.
-use Rattle.std.specs.Prelude.{◌≡◌, ◌⊎◌, ℕ, Bool, true, false, Option, Some, None}
+use Rattle.std.specs.Prelude.{◌≡◌, ◌⊎◌, ℕ, Bool, true, [], Option, Some, None}
 use Rattle.lapdm_frame.specs.Content.{Content, I, Rr, Rej, Frame}
-use Rattle.lapdm_end.specs.lapdm_window.declared.State.TheVariants.{Open, Closed}
 use Rattle.lapdm_end.specs.lapdm_window.segmenting.Segments.{Segment}
-use Rattle.lapdm_end.specs.lapdm_window.Ends.{vr, awaits_answer}
+use Rattle.lapdm_end.specs.lapdm_window.Ends.{awaits_answer}
 use Rattle.lapdm_end.specs.lapdm_window.Rules.{takes_i_frame}
 use Rattle.lapdm_end.specs.lapdm_window.Calls.{Repeats, T200Expires, call_outcome}
 use Rattle.lapdm_datalink.specs.Links.{LinkState, SlotOutcome, with_outcome, first_frame}
 
--- the link sends nothing, or the answer that it owed, and its endpoint does nothing
+-- the link sends nothing, or the answer that it owed, and its endpoint does and reports nothing
 pub record SendsNoCommand (l : LinkState) (o : SlotOutcome) : Type 0 where
   pub endpoint : o.link.endpoint ≡ l.endpoint
   pub frame : (o.frame ≡ None) ⊎ (o.frame ≡ l.answer)
+  pub notices : o.notices ≡ []
 
 -- the endpoint sends the frame that awaits an answer, by a repetition that is not counted or by the expiry of T200
 pub record SendsAwaited (l : LinkState) (o : SlotOutcome) : Type 0 where
   pub awaits : awaits_answer l.endpoint ≡ true
   pub repeats : o.link.endpoint ≡ (call_outcome Repeats l.endpoint).new_state
   pub frame : o.frame ≡ first_frame (call_outcome Repeats l.endpoint).frames
+  pub notices : o.notices ≡ []
 
 pub record Expires (l : LinkState) (o : SlotOutcome) : Type 0 where
   pub awaits : awaits_answer l.endpoint ≡ true

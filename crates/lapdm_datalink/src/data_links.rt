@@ -60,8 +60,7 @@ pub struct Slot {
 impl DataLink {
     ghost use Rattle.lapdm_datalink.specs.Sides.{Represents, link_of, other, channel_of, role_of};
 
-    /// Creates a data link with both links in Idle, and T200 of each in slots. With a T200 of 0 it represents none, since a frame would be
-    /// repeated in the slot after it.
+    /// Creates a data link with both links in Idle, and T200 of each in slots. With a T200 of 0, which would act as 1, it represents none.
     pub fn new_on(role: Role, channel: Channel, t200: u8, t200_sapi3: u8) -> DataLink
         ensures represents { t200 ≢ 0 → t200_sapi3 ≢ 0
             → Represents result (initial_data_link (spec_role_of role) channel t200 t200_sapi3) }

@@ -13,6 +13,7 @@ ghost use Rattle.lapdm_datalink.specs.Slots.{IsStepOfEndpoint, nr_of, took};
 ghost use Rattle.lapdm_datalink.specs.DataLinks.{DataLinkState};
 ghost use Rattle.lapdm_datalink.specs.Channels.{Run};
 ghost use Rattle.lapdm_datalink.specs.Progress.{GoesFirst, PaysForExpiries, Progresses};
+ghost use Rattle.lapdm_datalink.specs.Lockstep as Lockstep;
 
 /// Law: in a slot, the endpoint of a link does nothing, repeats the frame that awaits an answer without counting it, or handles the expiry
 /// of T200. What goes out is the answer owed, or the frame of that call.
@@ -27,8 +28,8 @@ pub fn law_answer_waits_for_one_slot()
     ensures { (l : LinkState) → sabm_goes_first l ≡ false → (slot_outcome l).link.answer ≡ None }
 {}
 
-/// Law: if an open link that owes nothing takes an I frame that is in sequence or polls, the next slot that the link has carries an N(R)
-/// equal to V(R), or the link is given up in it.
+/// Law: if an open link that owes nothing takes an I frame that is in sequence or polls, and then has a slot with no call or frame in
+/// between, the slot carries an N(R) equal to V(R), or the link is given up in it.
 #[tactic(auto, using(crate::proofs::Answering::answers_i_frame))]
 pub fn law_i_frame_is_answered_in_the_next_slot()
     ensures { (l : LinkState) → l.endpoint.state ≡ Open → l.answer ≡ None → (ns nr : ℕ) (poll : Bool) (segment : Segment)
@@ -40,7 +41,7 @@ pub fn law_i_frame_is_answered_in_the_next_slot()
 /// Law: in a run of two data links on one channel, in which frames arrive in order, late or not at all, and no closed link is opened again,
 /// by a call or by a late SABM, each side delivers a prefix of the messages that the other accepted for sending, and reports a message as
 /// acknowledged only after the other side has delivered it. Each link is closed at most once, and messages are delivered and acknowledged
-/// only while it is open.
+/// only while it is open. The events before one that opens a closed link again are such a run.
 pub fn law_data_links_deliver_in_order()
     ensures delivery { (channel : Channel) (t200 : Role → Sapi → ℕ) (events : List RunEvent) →
         IsRun events (initial_run channel t200)
@@ -73,4 +74,15 @@ pub fn law_data_links_progress()
 #[tactic(auto, using(crate::proofs::ProgressExpiries::pays_for_expiries))]
 pub fn law_data_links_pay_for_expiries()
     ensures { (r : Run) → PaysForExpiries r }
+{}
+
+/// Law: in a run of two whole data links whose slots come together, the links of SAPI 0 are, slot by slot, those of the run of the two
+/// alone with the same calls to them and the same losses, whatever SAPI 3 does and whatever UI frames go out in free slots.
+pub fn law_sapi_0_of_data_links_is_a_channel()
+    ensures { (r : Lockstep.Run) → Lockstep.AreAsAlone r }
+{}
+
+/// Law: so progress holds of the links of SAPI 0 of two whole data links.
+pub fn law_whole_data_links_progress()
+    ensures { (r : Lockstep.Run) → Lockstep.Progresses r }
 {}

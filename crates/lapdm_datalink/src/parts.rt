@@ -1,6 +1,6 @@
 //! Exports the state of a link as plain data, and restores a link from it.
 
-ghost use Rattle.std.specs.Prelude.{◌≡◌, ◌↔◌, false, IsTrue, IsSome, IfSome};
+ghost use Rattle.std.specs.Prelude.{◌≡◌, ◌≢◌, ◌≤◌, ◌↔◌, false, IsTrue, IsSome, IfSome};
 ghost use Rattle.lapdm_frame.specs.Content.{content_of_body, frame_of_view};
 ghost use Rattle.lapdm_end.specs.Addresses.{spec_role_of};
 ghost use Rattle.lapdm_datalink.specs.Links.{LinkState};
@@ -20,13 +20,13 @@ use lapdm_frame::{BLOCK_OCTETS, Body, FrameView, read_on, write_on};
 #[derive(Clone, Copy, Debug)]
 pub struct LinkView<'a> {
     pub endpoint: EndpointView<'a>,
-    /// T200 in slots.
+    /// T200 in slots, not 0.
     pub t200: u8,
     /// The answer that waits for a slot: a UA, DM, RR or REJ.
     pub answer: Option<[u8; BLOCK_OCTETS]>,
     /// Whether the frame that awaits an answer was sent.
     pub is_sent: bool,
-    /// The slots until that frame is due.
+    /// The slots until that frame is due, at most `t200`.
     pub clock: u8,
 }
 
@@ -115,6 +115,13 @@ impl Link {
         }
     }
 
+    // Returns whether the link has a T200, and no clock that is longer.
+    fn is_timed(&self) -> bool
+        ensures { IsTrue result ↔ (self.now.t200 ≢ 0 × self.now.clock ≤ self.now.t200) }
+    {
+        self.t200 != 0 && self.clock <= self.t200
+    }
+
     // Returns whether this state is that of a link with the same SAPI and channel.
     fn has_address_of(&self, parts: &LinkView<'_>) -> bool
         ensures { IsTrue result ↔ IsAtSameAddress self.now (values_of_parts parts.now) }
@@ -173,15 +180,15 @@ impl DataLink {
         }
     }
 
-    // Returns whether the links have a T200 each.
+    // Returns whether each link has a T200, and no clock that is longer.
     fn is_data_link(&self) -> bool
         ensures { (s : DataLinkState) → L.Represents self.now.link0 s.link0 → L.Represents self.now.link3 s.link3
             → IsTrue result ↔ IsDataLink s }
     {
-        if self.link0.t200 == 0 {
+        if !self.link0.is_timed() {
             return false;
         }
-        self.link3.t200 != 0
+        self.link3.is_timed()
     }
 
     // Makes this a data link with this role and channel.

@@ -64,7 +64,7 @@ pub struct CTimedEnd {
     pub t200: u8,
     /// Whether the frame that awaits an answer was sent.
     pub sent: u8,
-    /// The slots until that frame is due.
+    /// The slots until that frame is due, at most `t200`.
     pub clock: u8,
     /// Whether `answer` waits for its slot.
     pub owed: u8,

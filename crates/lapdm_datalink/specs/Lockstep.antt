@@ -1,0 +1,173 @@
+-- Two whole data links, a mobile and a network, whose slots come together. In each slot each side takes what arrives, layer 3 makes its
+-- calls, and the side sends one block, which arrives `delay` slots later, before the slot after that, or is lost.
+use Rattle.std.specs.Prelude.{◌≡◌, ◌≤◌, ◌+◌, ◌*◌, ℕ, zero, suc, Bool, ◌||◌, List, [], ◌∷◌, All}
+use Rattle.std.specs.Prelude.{if◌then◌else◌, get_or, Option, Some, None}
+use Rattle.std.specs.List.{filter_map}
+use Rattle.lapdm_frame.specs.declared.Channel.{Channel}
+use Rattle.lapdm_frame.specs.Content.{Frame}
+use Rattle.lapdm_end.specs.lapdm_window.segmenting.Segments.{Message}
+use Rattle.lapdm_end.specs.lapdm_window.declared.Sapi.{Sapi}
+use Rattle.lapdm_end.specs.lapdm_window.declared.Sapi.TheVariants.{Zero, Three}
+use Rattle.lapdm_end.specs.lapdm_window.declared.State.TheVariants.{Open}
+use Rattle.lapdm_end.specs.lapdm_window.Ends.{Role, Mobile, Network, awaits_answer}
+use Rattle.lapdm_end.specs.lapdm_window.Calls.{Call, IsCallAllowedFor, refusal_of}
+use Rattle.lapdm_link.specs.Events.{other}
+use Rattle.lapdm_datalink.specs.Links.{LinkState, IsLinkCall, for_call, ui_frame, after_slot, slot_outcome}
+use Rattle.lapdm_datalink.specs.DataLinks.{DataLinkState, initial_data_link, link_with_sapi, with_link, having_main, holds_up_sapi3}
+use Rattle.lapdm_datalink.specs.DataLinks.{DataLinkOutcome, data_link_outcome}
+use Rattle.lapdm_datalink.specs.Channels.{after_call_unless, carried}
+use Rattle.lapdm_datalink.specs.Channels as C
+use Rattle.lapdm_datalink.specs.Runs.{after_arrival_if_any}
+use Rattle.lapdm_datalink.specs.Progress.{round_trip, one_if, is_loss, is_repetition}
+use Rattle.lapdm_datalink.specs.Progress as P
+
+-- one side's part of a slot
+pub record Part : Type 0 where
+  -- whether the link of SAPI 0 on the main channel is established, as layer 3 says first
+  pub is_main_established : Bool
+  -- the calls of layer 3, in order, each to the link of its SAPI
+  pub calls : List (Sapi × Call)
+  -- the UI frame that goes out if the data link leaves the slot free
+  pub unit : Option (Sapi × Message)
+  -- whether the block is lost
+  pub is_lost : Bool
+
+-- the slots of a run, T200 of both links of SAPI 0 and of each of SAPI 3, and how late the blocks arrive
+pub record Run : Type 0 where
+  pub delay : ℕ
+  pub t200 : ℕ
+  pub t200_sapi3 : Role → ℕ
+  pub channel : Channel
+  pub part : (slot : ℕ) (role : Role) → Part
+
+-- one side: its data link, and what its blocks brought on the air so far, newest first; `None` for a block that was lost or is the fill
+-- frame
+pub record Side : Type 0 where
+  pub data_link : DataLinkState
+  pub sent : List (Option Frame)
+
+-- the data link after a call of layer 3; a refused call changes nothing
+abbrev pub after_call_of : Sapi × Call → DataLinkState → DataLinkState
+after_call_of (sapi, call) s =
+    let l = link_with_sapi sapi s in
+    with_link sapi (after_call_unless (refusal_of call (for_call call l).endpoint) call l) s
+
+abbrev pub after_calls : List (Sapi × Call) → DataLinkState → DataLinkState
+after_calls [] s = s
+after_calls (call ∷ calls) s = after_calls calls (after_call_of call s)
+
+-- the data link in its slot, before it sends
+abbrev pub ready : (part : Part) (arrived : Option Frame) (data_link : DataLinkState) → DataLinkState
+ready p arrived s = after_calls p.calls (after_arrival_if_any arrived (having_main p.is_main_established s))
+
+-- the frame of the data link, if any, or else the UI frame, if any
+abbrev pub frame_or_unit : (frame : Option Frame) (unit : Option (Sapi × Message)) (data_link : DataLinkState) → Option Frame
+frame_or_unit (Some f) unit s = Some f
+frame_or_unit None None s = None
+frame_or_unit None (Some (sapi, m)) s = Some (ui_frame m (link_with_sapi sapi s).endpoint)
+
+-- a side after its slot
+abbrev pub side_after : (part : Part) (arrived : Option Frame) (side : Side) → Side
+side_after p arrived s =
+    let o = data_link_outcome (ready p arrived s.data_link) in
+    record { data_link = o.new_state; sent = carried p.is_lost (frame_or_unit o.frame p.unit o.new_state) ∷ s.sent }
+
+-- this side before the slot with this number, counted from 0
+abbrev pub side_at : (run : Run) (slot : ℕ) (role : Role) → Side
+side_at r zero role = record { data_link = initial_data_link role r.channel r.t200 (r.t200_sapi3 role); sent = [] }
+side_at r (suc n) role = side_after (r.part n role) (get_or (side_at r n (other role)).sent r.delay None) (side_at r n role)
+
+-- its link of SAPI 0
+abbrev pub link0_at : (run : Run) (slot : ℕ) (role : Role) → LinkState
+link0_at r n role = (side_at r n role).data_link.link0
+
+-- what arrives at this side in the slot, its data link before it sends, and what this does
+abbrev pub arriving_at : (run : Run) (slot : ℕ) (role : Role) → Option Frame
+arriving_at r n role = get_or (side_at r n (other role)).sent r.delay None
+
+abbrev pub ready_at : (run : Run) (slot : ℕ) (role : Role) → DataLinkState
+ready_at r n role = ready (r.part n role) (arriving_at r n role) (side_at r n role).data_link
+
+abbrev pub outcome_at : (run : Run) (slot : ℕ) (role : Role) → DataLinkOutcome
+outcome_at r n role = data_link_outcome (ready_at r n role)
+
+-- layer 3 makes this call: it exists for the side and the SAPI, and opens, sends over or closes the link
+abbrev pub IsCallOf : Role → Sapi × Call → Type 0
+IsCallOf role (sapi, call) = IsCallAllowedFor role sapi call × IsLinkCall call
+
+abbrev pub HasCalls : Run → Type 0
+HasCalls r = (n : ℕ) (role : Role) → All (IsCallOf role) (r.part n role).calls
+
+-- ---- the links of SAPI 0 alone
+
+-- the frame, if the link of SAPI 0 sent it: no UI frame
+abbrev pub frame_of_link0 : Option Frame → Option Frame
+frame_of_link0 None = None
+frame_of_link0 (Some f) = if holds_up_sapi3 f then Some f else None
+
+-- the call, if it is to the link of SAPI 0
+abbrev pub call_of_link0 : Sapi × Call → Option Call
+call_of_link0 (Zero, call) = Some call
+call_of_link0 (Three, call) = None
+
+abbrev pub turn_of : Part → C.Turn
+turn_of p = record { calls = filter_map call_of_link0 p.calls; is_lost = p.is_lost }
+
+-- the run of two links of SAPI 0 alone with the same calls to them and the same losses
+abbrev pub sapi_0_of : Run → C.Run
+sapi_0_of r = record {
+  delay = r.delay;
+  t200 = r.t200;
+  channel = r.channel;
+  slot = λ n. record { mobile = turn_of (r.part n Mobile); network = turn_of (r.part n Network) };
+}
+
+-- in the slot, the link of SAPI 0 of this side is what it is alone: before the slot, before it sends, in what it sends and what it reports
+pub record IsAsAlone (r : Run) (n : ℕ) (role : Role) : Type 0 where
+  pub link : link0_at r n role ≡ P.link_at (sapi_0_of r) n role
+  pub ready : after_slot (ready_at r n role).link0 ≡ P.ready_at (sapi_0_of r) n role
+  pub frame : frame_of_link0 (outcome_at r n role).frame ≡ P.frame_at (sapi_0_of r) n role
+  pub notices : (outcome_at r n role).notices0 ≡ (slot_outcome (P.ready_at (sapi_0_of r) n role)).notices
+
+-- whatever happens on SAPI 3, the links of SAPI 0 are a run of the two alone
+abbrev pub AreAsAlone : Run → Type 0
+AreAsAlone r = HasCalls r → (n : ℕ) (role : Role) → IsAsAlone r n role
+
+-- ---- progress
+
+-- in how many of these slots this is so
+abbrev pub slots_with : (is_so : ℕ → Bool) (first slots : ℕ) → ℕ
+slots_with is_so n zero = 0
+slots_with is_so n (suc k) = slots_with is_so n k + one_if (is_so (n + k))
+
+-- in the slot, the link of SAPI 0 awaits an answer, a frame of it is lost, or it repeats its I frame
+abbrev pub awaits : (run : Run) (role : Role) (slot : ℕ) → Bool
+awaits r role n = awaits_answer (ready_at r n role).link0.endpoint
+
+abbrev pub is_loss_at : (run : Run) (slot : ℕ) (role : Role) → Bool
+is_loss_at r n role = is_loss (r.part n role).is_lost (frame_of_link0 (outcome_at r n role).frame)
+
+abbrev pub is_lossy : (run : Run) (slot : ℕ) → Bool
+is_lossy r n = is_loss_at r n Mobile || is_loss_at r n Network
+
+abbrev pub repeats : (run : Run) (role : Role) (slot : ℕ) → Bool
+repeats r role n = is_repetition (frame_of_link0 (outcome_at r n role).frame)
+
+-- the links of SAPI 0 of both sides are open before each of these slots and after the last
+abbrev pub AreOpen : (run : Run) (first slots : ℕ) → Type 0
+AreOpen r n k = (j : ℕ) → j ≤ k → (role : Role) → (link0_at r (n + j) role).endpoint.state ≡ Open
+
+-- layer 3 establishes SAPI 0 and sends messages over it, but does not release it
+abbrev pub IsWithoutRelease : Run → Type 0
+IsWithoutRelease r = (n : ℕ) (role : Role) → All (C.IsUse role) (turn_of (r.part n role)).calls
+
+-- `Progress` of specs/Progress, of the link of SAPI 0 of a data link
+pub record Progress (r : Run) (n k : ℕ) (role : Role) : Type 0 where
+  pub waits : slots_with (awaits r role) n k + round_trip r.delay * (link0_at r n role).endpoint.acked_segments
+      ≤ round_trip r.delay * ((link0_at r (n + k) role).endpoint.acked_segments + 1)
+      + (r.t200 + 1) * (slots_with (is_lossy r) n k + 1) + (r.delay + 1)
+  pub expires : slots_with (repeats r role) n k ≤ slots_with (is_lossy r) n k + 1
+
+abbrev pub Progresses : Run → Type 0
+Progresses r = HasCalls r → IsWithoutRelease r → round_trip r.delay ≤ r.t200 → (n k : ℕ) → AreOpen r n k → (role : Role) →
+    Progress r n k role
