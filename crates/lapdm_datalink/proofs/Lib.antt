@@ -13,6 +13,8 @@ pub mod ProgressPaid
 pub mod ProgressExpiries
 pub mod ProgressWaiting
 pub mod ProgressPolls
+pub mod ProgressCut
+pub mod ProgressFrames
 pub mod ProgressAlone
 mod RunsWorked
 mod RunsClaims

@@ -16,8 +16,8 @@ use Rattle.{
   lapdm_link.specs.Events.other,
   lapdm_datalink.{
     specs.{Links.{LinkState, slot_outcome, is_due, keeps_back, is_plain_rr, is_awaiting_kind, first_frame}, Slots.took, Channels.Run},
-    specs.{Channels.after_arriving, Progress.{link_at, turn_at, arriving_at, ready_at, frame_at, IsWithoutRelease, round_trip, one_if}},
-    specs.Progress.{is_i_frame, is_i_content, is_repetition, is_repeated_content, lossy_slots, expiries, AreOpen, Progress, Progresses},
+    specs.{Channels.after_arriving, Progress.{link_at, turn_at, arriving_at, ready_at, frame_at, round_trip, one_if}},
+    specs.Progress.{is_i_frame, is_i_content, is_repetition, is_repeated_content, lossy_slots, expiries, AreOpen, Progress},
     proofs.{
       ProgressSteps.{IsAnswerOf, taken},
       ProgressLink.{From, nowhere, owed, first, again, slot_from, reply_with, frame_taken},
@@ -30,6 +30,7 @@ use Rattle.{
     },
   },
 }
+use Rattle.lapdm_datalink.proofs.ProgressRuns.{NeverReleases}
 
 -- ---- what an open link owes after a frame that does not poll
 
@@ -99,13 +100,13 @@ in_order : (b p : Bool) → (b || p) ≡ true → p ≡ false → b ≡ true
 in_order true p h e = refl
 in_order false p h e = absurd (true-false (sym h ∙ e))
 
-sender_role : (r : Run) (u : IsWithoutRelease r) (q : ℕ) (role : Role) → (ready_at r q role).endpoint.role ≡ role
+sender_role : (r : Run) (u : NeverReleases r) (q : ℕ) (role : Role) → (ready_at r q role).endpoint.role ≡ role
 sender_role r u q role = ready_role role (arriving_at r q role) (turn_at r q role).calls (link_at r q role) ((sound r u q).good role)
     ((sound r u q).settled role).owes ((sound r u q).idle role) (u q role) ∙ (sound r u q).roles role
 
 -- ---- the slot in which an answer goes first is one delay after a repetition of the other side
 
-module _ (r : Run) (u : IsWithoutRelease r) (q : ℕ) (role : Role) where
+module _ (r : Run) (u : NeverReleases r) (q : ℕ) (role : Role) where
   abbrev pub n : ℕ
   n = suc q + r.delay
 
@@ -212,7 +213,7 @@ one_or_none : (b : Bool) → one_if b ≤ 1
 one_or_none true = omega arith
 one_or_none false = omega arith
 
-module _ (r : Run) (u : IsWithoutRelease r) (n0 : ℕ) (role : Role) where
+module _ (r : Run) (u : NeverReleases r) (n0 : ℕ) (role : Role) where
   few : (k : ℕ) → answering_slots r n0 k (other role) ≤ k
   few zero = omega arith
   few (suc k) = omega (arith, few k, one_or_none (answers_first r (n0 + k) (other role)))
@@ -260,7 +261,7 @@ module _ (r : Run) (u : IsWithoutRelease r) (n0 : ℕ) (role : Role) where
 bound : (t l : ℕ) → (t + 1) * l ≡ t * l + l
 bound t l = add-mul t 1 l ∙ ap (λ x. t * l + x) (one-mul l)
 
-progress_of : (r : Run) → IsWithoutRelease r → round_trip r.delay ≤ r.t200 → (n k : ℕ) → AreOpen r n k → (role : Role) →
+progress_of : (r : Run) → NeverReleases r → round_trip r.delay ≤ r.t200 → (n k : ℕ) → AreOpen r n k → (role : Role) →
     answering_slots r n k role ≤ expiries r n k (other role) + suc r.delay → Progress r n k role
 progress_of r u long n k o role h = record {
   waits = omega (
@@ -273,6 +274,7 @@ progress_of r u long n k o role h = record {
   expires = repeats_at_most r u long n role k o;
 }
 
-pub progresses : (r : Run) → Progresses r
+pub progresses : (r : Run) → NeverReleases r → round_trip r.delay ≤ r.t200 → (n k : ℕ) → AreOpen r n k → (role : Role) →
+    Progress r n k role
 progresses r u long n k o Mobile = progress_of r u long n k o Mobile (answers_at_most r u n Network k o)
 progresses r u long n k o Network = progress_of r u long n k o Network (answers_at_most r u n Mobile k o)

@@ -7,7 +7,7 @@ use Rattle.{
   lapdm_link.specs.Events.other,
   lapdm_datalink.{
     specs.{Links.{LinkState, slot_outcome, after_slot}, Slots.{nr_in, nr_of}, Channels.{Run, channel_at, side_at, side_after, carried}},
-    specs.{Channels.{after_calls, after_arriving}, Progress.{link_at, turn_at, arriving_at, ready_at, frame_at, IsWithoutRelease}},
+    specs.{Channels.{after_calls, after_arriving}, Progress.{link_at, turn_at, arriving_at, ready_at, frame_at}},
     proofs.{
       ProgressSteps.{acked, issued, accepted, aired, Good},
       ProgressLink.{Slotted, ns_in, ns_of},
@@ -15,7 +15,13 @@ use Rattle.{
     },
   },
 }
+use Rattle.std.specs.Prelude.{All}
+use Rattle.lapdm_datalink.specs.Channels.{IsUse}
 use Rattle.lapdm_datalink.proofs.ProgressCounts as C
+
+-- layer 3 releases no link in any slot
+abbrev pub NeverReleases : Run → Type 0
+NeverReleases r = (n : ℕ) (role : Role) → All (IsUse role) (turn_at r n role).calls
 
 module _ (r : Run) where
   side_step : (n : ℕ) (role : Role) → side_at role (channel_at r (suc n)) ≡
@@ -109,7 +115,7 @@ module _ (r : Run) where
   carried_none true = refl
   carried_none false = refl
 
-  module _ (u : IsWithoutRelease r) where
+  module _ (u : NeverReleases r) where
     -- the slot of each link
     slotted_at : (n : ℕ) → Sound n → (role : Role) →
         Slotted (arriving_at r n role) (link_at r n role) (link_at r (suc n) role) (frame_at r n role)

@@ -11,7 +11,7 @@ use Rattle.{
   lapdm_link.specs.Events.other,
   lapdm_datalink.{
     specs.{Links.{LinkState, slot_outcome, is_due}, Channels.Run, Progress.{link_at, turn_at, arriving_at, ready_at, frame_at, is_loss_at}},
-    specs.Progress.{IsWithoutRelease, round_trip, is_i_frame, is_repetition, is_lossy, one_if, waiting_slots, lossy_slots, expiries},
+    specs.Progress.{round_trip, is_i_frame, is_repetition, is_lossy, one_if, waiting_slots, lossy_slots, expiries},
     specs.Progress.{AreOpen, acked_at},
     proofs.{
       ProgressSteps.{acked, issued, aired, Moves},
@@ -24,6 +24,7 @@ use Rattle.{
     },
   },
 }
+use Rattle.lapdm_datalink.proofs.ProgressRuns.{NeverReleases}
 
 -- B: in how many of these slots this link sends an answer though the frame that awaits an answer is due
 abbrev pub answers_first : (run : Run) (slot : ℕ) (role : Role) → Bool
@@ -90,7 +91,7 @@ lossy_by : (r : Run) (n : ℕ) (role : Role) → is_loss_at r n role ≡ true �
 lossy_by r n Mobile h = some_loss (is_loss_at r n Mobile) (is_loss_at r n Network) h
 lossy_by r n Network h = other_loss (is_loss_at r n Mobile) (is_loss_at r n Network) h
 
-clock_within : (r : Run) → IsWithoutRelease r → (role : Role) (n : ℕ) → (link_at r n role).clock ≤ r.t200
+clock_within : (r : Run) → NeverReleases r → (role : Role) (n : ℕ) → (link_at r n role).clock ≤ r.t200
 clock_within r u Mobile zero = omega arith
 clock_within r u Network zero = omega arith
 clock_within r u role (suc n) = by_slot (clock_after role (arriving_at r n role) (turn_at r n role).calls (link_at r n role)
@@ -109,7 +110,7 @@ clock_within r u role (suc n) = by_slot (clock_after role (arriving_at r n role)
       (sound r u n).t200 role,
     )
 
-module _ (r : Run) (u : IsWithoutRelease r) (long : round_trip r.delay ≤ r.t200) (n0 : ℕ) (role : Role) where
+module _ (r : Run) (u : NeverReleases r) (long : round_trip r.delay ≤ r.t200) (n0 : ℕ) (role : Role) where
   abbrev pub L : ℕ → LinkState
   L n = link_at r n role
 

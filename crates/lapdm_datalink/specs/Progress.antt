@@ -60,9 +60,9 @@ abbrev pub lossy_slots : (run : Run) (first slots : ℕ) → ℕ
 lossy_slots r n zero = 0
 lossy_slots r n (suc k) = lossy_slots r n k + one_if (is_lossy r (n + k))
 
--- layer 3 releases no link in this run
-abbrev pub IsWithoutRelease : Run → Type 0
-IsWithoutRelease r = (n : ℕ) (role : Role) → All (IsUse role) (turn_at r n role).calls
+-- layer 3 releases no link in the slots before this one
+abbrev pub IsWithoutRelease : (run : Run) (slot : ℕ) → Type 0
+IsWithoutRelease r m = (n : ℕ) → suc n ≤ m → (role : Role) → All (IsUse role) (turn_at r n role).calls
 
 -- neither side has given the link up before this slot: without a release, a link is closed only then
 abbrev pub NoneGaveUp : (run : Run) (slot : ℕ) → Type 0
@@ -98,7 +98,7 @@ pub record IsPaid (r : Run) (n : ℕ) (role : Role) : Type 0 where
 -- Each expiry of T200 of an open link is paid by a loss of its own: between two of them the link sends the I frame again.
 abbrev pub PaysForExpiries : Run → Type 0
 PaysForExpiries r =
-    IsWithoutRelease r → round_trip r.delay ≤ r.t200 → (n : ℕ) → ((k : ℕ) → k ≤ n → NoneGaveUp r k) → (role : Role) →
+    round_trip r.delay ≤ r.t200 → (n : ℕ) → IsWithoutRelease r (suc n) → ((k : ℕ) → k ≤ n → NoneGaveUp r k) → (role : Role) →
     is_repetition (frame_at r n role) ≡ true → IsPaid r n role
 
 -- ---- how long a link waits
@@ -126,7 +126,7 @@ pub record Progress (r : Run) (n k : ℕ) (role : Role) : Type 0 where
 
 abbrev pub Progresses : Run → Type 0
 Progresses r =
-    IsWithoutRelease r → round_trip r.delay ≤ r.t200 → (n k : ℕ) → AreOpen r n k → (role : Role) → Progress r n k role
+    round_trip r.delay ≤ r.t200 → (n k : ℕ) → IsWithoutRelease r (n + k) → AreOpen r n k → (role : Role) → Progress r n k role
 
 -- The link of SAPI 0 of a data link does what it would do alone: in a slot, and when a frame arrives. If it sends a frame, the data link
 -- does; if it sends none, the link of SAPI 3 has the slot.

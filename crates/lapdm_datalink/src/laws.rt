@@ -70,7 +70,7 @@ pub fn law_data_links_progress()
 /// Law: each repeat of an I frame whose last copy reached an open link has a slot with a loss, that of the copy or that of its answer; two
 /// repeats of one link have different ones. Both links of SAPI 0 have one T200 of at least the round trip; there is no release in the run,
 /// and nobody has given up so far.
-#[tactic(auto, using(crate::proofs::ProgressExpiries::pays_for_expiries))]
+#[tactic(auto, using(crate::proofs::ProgressCut::pays_for_expiries))]
 pub fn law_data_links_pay_for_expiries()
     ensures { (r : Run) → PaysForExpiries r }
 {}
