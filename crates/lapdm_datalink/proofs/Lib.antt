@@ -15,6 +15,8 @@ pub mod ProgressWaiting
 pub mod ProgressPolls
 pub mod ProgressCut
 pub mod ProgressFrames
+pub mod ProgressKnown
+pub mod ProgressOpening
 pub mod ProgressAlone
 mod RunsWorked
 mod RunsClaims

@@ -7,7 +7,7 @@ use Rattle.{
   lapdm_datalink.{
     specs.Channels.{Run, Slot, ChannelState, channel_at, channel_after, side_at, turn_of, before_sending, arriving, IsUse},
     specs.Links.{slot_outcome, is_closed},
-    specs.Progress.{link_at, turn_at, ready_at, frame_at, is_loss, is_loss_at, is_lossy, one_if, waiting_slots, lossy_slots, expiries},
+    specs.Progress.{link_at, turn_at, ready_at, frame_at, is_loss, is_loss_at, is_lossy, one_if, waiting_slots, lossy_slots, expiries, expires_in},
     specs.Progress.{is_i_frame, is_repetition, IsWithoutRelease, NoneGaveUp, AreOpen, IsPaid, Progress, PaysForExpiries, Progresses},
     proofs.{ProgressRuns.NeverReleases, ProgressExpiries.pays, ProgressPolls.progresses},
   },
@@ -79,7 +79,7 @@ module _ (m : ℕ) (r : Run) where
   expiries_same n zero h role = refl
   expiries_same n (suc k) h role = rw (
     expiries_same n k (omega (arith, h)) role,
-    ap (λ x. one_if (is_repetition x)) (frame_same (n + k) (omega (arith, h)) role),
+    ap (λ l. one_if (expires_in l)) (ready_same (n + k) (omega (arith, h)) role),
   ) refl
 
   -- a run without a release in these slots is cut to one without any
@@ -87,8 +87,8 @@ module _ (m : ℕ) (r : Run) where
   never u n role = by_slot (nat_lt n m) refl
     where
       idle : (role : Role) → All (IsUse role) (turn_of role idle_slot).calls
-      idle Mobile = tt
-      idle Network = tt
+      idle Mobile = λ k d h. absurd (omega (arith, h))
+      idle Network = λ k d h. absurd (omega (arith, h))
 
       by_slot : (b : Bool) → nat_lt n m ≡ b → All (IsUse role) (turn_at (cut m r) n role).calls
       by_slot true e = rw (turn_same n (within n m e) role) (u n (within n m e) role)
@@ -102,7 +102,8 @@ pays_for_expiries r long n u none role again = record {
   before = x.before;
   sent = ap is_i_frame (sym (frame_same m r x.slot (omega (arith, x.before)) role)) ∙ x.sent;
   last = λ k a b. ap is_i_frame (sym (frame_same m r k (omega (arith, b)) role)) ∙ x.last k a b;
-  lost = λ o. by_loss (x.lost (ap (λ l. is_open l.endpoint.state) (link_same m r (suc x.slot + r.delay) early (other role)) ∙ o));
+  lost = λ o. by_loss (x.lost (ap (λ l. is_open l.endpoint.state)
+      (link_same m r (suc x.slot + r.delay) (omega (arith, early)) (other role)) ∙ o));
 }
   where
     m : ℕ

@@ -1,5 +1,5 @@
 -- What each link of SAPI 0 sends while neither is closed, and what opens it.
-use Rattle.std.specs.Prelude.{◌≡◌, ◌≢◌, ℕ, suc, ◌≤◌, Bool, true, false, not, ◌⊎◌, List, [], ◌∷◌, length, Option, Some, None, All, IfSome}
+use Rattle.std.specs.Prelude.{◌≡◌, ◌≢◌, ℕ, suc, ◌≤◌, Bool, true, false, not, ◌⊎◌, nat_eq, List, [], ◌∷◌, length, Option, Some, None, All, IfSome}
 use Rattle.std.specs.Str.{bytes_eq}
 use Rattle.std.proofs.Common.{inl, inr, arith, refl, ap, sym, ◌∙◌}
 use Rattle.std.proofs.lemmas.Slice.Eq.{bytes_eq-Decides}
@@ -20,14 +20,16 @@ use Rattle.lapdm_link.specs.Events.{other}
 use Rattle.lapdm_datalink.specs.Links.{LinkState, slot_outcome, after_call, first_frame, ignores, after_frame}
 use Rattle.lapdm_datalink.specs.Channels.{after_calls, after_call_unless, after_arriving, IsUse}
 use Rattle.lapdm_datalink.specs.Slots.{IsStepOfEndpoint}
+use Rattle.lapdm_datalink.specs.Progress.{answer_goes, expires_in}
+use Rattle.lapdm_end.specs.lapdm_window.Ends.{awaits_answer}
 use Rattle.lapdm_datalink.proofs.ProgressSteps.{taken, outcome_endpoint}
 use Rattle.lapdm_datalink.proofs.ProgressLink.{reply_with, frame_taken, is_i, is_rr, From, nowhere, owed, first, again, slot_from}
 use Rattle.lapdm_datalink.proofs.Answering.{step_of_endpoint}
 
--- the frames that a side sends: the mobile its SABM, the network the UA to it, and both I frames, RR and REJ once the network is open
-abbrev pub Brings : (sender : Role) (idle : Bool) (info : List ℕ) (cr : Bool) → Content → Type 0
+-- the frames that a side sends: the mobile its SABM, the network the UA to it, and each side I frames, RR and REJ once it is open
+abbrev pub Brings : (sender : Role) (young : Bool) (info : List ℕ) (cr : Bool) → Content → Type 0
 Brings sender idle info cr (Sabm p x) = (sender ≡ Mobile) × (x ≡ info) × (cr ≡ false)
-Brings sender idle info cr (Ua p x) = (sender ≡ Network) × (x ≡ info) × (cr ≡ false) × (p ≡ true)
+Brings sender idle info cr (Ua p x) = (sender ≡ Network) × (x ≡ info) × (cr ≡ false) × (p ≡ true) × (idle ≡ false)
 Brings sender idle info cr (I ns nr p more x) = idle ≡ false
 Brings sender idle info cr (Rr nr p) = idle ≡ false
 Brings sender idle info cr (Rej nr p) = idle ≡ false
@@ -56,6 +58,20 @@ mobile_network h = cc
 network_mobile : Network ≡ Mobile → ⊥
 network_mobile h = cc
 
+more_brings : (sender : Role) (info : List ℕ) (cr : Bool) (c : Content) → Brings sender true info cr c → Brings sender false info cr c
+more_brings sender info cr (Sabm p x) b = b
+more_brings sender info cr (Ua p x) b = (b.0, b.1, b.2, b.3, refl)
+more_brings sender info cr (I ns nr p more x) b = refl
+more_brings sender info cr (Rr nr p) b = refl
+more_brings sender info cr (Rej nr p) b = refl
+more_brings sender info cr other b = absurd b
+
+pub still_brings : (sender : Role) (info : List ℕ) (cr : Bool) (c : Content) (idle later : Bool) → (idle ≡ false → later ≡ false) →
+    Brings sender idle info cr c → Brings sender later info cr c
+still_brings sender info cr c true true h b = b
+still_brings sender info cr c true false h b = more_brings sender info cr c b
+still_brings sender info cr c false later h b = rw (h refl) b
+
 -- ---- what arrives
 
 module _ (cr : Bool) (l : LinkState) (z : l.endpoint.sapi ≡ Zero) (idle : Bool) where
@@ -65,13 +81,13 @@ module _ (cr : Bool) (l : LinkState) (z : l.endpoint.sapi ≡ Zero) (idle : Bool
 
   pub opening_keeps : l.endpoint.role ≡ Mobile → l.endpoint.state ≡ Opening → (c : Content) →
       Brings Network idle l.endpoint.sabm_info cr c →
-      (taken (reply_with 0 cr l c) l ≡ l) ⊎ (taken (reply_with 0 cr l c) l ≡ opened l)
+      (taken (reply_with 0 cr l c) l ≡ l) ⊎ ((taken (reply_with 0 cr l c) l ≡ opened l) × (idle ≡ false))
   opening_keeps ro o (I ns nr p more x) b = inl (grind (arith, z, ro, o))
   opening_keeps ro o (Rr nr p) b = inl (grind (arith, z, ro, o))
   opening_keeps ro o (Rej nr p) b = inl (grind (arith, z, ro, o))
   opening_keeps ro o (Sabm p x) b = absurd (network_mobile b.0)
   opening_keeps ro o (Ua p x) b =
-      inr (ap (λ y. taken (reply_with 0 cr l (Ua p y)) l) b.1 ∙ ap (λ q. taken q l) (ua_opens p ro o b.2 b.3))
+      inr (ap (λ y. taken (reply_with 0 cr l (Ua p y)) l) b.1 ∙ ap (λ q. taken q l) (ua_opens p ro o b.2 b.3), b.4)
   opening_keeps ro o other b = absurd b
 
   sabm_accepted : (p : Bool) (x : ℕ) (xs : List ℕ) → l.endpoint.role ≡ Network → l.endpoint.state ≡ Idle → cr ≡ false →
@@ -133,14 +149,28 @@ module _ (l : LinkState) (o : l.endpoint.state ≡ Open) (none : l.answer ≡ No
 
   i_answer : (ns nr : ℕ) (p : Bool) (s : Segment) (f : Frame) → (taken (TakesIFrame ns nr p s) l).answer ≡ Some f →
       is_numbered_answer f.content ≡ true
-  i_answer ns nr p s f e = by_match (nr_acknowledges_segment nr l.endpoint) refl (first_unacked_segment l.endpoint).1 refl
+  i_answer ns nr p s f e = by_match (nat_eq ns (vr l.endpoint)) refl p refl (nr_acknowledges_segment nr l.endpoint) refl
+      (first_unacked_segment l.endpoint).1 refl
     where
-      by_match : (a : Bool) → nr_acknowledges_segment nr l.endpoint ≡ a → (more : Bool) →
-          (first_unacked_segment l.endpoint).1 ≡ more → is_numbered_answer f.content ≡ true
-      by_match true a true k = grind (arith, none, e, a, k)
-      by_match true a false k = grind (arith, none, e, a, k)
-      by_match false a true k = grind (arith, none, e, a, k)
-      by_match false a false k = grind (arith, none, e, a, k)
+      by_match : (q : Bool) → nat_eq ns (vr l.endpoint) ≡ q → (t : Bool) → p ≡ t → (a : Bool) →
+          nr_acknowledges_segment nr l.endpoint ≡ a → (more : Bool) → (first_unacked_segment l.endpoint).1 ≡ more →
+          is_numbered_answer f.content ≡ true
+      by_match true q true t true a true k = grind (arith, none, e, q, t, a, k)
+      by_match true q true t true a false k = grind (arith, none, e, q, t, a, k)
+      by_match true q true t false a true k = grind (arith, none, e, q, t, a, k)
+      by_match true q true t false a false k = grind (arith, none, e, q, t, a, k)
+      by_match true q false t true a true k = grind (arith, none, e, q, t, a, k)
+      by_match true q false t true a false k = grind (arith, none, e, q, t, a, k)
+      by_match true q false t false a true k = grind (arith, none, e, q, t, a, k)
+      by_match true q false t false a false k = grind (arith, none, e, q, t, a, k)
+      by_match false q true t true a true k = grind (arith, none, e, q, t, a, k)
+      by_match false q true t true a false k = grind (arith, none, e, q, t, a, k)
+      by_match false q true t false a true k = grind (arith, none, e, q, t, a, k)
+      by_match false q true t false a false k = grind (arith, none, e, q, t, a, k)
+      by_match false q false t true a true k = grind (arith, none, e, q, t, a, k)
+      by_match false q false t true a false k = grind (arith, none, e, q, t, a, k)
+      by_match false q false t false a true k = grind (arith, none, e, q, t, a, k)
+      by_match false q false t false a false k = grind (arith, none, e, q, t, a, k)
 
   rr_answer : (nr : ℕ) (p : Bool) (f : Frame) → (taken (TakesRr nr p) l).answer ≡ Some f → is_numbered_answer f.content ≡ true
   rr_answer nr p f e = grind (arith, none, e)
@@ -176,7 +206,7 @@ module _ (l : LinkState) (o : l.endpoint.state ≡ Open) (none : l.answer ≡ No
       }
 
   open_ua : l.endpoint.role ≡ Network → StaysOpen l (taken (SendsUa l.endpoint.sabm_info) l)
-  open_ua ro = record { state = o; info = refl; owes = (ro, refl, rw ro refl, refl) }
+  open_ua ro = record { state = o; info = refl; owes = (ro, refl, rw ro refl, refl, refl) }
 
   module _ (cr : Bool) (z : l.endpoint.sapi ≡ Zero) where
     i_case : (ns nr : ℕ) (p more : Bool) (x : List ℕ) → (reply_with 0 cr l (I ns nr p more x) ≡ TakesIFrame ns nr p (x, more))
@@ -259,6 +289,9 @@ again_case : (e : EndpointState) → (first_frame (t200_expiry e).frames ≡ Som
     ⊎ (first_frame (t200_expiry e).frames ≡ None)
 again_case e = grind arith
 
+expiry_state : (e : EndpointState) → ((t200_expiry e).new_state.state ≡ e.state) ⊎ ((t200_expiry e).new_state.state ≡ Closed)
+expiry_state e = grind arith
+
 expiry_info : (e : EndpointState) → (t200_expiry e).new_state.sabm_info ≡ e.sabm_info
 expiry_info e = grind arith
 
@@ -272,41 +305,52 @@ module _ (m : LinkState) where
       by_step (inr (inr x)) = ap (λ e. e.sabm_info) x.expires ∙ expiry_info m.endpoint
 
   pub slot_state : ((slot_outcome m).link.endpoint.state ≡ m.endpoint.state) ⊎ ((slot_outcome m).link.endpoint.state ≡ Closed)
-  slot_state = grind arith
+  slot_state = by_step (step_of_endpoint m)
+    where
+      by_step : IsStepOfEndpoint m (slot_outcome m) → ((slot_outcome m).link.endpoint.state ≡ m.endpoint.state)
+          ⊎ ((slot_outcome m).link.endpoint.state ≡ Closed)
+      by_step (inl x) = inl (ap (λ e. e.state) x.endpoint)
+      by_step (inr (inl x)) = inl (ap (λ e. e.state) x.repeats)
+      by_step (inr (inr x)) = by_expiry (expiry_state m.endpoint)
+        where
+          by_expiry : ((t200_expiry m.endpoint).new_state.state ≡ m.endpoint.state) ⊎ ((t200_expiry m.endpoint).new_state.state ≡ Closed) →
+              ((slot_outcome m).link.endpoint.state ≡ m.endpoint.state) ⊎ ((slot_outcome m).link.endpoint.state ≡ Closed)
+          by_expiry (inl e) = inl (ap (λ e. e.state) x.expires ∙ e)
+          by_expiry (inr e) = inr (ap (λ e. e.state) x.expires ∙ e)
 
   module _ (role : Role) (ro : m.endpoint.role ≡ role) (idle : Bool) where
-    abbrev pub Sends : Option Frame → Type 0
-    Sends x = IfSome x (λ f. Brings role idle m.endpoint.sabm_info f.cr f.content)
+    abbrev pub SentBy : Option Frame → Type 0
+    SentBy x = IfSome x (λ f. Brings role idle m.endpoint.sabm_info f.cr f.content)
 
-    opening_made : m.endpoint.state ≡ Opening → role ≡ Mobile → (p : Bool) → Sends (Some (awaited_frame p m.endpoint.state m.endpoint))
+    opening_made : m.endpoint.state ≡ Opening → role ≡ Mobile → (p : Bool) → SentBy (Some (awaited_frame p m.endpoint.state m.endpoint))
     opening_made o e p = rw o (e, refl, ap command_cr (ro ∙ e))
 
-    open_made : m.endpoint.state ≡ Open → idle ≡ false → (p : Bool) → Sends (Some (awaited_frame p m.endpoint.state m.endpoint))
+    open_made : m.endpoint.state ≡ Open → idle ≡ false → (p : Bool) → SentBy (Some (awaited_frame p m.endpoint.state m.endpoint))
     open_made o e p = rw o e
 
-    again_made : Sends (Some (awaited_frame true m.endpoint.state m.endpoint)) → Sends (first_frame (t200_expiry m.endpoint).frames)
+    again_made : SentBy (Some (awaited_frame true m.endpoint.state m.endpoint)) → SentBy (first_frame (t200_expiry m.endpoint).frames)
     again_made h = by_case (again_case m.endpoint)
       where
         by_case : (first_frame (t200_expiry m.endpoint).frames ≡ Some (awaited_frame true m.endpoint.state m.endpoint))
-            ⊎ (first_frame (t200_expiry m.endpoint).frames ≡ None) → Sends (first_frame (t200_expiry m.endpoint).frames)
+            ⊎ (first_frame (t200_expiry m.endpoint).frames ≡ None) → SentBy (first_frame (t200_expiry m.endpoint).frames)
         by_case (inl e) = rw e h
         by_case (inr e) = rw e tt
 
     made_brings : IfSome m.answer (λ f. Brings role idle m.endpoint.sabm_info f.cr f.content) →
-        ((p : Bool) → Sends (Some (awaited_frame p m.endpoint.state m.endpoint))) → Sends (slot_outcome m).frame
+        ((p : Bool) → SentBy (Some (awaited_frame p m.endpoint.state m.endpoint))) → SentBy (slot_outcome m).frame
     made_brings owes made = by_from (slot_from m)
       where
-        by_from : From m (slot_outcome m) → Sends (slot_outcome m).frame
+        by_from : From m (slot_outcome m) → SentBy (slot_outcome m).frame
         by_from (nowhere e) = rw e tt
         by_from (owed e) = rw e owes
         by_from (first e due new sent) = rw e (made false)
         by_from (again e due old sent) = rw e (again_made (made true))
 
-    pub opening_brings : m.endpoint.state ≡ Opening → role ≡ Mobile → m.answer ≡ None → Sends (slot_outcome m).frame
+    pub opening_brings : m.endpoint.state ≡ Opening → role ≡ Mobile → m.answer ≡ None → SentBy (slot_outcome m).frame
     opening_brings o e none = made_brings (rw none tt) (opening_made o e)
 
     pub open_brings : m.endpoint.state ≡ Open → idle ≡ false →
-        IfSome m.answer (λ f. Brings role idle m.endpoint.sabm_info f.cr f.content) → Sends (slot_outcome m).frame
+        IfSome m.answer (λ f. Brings role idle m.endpoint.sabm_info f.cr f.content) → SentBy (slot_outcome m).frame
     open_brings o e owes = made_brings owes (open_made o e)
 
 -- ---- what arrives at a link
@@ -316,19 +360,21 @@ Arrived role idle info o = IfSome o (λ f. (f.sapi ≡ 0) × Brings (other role)
 
 module _ (l : LinkState) (z : l.endpoint.sapi ≡ Zero) (idle : Bool) where
   pub opening_arrives : l.endpoint.role ≡ Mobile → l.endpoint.state ≡ Opening → (o : Option Frame) →
-      Arrived Mobile idle l.endpoint.sabm_info o → (after_arriving o l ≡ l) ⊎ (after_arriving o l ≡ opened l)
+      Arrived Mobile idle l.endpoint.sabm_info o →
+      (after_arriving o l ≡ l) ⊎ ((after_arriving o l ≡ opened l) × (idle ≡ false))
   opening_arrives ro op None b = inl refl
   opening_arrives ro op (Some f) b = by_taken (frame_taken f l z)
     where
       by_taken : (after_frame f l ≡ l) ⊎ (after_frame f l ≡ taken (reply_with f.sapi f.cr l f.content) l) →
-          (after_frame f l ≡ l) ⊎ (after_frame f l ≡ opened l)
+          (after_frame f l ≡ l) ⊎ ((after_frame f l ≡ opened l) × (idle ≡ false))
       by_taken (inl e) = inl e
       by_taken (inr e) = by_kept (opening_keeps f.cr l z idle ro op f.content b.1)
         where
-          by_kept : (taken (reply_with 0 f.cr l f.content) l ≡ l) ⊎ (taken (reply_with 0 f.cr l f.content) l ≡ opened l) →
-              (after_frame f l ≡ l) ⊎ (after_frame f l ≡ opened l)
+          by_kept : (taken (reply_with 0 f.cr l f.content) l ≡ l)
+              ⊎ ((taken (reply_with 0 f.cr l f.content) l ≡ opened l) × (idle ≡ false)) →
+              (after_frame f l ≡ l) ⊎ ((after_frame f l ≡ opened l) × (idle ≡ false))
           by_kept (inl k) = inl (e ∙ ap (λ s. taken (reply_with s f.cr l f.content) l) b.0 ∙ k)
-          by_kept (inr k) = inr (e ∙ ap (λ s. taken (reply_with s f.cr l f.content) l) b.0 ∙ k)
+          by_kept (inr (k, i)) = inr (e ∙ ap (λ s. taken (reply_with s f.cr l f.content) l) b.0 ∙ k, i)
 
   pub idle_arrives : l.endpoint.role ≡ Network → l.endpoint.state ≡ Idle → idle ≡ true → (info : List ℕ) → 1 ≤ length info →
       (o : Option Frame) → Arrived Network idle info o →
@@ -354,3 +400,63 @@ module _ (l : LinkState) (z : l.endpoint.sapi ≡ Zero) (idle : Bool) where
       by_taken (inl e) = stays_as l (after_frame f l) e op none
       by_taken (inr e) = rw (e ∙ ap (λ s. taken (reply_with s f.cr l f.content) l) b.0)
           (open_keeps l op none f.cr z role ro idle f.content b.1)
+
+-- ---- the SABM and its UA
+
+abbrev pub sabm_of : List ℕ → Frame
+sabm_of info = record { sapi = 0; cr = false; content = Sabm true info }
+
+abbrev pub ua_of : List ℕ → Frame
+ua_of info = record { sapi = 0; cr = false; content = Ua true info }
+
+module _ (l : LinkState) (z : l.endpoint.sapi ≡ Zero) where
+  sabm_is : (info : List ℕ) → after_frame (sabm_of info) l ≡ taken (reply_with 0 false l (Sabm true info)) l
+  sabm_is info = grind (arith, z)
+
+  response_is : l.endpoint.role ≡ Network → (info : List ℕ) → response_frame l.endpoint (Ua true info) ≡ ua_of info
+  response_is ro info = rw (z, ro) refl
+
+  pub sabm_at_idle : l.endpoint.role ≡ Network → l.endpoint.state ≡ Idle → (info : List ℕ) → 1 ≤ length info →
+      (after_frame (sabm_of info) l).answer ≡ Some (ua_of info)
+  sabm_at_idle ro i info some = ap (λ m. m.answer) (sabm_is info ∙ sabm_opens false l z true true info some ro i refl)
+      ∙ ap Some (response_is ro info)
+
+  pub sabm_at_open : l.endpoint.role ≡ Network → l.endpoint.state ≡ Open → (info : List ℕ) → l.endpoint.sabm_info ≡ info →
+      (after_frame (sabm_of info) l).answer ≡ Some (ua_of info)
+  sabm_at_open ro o info same =
+      ap (λ x. (after_frame (sabm_of x) l).answer) (sym same)
+      ∙ ap (λ m. m.answer) (sabm_is l.endpoint.sabm_info ∙ ap (λ q. taken q l) (sabm_again false l z true true ro o refl))
+      ∙ ap Some (response_is ro l.endpoint.sabm_info) ∙ ap (λ x. Some (ua_of x)) same
+
+  ua_is : l.is_sent ≡ true → (info : List ℕ) → after_frame (ua_of info) l ≡ taken (reply_with 0 false l (Ua true info)) l
+  ua_is s info = grind (arith, z, s)
+
+  pub ua_arrives : l.endpoint.role ≡ Mobile → l.endpoint.state ≡ Opening → l.is_sent ≡ true → (info : List ℕ) →
+      l.endpoint.sabm_info ≡ info → after_frame (ua_of info) l ≡ opened l
+  ua_arrives ro o s info same =
+      ap (λ x. after_frame (ua_of x) l) (sym same) ∙ ua_is s l.endpoint.sabm_info
+      ∙ ap (λ q. taken q l) (ua_opens false l z true true ro o refl refl)
+
+module _ (m : LinkState) where
+  pub ua_goes : (info : List ℕ) → m.endpoint.state ≡ Open → m.answer ≡ Some (ua_of info) →
+      ((slot_outcome m).frame ≡ Some (ua_of info)) × (answer_goes m.answer m ≡ true)
+  ua_goes info o a = (grind (arith, o, a), grind (arith, o, a))
+
+  module _ (z : m.endpoint.sapi ≡ Zero) (ro : m.endpoint.role ≡ Mobile) (o : m.endpoint.state ≡ Opening) (none : m.answer ≡ None) where
+    pub opening_first : m.is_sent ≡ false → m.clock ≡ 0 → ((slot_outcome m).frame ≡ Some (sabm_of m.endpoint.sabm_info))
+        × ((slot_outcome m).link.clock ≡ m.t200) × (expires_in m ≡ false)
+    opening_first s k = (grind (arith, z, ro, o, none, s, k), grind (arith, o, none, s, k), grind (arith, s))
+
+    pub opening_again : m.is_sent ≡ true → m.clock ≡ 0 → (slot_outcome m).link.endpoint.state ≡ Opening →
+        ((slot_outcome m).frame ≡ Some (sabm_of m.endpoint.sabm_info))
+        × ((slot_outcome m).link.clock ≡ m.t200)
+    opening_again s k q = (grind (arith, z, ro, o, none, s, k, q), grind (arith, o, none, s, k))
+
+    pub opening_expires : m.is_sent ≡ true → m.clock ≡ 0 → expires_in m ≡ true
+    opening_expires s k = grind (arith, o, none, s, k)
+
+    pub opening_counts : 1 ≤ m.clock → ((slot_outcome m).link.clock ≡ m.clock) × (expires_in m ≡ false)
+    opening_counts k = (grind (arith, o, none, k), grind (arith, o, none, k))
+
+  pub opening_awaits : m.endpoint.state ≡ Opening → awaits_answer m.endpoint ≡ true
+  opening_awaits o = grind (arith, o)

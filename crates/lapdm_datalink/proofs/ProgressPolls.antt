@@ -30,6 +30,9 @@ use Rattle.{
     },
   },
 }
+use Rattle.lapdm_datalink.specs.Progress.{expires_in, answer_goes}
+use Rattle.lapdm_datalink.proofs.ProgressExpiries.{repeats, poll_is_i, answer_no_i}
+use Rattle.lapdm_end.specs.lapdm_window.Ends.{awaits_ack}
 use Rattle.lapdm_datalink.proofs.ProgressRuns.{NeverReleases}
 
 -- ---- what an open link owes after a frame that does not poll
@@ -89,9 +92,39 @@ held_back : (f : Frame) (m : LinkState) → is_plain_rr f.content ≡ true → i
     keeps_back f m ≡ true
 held_back f m p d o = grind (arith, p, d, o)
 
-goes_first : (m : LinkState) (x : Option Frame) → (is_due m && not (is_i_frame x)) ≡ true →
-    (is_due m ≡ true) × (is_i_frame x ≡ false)
-goes_first m x h = (grind (arith, h), grind (arith, h))
+parts_of : (a b : Bool) → (a && b) ≡ true → (a ≡ true) × (b ≡ true)
+parts_of true true h = (refl, refl)
+parts_of true false h = absurd cc
+parts_of false b h = absurd cc
+
+-- an answer goes first
+pub goes_first : (m : LinkState) → (is_due m && answer_goes m.answer m) ≡ true →
+    (f : Frame) × (m.answer ≡ Some f) × (is_due m ≡ true) × (keeps_back f m ≡ false)
+goes_first m h = let x = parts_of (is_due m) (answer_goes m.answer m) h in by_answer m.answer refl x.0 x.1
+  where
+    not_false : (b : Bool) → not b ≡ true → b ≡ false
+    not_false true h = absurd cc
+    not_false false h = refl
+
+    by_answer : (a : Option Frame) → m.answer ≡ a → is_due m ≡ true → answer_goes a m ≡ true →
+        (f : Frame) × (m.answer ≡ Some f) × (is_due m ≡ true) × (keeps_back f m ≡ false)
+    by_answer None e due g = absurd cc
+    by_answer (Some f) e due g = (f, e, due, not_false (keeps_back f m) g)
+
+repeats_expire : (m : LinkState) → IfSome m.answer (IsAnswerOf m) → is_repetition (slot_outcome m).frame ≡ true →
+    expires_in m ≡ true
+repeats_expire m owes h = by_answer m.answer refl (repeats m owes h)
+  where
+    by_answer : (a : Option Frame) → m.answer ≡ a →
+        (m.is_sent ≡ true) × (m.endpoint.state ≡ Open) × (m.clock ≡ 0) × (awaits_ack m.endpoint ≡ true) → expires_in m ≡ true
+    by_answer None n x = grind (arith, n, x.0, x.1, x.2, x.3)
+    by_answer (Some f) n x = by_kept (keeps_back f m) refl
+      where
+        by_kept : (b : Bool) → keeps_back f m ≡ b → expires_in m ≡ true
+        by_kept true k = grind (arith, n, x.0, x.1, x.2, x.3, k)
+        by_kept false k =
+            let e : (slot_outcome m).frame ≡ m.answer = grind (arith, n, k) in
+            absurd (true-false (sym (poll_is_i m.answer (ap is_repetition (sym e) ∙ h)) ∙ answer_no_i m m.answer owes))
 
 some_none : (f : Frame) → None ≡ Some f → ⊥
 some_none f h = cc
@@ -190,18 +223,15 @@ module _ (r : Run) (u : NeverReleases r) (q : ℕ) (role : Role) where
           by_sent false lost None e = nothing (arrived_other r q role ∙ rw (lost, e) refl)
           by_sent false lost (Some g) e = by_kind g e lost (is_i_content g.content) refl
 
-      pub is_for_poll : answers_first r n x ≡ true → is_repetition (frame_at r q role) ≡ true
+      pub is_for_poll : answers_first r n x ≡ true → expires_in (ready_at r q role) ≡ true
       is_for_poll h = by_frame (is_repetition (frame_at r q role)) refl
         where
-          by_way : is_repetition (frame_at r q role) ≡ false → SlotWay m → is_repetition (frame_at r q role) ≡ true
-          by_way none (sends d i t c) = absurd (true-false (sym i ∙ (goes_first m (frame_at r n x) h).1))
-          by_way none (blocked f a k d e t c) =
-              absurd (true-false (sym (held_back f m (owes_plain f a none) d m_open) ∙ k))
-          by_way none (counts d t c) = absurd (true-false (sym (goes_first m (frame_at r n x) h).0 ∙ d))
+          y : (f : Frame) × (m.answer ≡ Some f) × (is_due m ≡ true) × (keeps_back f m ≡ false)
+          y = goes_first m h
 
-          by_frame : (b : Bool) → is_repetition (frame_at r q role) ≡ b → is_repetition (frame_at r q role) ≡ true
-          by_frame true e = e
-          by_frame false e = by_way e (slot_way m m_open (ap (λ k. k.endpoint.state) (sym (link_step r n x)) ∙ open_next))
+          by_frame : (b : Bool) → is_repetition (frame_at r q role) ≡ b → expires_in (ready_at r q role) ≡ true
+          by_frame true e = repeats_expire (ready_at r q role) (owes_ready r u role q) e
+          by_frame false e = absurd (true-false (sym (held_back y.0 m (owes_plain y.0 y.1 e) y.2 m_open) ∙ y.3))
 
 -- ---- all slots
 
@@ -226,10 +256,10 @@ module _ (r : Run) (u : NeverReleases r) (n0 : ℕ) (role : Role) where
   open_in k j a b o p = let e : n0 + (j - n0) ≡ j = omega (arith, a) in rw e at (o (j - n0) (omega (arith, b)) p)
 
   polled : (j : ℕ) → AreOpen r n0 (suc (suc r.delay + j)) →
-      one_if (answers_first r (n0 + (suc r.delay + j)) (other role)) ≤ one_if (is_repetition (frame_at r (n0 + j) role))
+      one_if (answers_first r (n0 + (suc r.delay + j)) (other role)) ≤ one_if (expires_in (ready_at r (n0 + j) role))
   polled j o =
       let e : n0 + (suc r.delay + j) ≡ suc (n0 + j) + r.delay = omega arith in
-      rw e (one_at_most (answers_first r (suc (n0 + j) + r.delay) (other role)) (is_repetition (frame_at r (n0 + j) role))
+      rw e (one_at_most (answers_first r (suc (n0 + j) + r.delay) (other role)) (expires_in (ready_at r (n0 + j) role))
       (is_for_poll r u (n0 + j) role
       (open_in (suc (suc r.delay + j)) (suc (n0 + j)) (omega arith) (omega arith) o role)
       (open_in (suc (suc r.delay + j)) (suc (n0 + j) + r.delay) (omega arith) (omega arith) o (other role))

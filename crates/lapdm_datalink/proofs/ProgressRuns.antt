@@ -33,7 +33,7 @@ module _ (r : Run) where
   link_step n Mobile = refl
   link_step n Network = refl
 
-  sent_step : (n : ℕ) (role : Role) → (side_at role (channel_at r (suc n))).sent ≡
+  pub sent_step : (n : ℕ) (role : Role) → (side_at role (channel_at r (suc n))).sent ≡
       carried (turn_at r n role).is_lost (frame_at r n role) ∷ (side_at role (channel_at r n)).sent
   sent_step n Mobile = refl
   sent_step n Network = refl

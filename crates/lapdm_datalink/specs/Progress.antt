@@ -1,13 +1,13 @@
 -- Progress: how long a link of SAPI 0 waits for answers, and what each expiry of T200 costs the channel. These are this project's own
 -- statements; the standard has none.
-use Rattle.std.specs.Prelude.{◌≡◌, ◌≢◌, ℕ, zero, suc, ◌+◌, ◌*◌, ◌≤◌, Bool, true, false, ◌||◌, ◌⊎◌}
+use Rattle.std.specs.Prelude.{◌≡◌, ◌≢◌, ℕ, zero, suc, ◌+◌, ◌*◌, ◌≤◌, Bool, true, false, not, ◌&&◌, ◌||◌, ◌⊎◌}
 use Rattle.std.specs.Prelude.{Option, Some, None, All}
 use Rattle.lapdm_frame.specs.Content.{Content, I, Frame}
 use Rattle.lapdm_end.specs.lapdm_window.declared.State.TheVariants.{Open}
 use Rattle.lapdm_end.specs.lapdm_window.Ends.{Role, Mobile, Network, awaits_answer}
 use Rattle.lapdm_link.specs.Events.{other}
 use Rattle.lapdm_end.specs.lapdm_window.Rules.{is_open}
-use Rattle.lapdm_datalink.specs.Links.{LinkState, is_closed, slot_outcome, after_slot, after_frame}
+use Rattle.lapdm_datalink.specs.Links.{LinkState, is_closed, is_due, keeps_back, slot_outcome, after_slot, after_frame}
 use Rattle.lapdm_datalink.specs.DataLinks.{DataLinkState, data_link_outcome, after_arrival, with_clocks_moved}
 use Rattle.lapdm_datalink.specs.Channels.{Run, Turn, channel_at, side_at, turn_of, before_sending, arriving, IsUse}
 
@@ -103,10 +103,20 @@ PaysForExpiries r =
 
 -- ---- how long a link waits
 
--- in how many of these slots this link repeats its I frame, because T200 has expired
+-- whether the answer that a link owes, if any, goes out in its slot
+abbrev pub answer_goes : (answer : Option Frame) (link : LinkState) → Bool
+answer_goes None l = false
+answer_goes (Some f) l = not (keeps_back f l)
+
+-- whether T200 expires in the slot of this link: the frame that awaits an answer was sent, it is due, and no answer goes first. It is
+-- repeated then, or the link is given up.
+abbrev pub expires_in : LinkState → Bool
+expires_in l = is_due l && l.is_sent && not (answer_goes l.answer l)
+
+-- in how many of these slots T200 of this link expires
 abbrev pub expiries : (run : Run) (first slots : ℕ) (role : Role) → ℕ
 expiries r n zero role = 0
-expiries r n (suc k) role = expiries r n k role + one_if (is_repetition (frame_at r (n + k) role))
+expiries r n (suc k) role = expiries r n k role + one_if (expires_in (ready_at r (n + k) role))
 
 -- both links are open before each of these slots and after the last
 abbrev pub AreOpen : (run : Run) (first slots : ℕ) → Type 0
