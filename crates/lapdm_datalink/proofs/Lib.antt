@@ -17,6 +17,8 @@ pub mod ProgressCut
 pub mod ProgressFrames
 pub mod ProgressKnown
 pub mod ProgressOpening
+pub mod ProgressEarly
+pub mod ProgressWhole
 pub mod ProgressAlone
 mod RunsWorked
 mod RunsClaims

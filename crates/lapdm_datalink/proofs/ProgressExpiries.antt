@@ -80,7 +80,7 @@ module _ (r : Run) (u : NeverReleases r) (role : Role) where
     pub time : suc slot + r.t200 ≤ n + (link_at r n role).clock
     pub opened : (k : ℕ) → suc slot ≤ k → k ≤ n → (link_at r k role).endpoint.state ≡ Open
 
-  old_enough : (n : ℕ) → is_young (link_at r n role).endpoint.state ≡ true → issued (link_at r n role) ≡ acked (link_at r n role)
+  pub old_enough : (n : ℕ) → is_young (link_at r n role).endpoint.state ≡ true → issued (link_at r n role) ≡ acked (link_at r n role)
   old_enough zero h = start_same role
     where
       start_same : (q : Role) → issued (link_at r 0 q) ≡ acked (link_at r 0 q)

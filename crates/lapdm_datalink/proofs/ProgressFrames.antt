@@ -413,7 +413,7 @@ module _ (l : LinkState) (z : l.endpoint.sapi ≡ Zero) where
   sabm_is : (info : List ℕ) → after_frame (sabm_of info) l ≡ taken (reply_with 0 false l (Sabm true info)) l
   sabm_is info = grind (arith, z)
 
-  response_is : l.endpoint.role ≡ Network → (info : List ℕ) → response_frame l.endpoint (Ua true info) ≡ ua_of info
+  pub response_is : l.endpoint.role ≡ Network → (info : List ℕ) → response_frame l.endpoint (Ua true info) ≡ ua_of info
   response_is ro info = rw (z, ro) refl
 
   pub sabm_at_idle : l.endpoint.role ≡ Network → l.endpoint.state ≡ Idle → (info : List ℕ) → 1 ≤ length info →

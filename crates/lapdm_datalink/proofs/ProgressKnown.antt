@@ -282,7 +282,7 @@ module _ (r : Run) (u : NeverReleases r) where
         rw (same_info (joins o p i a t) (λ i. idle_opening (sym i ∙ o))) (h.some (λ i. idle_opening (sym i ∙ o)))
     some_next (stays o p i a) q = rw (same_info (stays o p i a) (λ i. idle_open (sym i ∙ o))) (h.some (λ i. idle_open (sym i ∙ o)))
 
-    network_stays : NetworkSlot n → (L n Network).endpoint.state ≡ Open → (L (suc n) Network).endpoint.state ≡ Open
+    pub network_stays : NetworkSlot n → (L n Network).endpoint.state ≡ Open → (L (suc n) Network).endpoint.state ≡ Open
     network_stays (rests i e) o = absurd (idle_open (sym i ∙ o))
     network_stays (joins i p x a q) o = state_next n c Network ∙ p
     network_stays (stays o' p x a) o = state_next n c Network ∙ p

@@ -27,38 +27,38 @@ use Rattle.lapdm_datalink.proofs.ProgressFrames.{Brings, sabm_of, ua_of}
 use Rattle.lapdm_datalink.proofs.ProgressKnown as K
 use Rattle.lapdm_datalink.proofs.ProgressKnown.{Known, Unclosed, MobileSlot, NetworkSlot}
 
-true-false : true ≡ false → ⊥
+pub true-false : true ≡ false → ⊥
 true-false h = cc
 
 zero_plus : (n : ℕ) → 0 + n ≡ n
 zero_plus n = omega arith
 
-times_zero : (t e : ℕ) → e ≡ 0 → t * e ≡ 0
+pub times_zero : (t e : ℕ) → e ≡ 0 → t * e ≡ 0
 times_zero t e h = rw h (omega arith)
 
-times_one : (t e : ℕ) → t * (e + 1) ≡ t * e + t
+pub times_one : (t e : ℕ) → t * (e + 1) ≡ t * e + t
 times_one t e = mul-add t e 1 ∙ ap (λ x. t * e + x) (mul-one t)
 
-one_most : (b : Bool) → one_if b ≤ 1
+pub one_most : (b : Bool) → one_if b ≤ 1
 one_most true = omega arith
 one_most false = omega arith
 
-idle_rests : (m : LinkState) → m.endpoint.state ≡ Idle → (awaits_answer m.endpoint ≡ false) × (expires_in m ≡ false)
+pub idle_rests : (m : LinkState) → m.endpoint.state ≡ Idle → (awaits_answer m.endpoint ≡ false) × (expires_in m ≡ false)
 idle_rests m i = (grind (arith, i), grind (arith, i))
 
-young_number : (c : Content) (cr : Bool) (info : List ℕ) (k : ℕ) → Brings Mobile true info cr c → nr_in c ≡ Some k → ⊥
+pub young_number : (c : Content) (cr : Bool) (info : List ℕ) (k : ℕ) → Brings Mobile true info cr c → nr_in c ≡ Some k → ⊥
 young_number (I ns nr p more x) cr info k b e = true-false b
 young_number (Rr nr p) cr info k b e = true-false b
 young_number (Rej nr p) cr info k b e = true-false b
 young_number other cr info k b e = cc
 
-opening_not_open : Opening ≡ Open → ⊥
+pub opening_not_open : Opening ≡ Open → ⊥
 opening_not_open h = cc
 
-idle_not_open : Idle ≡ Open → ⊥
+pub idle_not_open : Idle ≡ Open → ⊥
 idle_not_open h = cc
 
-some_none : {f : Frame} → None ≡ Some f → ⊥
+pub some_none : {f : Frame} → None ≡ Some f → ⊥
 some_none h = cc
 
 apart_from : (n m : ℕ) → suc m ≤ suc n → nat_eq n m ≡ false → suc m ≤ n
@@ -112,7 +112,7 @@ module _ (r : Run) (u : NeverReleases r) (long : round_trip r.delay ≤ r.t200) 
   pub record Through (n v : ℕ) : Type 0 where
     pub arrives : (turn_at r v Mobile).is_lost ≡ false
     pub returns : suc (suc v + r.delay) ≤ n → ((turn_at r (suc v + r.delay) Network).is_lost ≡ false)
-        × (frame_at r (suc v + r.delay) Network ≡ Some (ua_of (info_at n)))
+        × (frame_at r (suc v + r.delay) Network ≡ Some (ua_of (info_at n))) × ((L n Network).endpoint.state ≡ Open)
     pub early : n ≤ suc v + (1 + 2 * r.delay)
 
   -- the mobile sent its SABM first in slot v1 and last in slot v
@@ -137,8 +137,67 @@ module _ (r : Run) (u : NeverReleases r) (long : round_trip r.delay ≤ r.t200) 
   is_opening_sent : (n : ℕ) → (L n Mobile).endpoint.state ≡ Opening → (L n Mobile).is_sent ≡ true
   is_opening_sent n o = ((sound r u n).settled Mobile).opening (rw o refl)
 
+  module _ (n : ℕ) where
+    -- the mobile opens in the slot in which the UA arrives
+    pub confirmed : (x : Calling n) → Through n x.v → n ≡ suc x.v + (1 + 2 * r.delay) → (M n Mobile).endpoint.state ≡ Open
+    confirmed x t e = by_calls (K.calls_of r u n Mobile)
+      where
+        back : ℕ
+        back = suc x.v + r.delay
+
+        here : n ≡ suc back + r.delay
+        here = omega (arith, e)
+
+        comes : arriving_at r n Mobile ≡ Some (ua_of (info_at n))
+        comes =
+            let y = t.returns (omega (arith, here)) in
+            ap (λ k. arriving_at r k Mobile) here ∙ arrived r back Mobile ∙ rw (y.0, y.1) refl
+
+        opens_now : K.after r u n Mobile ≡ F.opened (L n Mobile)
+        opens_now = ap (λ o. after_arriving o (L n Mobile)) comes
+            ∙ F.ua_arrives (L n Mobile) ((sound r u n).good Mobile).sapi ((sound r u n).roles Mobile) x.state
+            (is_opening_sent n x.state) (info_at n) refl
+
+        is_open : (K.after r u n Mobile).endpoint.state ≡ Open
+        is_open = ap (λ l. l.endpoint.state) opens_now
+
+        by_calls : F.CalledTo Mobile (K.after r u n Mobile) (after_calls (turn_at r n Mobile).calls (K.after r u n Mobile)) →
+            (M n Mobile).endpoint.state ≡ Open
+        by_calls (F.nothing q) = ap (λ l. l.endpoint.state) q ∙ is_open
+        by_calls (F.opens a b c d f g) = absurd (idle_not_open (sym b ∙ is_open))
+        by_calls (F.sends a b c) = b
+
+    module _ (x : Calling n) (e : M n Mobile ≡ after_slot (L n Mobile)) where
+      m_opening : (M n Mobile).endpoint.state ≡ Opening
+      m_opening = ap (λ l. l.endpoint.state) e ∙ x.state
+
+      m_none : (M n Mobile).answer ≡ None
+      m_none = ap (λ l. l.answer) e ∙ ((sound r u n).settled Mobile).owes
+
+      m_sent : (M n Mobile).is_sent ≡ true
+      m_sent = ap (λ l. l.is_sent) e ∙ is_opening_sent n x.state
+
+      m_clock : (M n Mobile).clock ≡ (L n Mobile).clock - 1
+      m_clock = ap (λ l. l.clock) e
+
+      info_same : info_at (suc n) ≡ info_at n
+      info_same = K.info_next r u n Mobile ∙ ap (λ l. l.endpoint.sabm_info) e
+
+      not_confirmed : Through n x.v → n ≡ suc x.v + (1 + 2 * r.delay) → ⊥
+      not_confirmed t q = opening_not_open (sym m_opening ∙ confirmed x t q)
+
+      pub not_due_yet : Through n x.v → (L n Mobile).clock ≤ 1 → ⊥
+      not_due_yet t k = not_confirmed t (omega (arith, k, x.time, x.early, long, t.early))
+
+      pub must_fail : (L n Mobile).clock ≤ 1 → E n Mobile + 1 ≤ Lo n
+      must_fail k = by_case x.fate
+        where
+          by_case : (Through n x.v × (E n Mobile ≤ Lo n)) ⊎ (E n Mobile + 1 ≤ Lo n) → E n Mobile + 1 ≤ Lo n
+          by_case (inl (t, p)) = absurd (not_due_yet t k)
+          by_case (inr p) = p
+
   module _ (n : ℕ) (h : Known r u n) (c : Unclosed r u (suc n)) where
-    rest_on : Resting n → M n Mobile ≡ after_slot (L n Mobile) → Resting (suc n)
+    pub rest_on : Resting n → M n Mobile ≡ after_slot (L n Mobile) → Resting (suc n)
     rest_on x e = record {
       state = K.state_next r u n c Mobile ∙ idle;
       mobile = (
@@ -167,7 +226,7 @@ module _ (r : Run) (u : NeverReleases r) (long : round_trip r.delay ≤ r.t200) 
       omega (arith, p, loss_step n),
     )
 
-    begin : Resting n → (M n Mobile).endpoint.state ≡ Opening → (M n Mobile).is_sent ≡ false → (M n Mobile).clock ≡ 0 →
+    pub begin : Resting n → (M n Mobile).endpoint.state ≡ Opening → (M n Mobile).is_sent ≡ false → (M n Mobile).clock ≡ 0 →
         (M n Mobile).answer ≡ None → Calling (suc n)
     begin x o s k a = record {
       v = n;
@@ -229,67 +288,29 @@ module _ (r : Run) (u : NeverReleases r) (long : round_trip r.delay ≤ r.t200) 
             by_slot (K.joins i o p a q) = o
             by_slot (K.stays i o p a) = o
 
-    -- the mobile opens in the slot in which the UA arrives
-    pub confirmed : (x : Calling n) → Through n x.v → n ≡ suc x.v + (1 + 2 * r.delay) → (M n Mobile).endpoint.state ≡ Open
-    confirmed x t e = by_calls (K.calls_of r u n Mobile)
-      where
-        back : ℕ
-        back = suc x.v + r.delay
-
-        here : n ≡ suc back + r.delay
-        here = omega (arith, e)
-
-        comes : arriving_at r n Mobile ≡ Some (ua_of (info_at n))
-        comes =
-            let y = t.returns (omega (arith, here)) in
-            ap (λ k. arriving_at r k Mobile) here ∙ arrived r back Mobile ∙ rw (y.0, y.1) refl
-
-        opens_now : K.after r u n Mobile ≡ F.opened (L n Mobile)
-        opens_now = ap (λ o. after_arriving o (L n Mobile)) comes
-            ∙ F.ua_arrives (L n Mobile) ((sound r u n).good Mobile).sapi ((sound r u n).roles Mobile) x.state
-            (is_opening_sent n x.state) (info_at n) refl
-
-        is_open : (K.after r u n Mobile).endpoint.state ≡ Open
-        is_open = ap (λ l. l.endpoint.state) opens_now
-
-        by_calls : F.CalledTo Mobile (K.after r u n Mobile) (after_calls (turn_at r n Mobile).calls (K.after r u n Mobile)) →
-            (M n Mobile).endpoint.state ≡ Open
-        by_calls (F.nothing q) = ap (λ l. l.endpoint.state) q ∙ is_open
-        by_calls (F.opens a b c d f g) = absurd (idle_not_open (sym b ∙ is_open))
-        by_calls (F.sends a b c) = b
-
     module _ (x : Calling n) (e : M n Mobile ≡ after_slot (L n Mobile)) where
-      m_opening : (M n Mobile).endpoint.state ≡ Opening
-      m_opening = ap (λ l. l.endpoint.state) e ∙ x.state
+      new_info : (k : ℕ) → frame_at r k Network ≡ Some (ua_of (info_at n)) → frame_at r k Network ≡ Some (ua_of (info_at (suc n)))
+      new_info k q = q ∙ ap (λ i. Some (ua_of i)) (sym (info_same n x e))
 
-      m_none : (M n Mobile).answer ≡ None
-      m_none = ap (λ l. l.answer) e ∙ ((sound r u n).settled Mobile).owes
-
-      m_sent : (M n Mobile).is_sent ≡ true
-      m_sent = ap (λ l. l.is_sent) e ∙ is_opening_sent n x.state
-
-      m_clock : (M n Mobile).clock ≡ (L n Mobile).clock - 1
-      m_clock = ap (λ l. l.clock) e
-
-      info_same : info_at (suc n) ≡ info_at n
-      info_same = K.info_next r u n Mobile ∙ ap (λ l. l.endpoint.sabm_info) e
-
-      not_confirmed : Through n x.v → n ≡ suc x.v + (1 + 2 * r.delay) → ⊥
-      not_confirmed t q = opening_not_open (sym m_opening ∙ confirmed x t q)
-
-      pub must_fail : (L n Mobile).clock ≤ 1 → E n Mobile + 1 ≤ Lo n
-      must_fail k = by_case x.fate
+      pub through_next : Through n x.v → (suc (suc x.v + r.delay) ≤ suc n → suc (suc x.v + r.delay) ≤ n) → Through (suc n) x.v
+      through_next t later = record {
+        arrives = t.arrives;
+        returns = λ a. (let z = t.returns (later a) in
+            (z.0, new_info (suc x.v + r.delay) z.1, K.network_stays r u n h c (K.network_slot r u n h) z.2));
+        early = by_early (nat_le (suc n) (suc x.v + (1 + 2 * r.delay))) refl;
+      }
         where
-          by_case : (Through n x.v × (E n Mobile ≤ Lo n)) ⊎ (E n Mobile + 1 ≤ Lo n) → E n Mobile + 1 ≤ Lo n
-          by_case (inl (t, p)) = absurd (not_confirmed t (omega (arith, k, x.time, x.early, long, t.early)))
-          by_case (inr p) = p
+          by_early : (b : Bool) → nat_le (suc n) (suc x.v + (1 + 2 * r.delay)) ≡ b → suc n ≤ suc x.v + (1 + 2 * r.delay)
+          by_early true z = le_of (suc n) (suc x.v + (1 + 2 * r.delay)) z
+          by_early false z =
+              absurd (not_confirmed n x e t (omega (arith, not_le_of (suc n) (suc x.v + (1 + 2 * r.delay)) z, t.early)))
 
       call_again : (L n Mobile).clock ≤ 1 → Calling (suc n)
       call_again k = record {
         v = n;
         v1 = x.v1;
         now = omega arith;
-        state = K.state_next r u n c Mobile ∙ m_opening;
+        state = K.state_next r u n c Mobile ∙ (m_opening n x e);
         time = omega (arith, ap (λ l. l.clock) (link_step r n Mobile), y.1, m_t200 n Mobile);
         early = omega (arith, long);
         sabm = sent;
@@ -299,64 +320,61 @@ module _ (r : Run) (u : NeverReleases r) (long : round_trip r.delay ≤ r.t200) 
           arith,
           waits_step n Mobile,
           x.waits,
-          ap one_if (F.opening_awaits (M n Mobile) m_opening),
+          ap one_if (F.opening_awaits (M n Mobile) (m_opening n x e)),
           times_one r.t200 (E n Mobile),
           product,
           x.time,
           x.early,
           k,
         );
-        fate = rw more (by_fate (E n Mobile + 1) (must_fail k) sent (turn_at r n Mobile).is_lost refl);
+        fate = rw more (by_fate (E n Mobile + 1) (must_fail n x e k) sent (turn_at r n Mobile).is_lost refl);
       }
         where
           zero_clock : (M n Mobile).clock ≡ 0
-          zero_clock = omega (arith, m_clock, k)
+          zero_clock = omega (arith, (m_clock n x e), k)
 
           y : ((slot_outcome (M n Mobile)).frame ≡ Some (sabm_of (M n Mobile).endpoint.sabm_info))
               × ((slot_outcome (M n Mobile)).link.clock ≡ (M n Mobile).t200)
-          y = F.opening_again (M n Mobile) (K.sapi_next r u n Mobile) (K.role_next r u n Mobile) m_opening m_none m_sent zero_clock
-              (ap (λ l. l.endpoint.state) (sym (link_step r n Mobile)) ∙ K.state_next r u n c Mobile ∙ m_opening)
+          y = F.opening_again (M n Mobile) (K.sapi_next r u n Mobile) (K.role_next r u n Mobile) (m_opening n x e) (m_none n x e) (m_sent n x e) zero_clock
+              (ap (λ l. l.endpoint.state) (sym (link_step r n Mobile)) ∙ K.state_next r u n c Mobile ∙ (m_opening n x e))
 
           sent : frame_at r n Mobile ≡ Some (sabm_of (info_at (suc n)))
           sent = y.0 ∙ ap (λ i. Some (sabm_of i)) (sym (K.info_next r u n Mobile))
 
           more : E (suc n) Mobile ≡ E n Mobile + 1
           more = expiry_step n Mobile ∙ ap (λ b. E n Mobile + one_if b)
-              (F.opening_expires (M n Mobile) (K.sapi_next r u n Mobile) (K.role_next r u n Mobile) m_opening m_none m_sent zero_clock)
+              (F.opening_expires (M n Mobile) (K.sapi_next r u n Mobile) (K.role_next r u n Mobile) (m_opening n x e) (m_none n x e) (m_sent n x e) zero_clock)
 
           product : r.t200 * E (suc n) Mobile ≡ r.t200 * (E n Mobile + 1)
           product = ap (λ k. r.t200 * k) more
 
-      call_on : 2 ≤ (L n Mobile).clock → Calling (suc n)
-      call_on k = record {
+      call_on : 2 ≤ (L n Mobile).clock → (z : Calling (suc n)) × (z.v ≡ x.v) × (E (suc n) Mobile ≡ E n Mobile)
+      call_on k = (record {
         v = x.v;
         v1 = x.v1;
         now = omega (arith, x.now);
-        state = K.state_next r u n c Mobile ∙ m_opening;
-        time = omega (arith, ap (λ l. l.clock) (link_step r n Mobile), y.0, m_clock, x.time, k);
+        state = K.state_next r u n c Mobile ∙ (m_opening n x e);
+        time = omega (arith, ap (λ l. l.clock) (link_step r n Mobile), y.0, (m_clock n x e), x.time, k);
         early = omega (arith, x.time, k);
-        sabm = x.sabm ∙ ap (λ i. Some (sabm_of i)) (sym info_same);
+        sabm = x.sabm ∙ ap (λ i. Some (sabm_of i)) (sym (info_same n x e));
         count = x.count ∙ ap (λ j. x.v1 + r.t200 * j) (sym same);
         before = x.before;
         waits = omega (
           arith,
           waits_step n Mobile,
           x.waits,
-          ap one_if (F.opening_awaits (M n Mobile) m_opening),
+          ap one_if (F.opening_awaits (M n Mobile) (m_opening n x e)),
           ap (λ j. r.t200 * j) same,
         );
         fate = rw same (by_case x.fate);
-      }
+      }, refl, same)
         where
           y : ((slot_outcome (M n Mobile)).link.clock ≡ (M n Mobile).clock) × (expires_in (M n Mobile) ≡ false)
-          y = F.opening_counts (M n Mobile) (K.sapi_next r u n Mobile) (K.role_next r u n Mobile) m_opening m_none
-              (omega (arith, m_clock, k))
+          y = F.opening_counts (M n Mobile) (K.sapi_next r u n Mobile) (K.role_next r u n Mobile) (m_opening n x e) (m_none n x e)
+              (omega (arith, (m_clock n x e), k))
 
           same : E (suc n) Mobile ≡ E n Mobile
           same = omega (arith, expiry_step n Mobile, ap one_if y.1)
-
-          new_info : (k : ℕ) → frame_at r k Network ≡ Some (ua_of (info_at n)) → frame_at r k Network ≡ Some (ua_of (info_at (suc n)))
-          new_info k e = e ∙ ap (λ i. Some (ua_of i)) (sym info_same)
 
           through : (t : Through n x.v) → E n Mobile ≤ Lo n → (b : Bool) → nat_eq n (suc x.v + r.delay) ≡ b → (l : Bool) →
               (turn_at r n Network).is_lost ≡ l →
@@ -374,36 +392,26 @@ module _ (r : Run) (u : NeverReleases r) (long : round_trip r.delay ≤ r.t200) 
                 ap (λ j. (turn_at r j Network).is_lost) (sym (eq_of n (suc x.v + r.delay) q)) ∙ kept,
                 ap (λ j. frame_at r j Network) (sym (eq_of n (suc x.v + r.delay) q))
                     ∙ new_info n (answered x t (eq_of n (suc x.v + r.delay) q)).0,
+                K.state_next r u n c Network ∙ (answered x t (eq_of n (suc x.v + r.delay) q)).1,
               );
               early = omega (arith, eq_of n (suc x.v + r.delay) q);
             },
             omega (arith, p, loss_step n),
           )
-          through t p false q l lost = inl (
-            record {
-              arrives = t.arrives;
-              returns = λ a. (let z = t.returns (later a) in (z.0, new_info (suc x.v + r.delay) z.1));
-              early = by_early (nat_le (suc n) (suc x.v + (1 + 2 * r.delay))) refl;
-            },
-            omega (arith, p, loss_step n),
-          )
-            where
-              later : suc (suc x.v + r.delay) ≤ suc n → suc (suc x.v + r.delay) ≤ n
-              later a = apart_from n (suc x.v + r.delay) a q
-
-              by_early : (b : Bool) → nat_le (suc n) (suc x.v + (1 + 2 * r.delay)) ≡ b → suc n ≤ suc x.v + (1 + 2 * r.delay)
-              by_early true z = le_of (suc n) (suc x.v + (1 + 2 * r.delay)) z
-              by_early false z =
-                  absurd (not_confirmed t (omega (arith, not_le_of (suc n) (suc x.v + (1 + 2 * r.delay)) z, t.early)))
+          through t p false q l lost =
+              inl (through_next t (λ a. apart_from n (suc x.v + r.delay) a q), omega (arith, p, loss_step n))
 
           by_case : (Through n x.v × (E n Mobile ≤ Lo n)) ⊎ (E n Mobile + 1 ≤ Lo n) →
               (Through (suc n) x.v × (E n Mobile ≤ Lo (suc n))) ⊎ (E n Mobile + 1 ≤ Lo (suc n))
           by_case (inl (t, p)) = through t p _ refl _ refl
           by_case (inr p) = inr (omega (arith, p, loss_step n))
 
-      pub call_next : Calling (suc n)
+      -- it goes on waiting, or repeats its SABM
+      pub call_next : (z : Calling (suc n)) × (((z.v ≡ x.v) × (E (suc n) Mobile ≡ E n Mobile)) ⊎ ((L n Mobile).clock ≤ 1))
       call_next = by_clock (nat_le 2 (L n Mobile).clock) refl
         where
-          by_clock : (b : Bool) → nat_le 2 (L n Mobile).clock ≡ b → Calling (suc n)
-          by_clock true k = call_on (le_of 2 (L n Mobile).clock k)
-          by_clock false k = call_again (omega (arith, not_le_of 2 (L n Mobile).clock k))
+          by_clock : (b : Bool) → nat_le 2 (L n Mobile).clock ≡ b →
+              (z : Calling (suc n)) × (((z.v ≡ x.v) × (E (suc n) Mobile ≡ E n Mobile)) ⊎ ((L n Mobile).clock ≤ 1))
+          by_clock true k = let y = call_on (le_of 2 (L n Mobile).clock k) in (y.0, inl (y.1, y.2))
+          by_clock false k =
+              let low : (L n Mobile).clock ≤ 1 = omega (arith, not_le_of 2 (L n Mobile).clock k) in (call_again low, inr low)

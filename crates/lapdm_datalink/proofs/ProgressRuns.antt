@@ -111,7 +111,7 @@ module _ (r : Run) where
       start_silent h Mobile k = refl
       start_silent h Network k = refl
 
-  carried_none : (lost : Bool) → carried lost None ≡ None
+  pub carried_none : (lost : Bool) → carried lost None ≡ None
   carried_none true = refl
   carried_none false = refl
 
