@@ -19,6 +19,7 @@ pub mod ProgressKnown
 pub mod ProgressOpening
 pub mod ProgressEarly
 pub mod ProgressWhole
+pub mod ProgressTotal
 pub mod ProgressAlone
 mod RunsWorked
 mod RunsClaims

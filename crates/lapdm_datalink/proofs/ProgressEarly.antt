@@ -39,7 +39,7 @@ times_less t a b h = by_case (nat_le a b) refl
 ua_no_i : (x : Option Frame) (info : List ℕ) → x ≡ Some (ua_of info) → is_i_frame x ≡ false
 ua_no_i x info e = rw e refl
 
-expires_not : (m : LinkState) → answer_goes m.answer m ≡ true → expires_in m ≡ false
+pub expires_not : (m : LinkState) → answer_goes m.answer m ≡ true → expires_in m ≡ false
 expires_not m h = by_case (expires_in m) refl
   where
     by_case : (b : Bool) → expires_in m ≡ b → expires_in m ≡ false

@@ -455,6 +455,9 @@ module _ (m : LinkState) where
     pub opening_expires : m.is_sent ≡ true → m.clock ≡ 0 → expires_in m ≡ true
     opening_expires s k = grind (arith, o, none, s, k)
 
+    pub opening_silent : 1 ≤ m.clock → (slot_outcome m).frame ≡ None
+    opening_silent k = grind (arith, o, none, k)
+
     pub opening_counts : 1 ≤ m.clock → ((slot_outcome m).link.clock ≡ m.clock) × (expires_in m ≡ false)
     opening_counts k = (grind (arith, o, none, k), grind (arith, o, none, k))
 

@@ -66,7 +66,7 @@ module _ (r : Run) (u : NeverReleases r) (long : round_trip r.delay ≤ r.t200) 
 
   -- ---- the mobile when it opens
 
-  mobile_work : (n : ℕ) → Calling r u long n → Work Mobile 1 n n
+  pub mobile_work : (n : ℕ) → Calling r u long n → Work Mobile 1 n n
   mobile_work n x = record {
     paid = 0;
     used = 0;
@@ -111,7 +111,7 @@ module _ (r : Run) (u : NeverReleases r) (long : round_trip r.delay ≤ r.t200) 
   lo_up n = omega (arith, loss_step r u long n)
 
   -- its attempts are at most those of the mobile that failed
-  few : (n : ℕ) (x : Calling r u long n) (q a : ℕ) → IsUnheard n x → x.v1 + r.delay + 1 ≤ q →
+  pub few : (n : ℕ) (x : Calling r u long n) (q a : ℕ) → IsUnheard n x → x.v1 + r.delay + 1 ≤ q →
       q + 2 + r.t200 * a ≤ suc n + r.t200 → a ≤ Lo r u long n
   few n x q a (inl k) late f = by_paid x.fate
     where
@@ -136,7 +136,7 @@ module _ (r : Run) (u : NeverReleases r) (long : round_trip r.delay ≤ r.t200) 
         times_one r.t200 (E r u long n Mobile + 1),
       ))
 
-  network_work : (n n0 : ℕ) (x : Calling r u long n) → IsUnheard n x → Early r u long (suc n) →
+  pub network_work : (n n0 : ℕ) (x : Calling r u long n) → IsUnheard n x → Early r u long (suc n) →
       (link_at r (suc n) Network).endpoint.state ≡ Open → Work Network 0 n0 (suc n)
   network_work n n0 x b (Y.idle i w e) o = absurd (idle_not_open (sym i ∙ o))
   network_work n n0 x b (Y.alone q a some p (Y.unsent w e z)) o = record {

@@ -7,6 +7,7 @@ use Rattle.lapdm_end.specs.lapdm_window.declared.State.TheVariants.{Open}
 use Rattle.lapdm_end.specs.lapdm_window.Ends.{Role, Mobile, Network, awaits_answer}
 use Rattle.lapdm_link.specs.Events.{other}
 use Rattle.lapdm_end.specs.lapdm_window.Rules.{is_open}
+use Rattle.lapdm_end.specs.lapdm_window.Calls.{is_idle}
 use Rattle.lapdm_datalink.specs.Links.{LinkState, is_closed, is_due, keeps_back, slot_outcome, after_slot, after_frame}
 use Rattle.lapdm_datalink.specs.DataLinks.{DataLinkState, data_link_outcome, after_arrival, with_clocks_moved}
 use Rattle.lapdm_datalink.specs.Channels.{Run, Turn, channel_at, side_at, turn_of, before_sending, arriving, IsUse}
@@ -137,6 +138,34 @@ pub record Progress (r : Run) (n k : ℕ) (role : Role) : Type 0 where
 abbrev pub Progresses : Run → Type 0
 Progresses r =
     round_trip r.delay ≤ r.t200 → (n k : ℕ) → IsWithoutRelease r (n + k) → AreOpen r n k → (role : Role) → Progress r n k role
+
+-- ---- from the start
+
+-- n: the frames of this link that await answers: the SABM that layer 3 of the mobile asked for, and the segments issued so far
+abbrev pub frames_at : (run : Run) (slot : ℕ) (role : Role) → ℕ
+frames_at r n Mobile = one_if (not (is_idle (link_at r n Mobile).endpoint.state)) + (link_at r n Mobile).endpoint.sent_segments
+frames_at r n Network = (link_at r n Network).endpoint.sent_segments
+
+-- the network's first I frame may wait behind the UA
+abbrev pub behind_ua : Role → ℕ
+behind_ua Mobile = 0
+behind_ua Network = 1
+
+-- Progress from the start. Until one gives up, and without a release, whatever is lost, a link waits at most one round trip for each of its
+-- frames, and T200 and one slot for each slot with a loss; the network one slot more. T200 expires at most once for each slot with a loss.
+pub record FromStart (r : Run) (k : ℕ) (role : Role) : Type 0 where
+  pub waits : waiting_slots r 0 k role
+      ≤ round_trip r.delay * frames_at r k role + (r.t200 + 1) * lossy_slots r 0 k + behind_ua role
+  pub expires : expiries r 0 k role ≤ lossy_slots r 0 k
+
+abbrev pub ProgressesFromStart : Run → Type 0
+ProgressesFromStart r =
+    round_trip r.delay ≤ r.t200 → (k : ℕ) → IsWithoutRelease r k → ((j : ℕ) → j ≤ k → NoneGaveUp r j) → (role : Role) →
+    FromStart r k role
+
+-- With at most N200 slots with a loss so far, neither link has been given up: each of the N200 + 1 expiries before that has its own.
+abbrev pub KeepsLinks : Run → Type 0
+KeepsLinks r = round_trip r.delay ≤ r.t200 → (k : ℕ) → IsWithoutRelease r k → lossy_slots r 0 k ≤ 5 → NoneGaveUp r k
 
 -- The link of SAPI 0 of a data link does what it would do alone: in a slot, and when a frame arrives. If it sends a frame, the data link
 -- does; if it sends none, the link of SAPI 3 has the slot.
