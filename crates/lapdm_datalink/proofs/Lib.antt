@@ -20,6 +20,7 @@ pub mod ProgressOpening
 pub mod ProgressEarly
 pub mod ProgressWhole
 pub mod ProgressTotal
+pub mod ProgressFromStart
 pub mod ProgressAlone
 mod RunsWorked
 mod RunsClaims

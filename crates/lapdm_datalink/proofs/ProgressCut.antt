@@ -12,6 +12,12 @@ use Rattle.{
     proofs.{ProgressRuns.NeverReleases, ProgressExpiries.pays, ProgressPolls.progresses},
   },
 }
+use Rattle.std.specs.Prelude.{◌≢◌, not}
+use Rattle.lapdm_end.specs.lapdm_window.declared.State.{State}
+use Rattle.lapdm_end.specs.lapdm_window.declared.State.TheVariants.{Closed}
+use Rattle.lapdm_end.specs.lapdm_window.Calls.{is_idle}
+use Rattle.lapdm_datalink.specs.Progress.{frames_at, FromStart, ProgressesFromStart, KeepsLinks}
+use Rattle.lapdm_datalink.proofs.ProgressFromStart.{from_start, keeps}
 
 abbrev pub idle_slot : Slot
 idle_slot = record { mobile = record { calls = []; is_lost = false }; network = record { calls = []; is_lost = false } }
@@ -96,6 +102,9 @@ module _ (m : ℕ) (r : Run) where
 
 -- ---- what holds of a cut run holds of the run
 
+true_false : true ≡ false → ⊥
+true_false h = cc
+
 pub pays_for_expiries : (r : Run) → PaysForExpiries r
 pays_for_expiries r long n u none role again = record {
   slot = x.slot;
@@ -140,3 +149,33 @@ all_progress r long n k u o role = record {
 
     acked_last : (link_at (cut m r) (n + k) role).endpoint.acked_segments ≡ (link_at r (n + k) role).endpoint.acked_segments
     acked_last = ap (λ l. l.endpoint.acked_segments) (link_same m r (n + k) (omega arith) role)
+
+not_closed : (s : State) → s ≢ Closed → is_closed s ≡ false
+not_closed Closed h = absurd (h refl)
+not_closed other h = refl
+
+module _ (r : Run) (k : ℕ) (u : IsWithoutRelease r k) where
+  frames_same : (role : Role) → frames_at (cut k r) k role ≡ frames_at r k role
+  frames_same Mobile = ap (λ l. one_if (not (is_idle l.endpoint.state)) + l.endpoint.sent_segments)
+      (link_same k r k (omega arith) Mobile)
+  frames_same Network = ap (λ l. l.endpoint.sent_segments) (link_same k r k (omega arith) Network)
+
+  from_cut : (role : Role) → FromStart (cut k r) k role → FromStart r k role
+  from_cut role x = record {
+    waits = rw (waiting_same k r 0 k (omega arith) role, frames_same role, losses_same k r 0 k (omega arith)) at x.waits;
+    expires = rw (expiries_same k r 0 k (omega arith) role, losses_same k r 0 k (omega arith)) at x.expires;
+  }
+
+pub progress_from_start : (r : Run) → ProgressesFromStart r
+progress_from_start r long k u none role =
+    from_cut r k u role (from_start (cut k r) (never k r u) long k (λ j a q e. closed_false (none j a q)
+    (ap (λ l. l.endpoint.state) (sym (link_same k r j a q)) ∙ e)) role)
+  where
+    closed_false : {s : State} → is_closed s ≡ false → s ≡ Closed → ⊥
+    closed_false h e = absurd (true_false (sym (ap is_closed e) ∙ h))
+
+pub few_losses_keep_links : (r : Run) → KeepsLinks r
+few_losses_keep_links r long k u few role =
+    not_closed (link_at r k role).endpoint.state
+    (λ e. keeps (cut k r) (never k r u) long k (rw (losses_same k r 0 k (omega arith)) few) k (omega arith) role
+    (ap (λ l. l.endpoint.state) (link_same k r k (omega arith) role) ∙ e))

@@ -1,4 +1,4 @@
--- The bounds from the start of a run, and why few losses close no link.
+-- A link lets an answer go before its own frame only after T200 of the other side expired, the network also after the first SABM.
 use Rattle.std.specs.Prelude.{◌≡◌, ◌≢◌, ℕ, zero, suc, ◌+◌, ◌-◌, ◌*◌, ◌≤◌, Bool, true, false, not, ◌⊎◌, nat_eq, nat_le, nat_lt, List, [], ◌∷◌}
 use Rattle.std.specs.Prelude.{Option, Some, None, All}
 use Rattle.std.proofs.Common.{inl, inr, arith, refl, ap, sym, ◌∙◌}
@@ -37,7 +37,7 @@ use Rattle.lapdm_datalink.proofs.ProgressEarly.{Early, Alone, late_open, expires
 use Rattle.lapdm_datalink.proofs.ProgressWhole as Z
 use Rattle.lapdm_datalink.proofs.ProgressWhole.{Work, Whole, whole, few, IsUnheard, mobile_work}
 
-idle_opening : Idle ≡ Opening → ⊥
+pub idle_opening : Idle ≡ Opening → ⊥
 idle_opening q = cc
 
 -- ---- an answer goes first only behind a frame of the other side

@@ -1,4 +1,3 @@
-use Rattle.lapdm_datalink.proofs.ProgressTotal as X1
 use Rattle.lapdm_datalink.proofs.ProgressCut.{all_progress}
 use Rattle.lapdm_datalink.proofs.laws.law_data_links_progress.Goals as goal
 
