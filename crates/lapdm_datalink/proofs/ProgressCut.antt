@@ -1,23 +1,22 @@
 -- A run that is cut: after some slots layer 3 makes no call and no block is lost. Until then both runs are the same.
 use Rattle.{
-  std.specs.Prelude.{◌≡◌, ℕ, zero, suc, ◌+◌, ◌≤◌, Bool, true, false, nat_lt, [], ◌⊎◌, All},
+  std.specs.Prelude.{◌≡◌, ℕ, zero, suc, ◌+◌, ◌≤◌, Bool, true, false, nat_lt, [], ◌⊎◌, All, ◌≢◌, not},
   std.proofs.Common.{inl, inr, arith, refl, ap, sym, ◌∙◌},
-  lapdm_end.specs.lapdm_window.{declared.State.TheVariants.Open, Ends.{Role, Mobile, Network, awaits_answer}, Rules.is_open},
+  lapdm_end.specs.lapdm_window.{
+    declared.State.{TheVariants.Closed, State},
+    Ends.{Role, Mobile, Network, awaits_answer},
+    Rules.is_open,
+    Calls.is_idle,
+  },
   lapdm_link.specs.Events.other,
   lapdm_datalink.{
     specs.Channels.{Run, Slot, ChannelState, channel_at, channel_after, side_at, turn_of, before_sending, arriving, IsUse},
-    specs.Links.{slot_outcome, is_closed},
-    specs.Progress.{link_at, turn_at, ready_at, frame_at, is_loss, is_loss_at, is_lossy, one_if, waiting_slots, lossy_slots, expiries, expires_in},
-    specs.Progress.{is_i_frame, is_repetition, IsWithoutRelease, NoneGaveUp, AreOpen, IsPaid, Progress, PaysForExpiries, Progresses},
-    proofs.{ProgressRuns.NeverReleases, ProgressExpiries.pays, ProgressPolls.progresses},
+    specs.{Links.{slot_outcome, is_closed}, Progress.{link_at, turn_at, ready_at, frame_at, is_loss, is_loss_at, is_lossy, one_if}},
+    specs.Progress.{waiting_slots, lossy_slots, expiries, expires_in, is_i_frame, is_repetition, IsWithoutRelease, IsPaid, Progress},
+    specs.Progress.{PaysForExpiries, Progresses, frames_at, FromStart, ProgressesFromStart, KeepsLinks},
+    proofs.{ProgressRuns.NeverReleases, ProgressExpiries.pays, ProgressPolls.progresses, ProgressFromStart.{from_start, keeps}},
   },
 }
-use Rattle.std.specs.Prelude.{◌≢◌, not}
-use Rattle.lapdm_end.specs.lapdm_window.declared.State.{State}
-use Rattle.lapdm_end.specs.lapdm_window.declared.State.TheVariants.{Closed}
-use Rattle.lapdm_end.specs.lapdm_window.Calls.{is_idle}
-use Rattle.lapdm_datalink.specs.Progress.{frames_at, FromStart, ProgressesFromStart, KeepsLinks}
-use Rattle.lapdm_datalink.proofs.ProgressFromStart.{from_start, keeps}
 
 abbrev pub idle_slot : Slot
 idle_slot = record { mobile = record { calls = []; is_lost = false }; network = record { calls = []; is_lost = false } }

@@ -1,33 +1,34 @@
 -- From the start of a run until the mobile opens: the frames of a network that is open already.
-use Rattle.std.specs.Prelude.{◌≡◌, ◌≢◌, ℕ, zero, suc, ◌+◌, ◌-◌, ◌*◌, ◌≤◌, Bool, true, false, ◌⊎◌, nat_eq, nat_le, List}
-use Rattle.std.specs.Prelude.{Option, Some, None, IfSome}
-use Rattle.std.proofs.Common.{inl, inr, arith, refl, ap, sym, ◌∙◌}
-use Rattle.std.proofs.Math.Nat.{mul-add, mul-one}
-use Rattle.lapdm_frame.specs.Content.{Content, I, Rr, Rej, Ua, Frame}
-use Rattle.lapdm_end.specs.lapdm_window.declared.State.TheVariants.{Idle, Opening, Open, Closed}
-use Rattle.lapdm_end.specs.lapdm_window.Ends.{Role, Mobile, Network, awaits_answer, awaits_ack, vs, response_frame}
-use Rattle.lapdm_end.specs.lapdm_window.Calls.{is_idle}
-use Rattle.lapdm_link.specs.Events.{other}
-use Rattle.lapdm_datalink.specs.Links.{LinkState, slot_outcome, after_slot, is_due}
-use Rattle.lapdm_datalink.specs.Slots.{nr_in, nr_of}
-use Rattle.lapdm_datalink.specs.Channels.{Run, after_calls, after_arriving, carried}
-use Rattle.lapdm_datalink.specs.Progress.{link_at, turn_at, arriving_at, ready_at, frame_at, is_loss_at, is_lossy, one_if, round_trip}
-use Rattle.lapdm_datalink.specs.Progress.{waiting_slots, lossy_slots, expiries, expires_in, answer_goes, is_i_frame}
-use Rattle.lapdm_datalink.proofs.ProgressSteps.{acked, issued, aired, Moves}
-use Rattle.lapdm_datalink.proofs.ProgressLink.{slot_acked, slot_issued, aired_unsent, aired_sent}
-use Rattle.lapdm_datalink.proofs.ProgressStart.{ready_moves, ready_due, ready_t200, idle_silent, is_young}
-use Rattle.lapdm_datalink.proofs.ProgressRuns.{NeverReleases, sound, slotted_in, link_step, arrived, nothing_arrives, carried_none}
-use Rattle.lapdm_datalink.proofs.ProgressWaits.{SlotWay, sends, blocked, counts, slot_way}
-use Rattle.lapdm_datalink.proofs.ProgressPaid.{le_of, not_le_of}
-use Rattle.lapdm_datalink.proofs.ProgressExpiries.{waits_at, loss_of}
-use Rattle.lapdm_datalink.proofs.ProgressWaiting.{answers_first, answering_slots, open_awaits, due_clock, not_due, no_ack, ack_none, ack_one}
-use Rattle.lapdm_datalink.proofs.ProgressWaiting.{times_le, expires_due, goes_it, lossy_by, eq_of, both, clock_within}
+use Rattle.{
+  std.specs.Prelude.{◌≡◌, ◌≢◌, ℕ, suc, ◌+◌, ◌-◌, ◌*◌, ◌≤◌, Bool, true, false, ◌⊎◌, nat_le, List},
+  std.{specs.Prelude.{Option, Some, None, IfSome}, proofs.{Common.{inl, inr, arith, refl, ap, sym, ◌∙◌}, Math.Nat.mul-one}},
+  lapdm_frame.specs.Content.{Ua, Frame},
+  lapdm_end.specs.lapdm_window.{
+    declared.State.TheVariants.{Idle, Open},
+    Ends.{Mobile, Network, awaits_answer, awaits_ack, vs, response_frame},
+    Calls.is_idle,
+  },
+  lapdm_datalink.{
+    specs.{Links.{LinkState, slot_outcome, is_due}, Slots.nr_of, Channels.{Run, carried}, Progress.{link_at, turn_at, arriving_at}},
+    specs.Progress.{ready_at, one_if, round_trip, expires_in, answer_goes, is_i_frame},
+    proofs.{
+      ProgressSteps.{acked, issued, aired, Moves},
+      ProgressLink.{slot_acked, slot_issued, aired_unsent, aired_sent},
+      ProgressStart.{ready_moves, ready_due, ready_t200, is_young},
+      ProgressRuns.{NeverReleases, sound, slotted_in, link_step, arrived, nothing_arrives, carried_none},
+      ProgressWaits.{SlotWay, sends, blocked, counts, slot_way},
+      ProgressPaid.{le_of, not_le_of},
+      ProgressExpiries.waits_at,
+      ProgressWaiting.{open_awaits, due_clock, not_due, no_ack, ack_one, times_le, expires_due, goes_it, both},
+      ProgressFrames.{Brings, sabm_of, ua_of},
+      ProgressKnown.{Known, Unclosed, NetworkSlot},
+      ProgressOpening.{true-false, times_one, one_most, idle_rests, young_number, idle_not_open, W, E, B, waits_step, expiry_step},
+      ProgressOpening.{answer_step, Calling},
+    },
+  },
+}
 use Rattle.lapdm_datalink.proofs.ProgressFrames as F
-use Rattle.lapdm_datalink.proofs.ProgressFrames.{Brings, sabm_of, ua_of}
 use Rattle.lapdm_datalink.proofs.ProgressKnown as K
-use Rattle.lapdm_datalink.proofs.ProgressKnown.{Known, Unclosed, NetworkSlot}
-use Rattle.lapdm_datalink.proofs.ProgressOpening.{true-false, times_one, one_most, idle_rests, young_number, idle_not_open, W, E, B}
-use Rattle.lapdm_datalink.proofs.ProgressOpening.{waits_step, expiry_step, answer_step, Calling}
 
 pub times_less : (t a b : ℕ) → t * a + 1 ≤ t * (b + 1) → a ≤ b
 times_less t a b h = by_case (nat_le a b) refl
@@ -82,7 +83,8 @@ module _ (r : Run) (u : NeverReleases r) (long : round_trip r.delay ≤ r.t200) 
 
   pub data Early (n : ℕ) : Type 0 where
     idle : (link_at r n Network).endpoint.state ≡ Idle → W r u long n Network ≡ 0 → E r u long n Network ≡ 0 → Early n
-    alone : (q : ℕ) → suc q ≤ n → arriving_at r q Network ≢ None → (link_at r n Network).endpoint.state ≡ Open → Alone n q → Early n
+    alone : (q : ℕ) → suc q ≤ n → arriving_at r q Network ≢ None → (link_at r n Network).endpoint.state ≡ Open →
+        Alone n q → Early n
 
   module _ (n : ℕ) (h : Known r u n) (c : Unclosed r u (suc n)) (young : is_young (link_at r n Mobile).endpoint.state ≡ true) where
     abbrev pub l : LinkState
@@ -143,7 +145,8 @@ module _ (r : Run) (u : NeverReleases r) (long : round_trip r.delay ≤ r.t200) 
         by_sent false e = e
         by_sent true e = let x = waits_at r u Network n w e in by_case z x.0 x.1
           where
-            by_case : (l.is_sent ≡ false) ⊎ (awaits_ack l.endpoint ≡ false) → awaits_ack l.endpoint ≡ true → l.is_sent ≡ true →
+            by_case : (l.is_sent ≡ false) ⊎ (awaits_ack l.endpoint ≡ false) → awaits_ack l.endpoint ≡ true →
+                l.is_sent ≡ true →
                 m.is_sent ≡ false
             by_case (inl f) a s = absurd (true-false (sym s ∙ f))
             by_case (inr f) a s = absurd (true-false (sym a ∙ f))
@@ -199,7 +202,8 @@ module _ (r : Run) (u : NeverReleases r) (long : round_trip r.delay ≤ r.t200) 
 
       -- it waits for its first frame
       next_slot : (q a : ℕ) → W r u long n Network + (l.clock - 1) ≤ r.t200 * a + B r u long n Network →
-          E r u long n Network + 1 ≤ a → q + 2 + r.t200 * a ≤ n + l.clock → awaits_ack l.endpoint ≡ true → l.is_sent ≡ true →
+          E r u long n Network + 1 ≤ a → q + 2 + r.t200 * a ≤ n + l.clock → awaits_ack l.endpoint ≡ true →
+          l.is_sent ≡ true →
           SlotWay m → Alone (suc n) q
       next_slot q a w e f g s way = by_way way
         where

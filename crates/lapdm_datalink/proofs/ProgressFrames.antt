@@ -1,30 +1,28 @@
 -- What each link of SAPI 0 sends while neither is closed, and what opens it.
-use Rattle.std.specs.Prelude.{◌≡◌, ◌≢◌, ℕ, suc, ◌≤◌, Bool, true, false, not, ◌⊎◌, nat_eq, List, [], ◌∷◌, length, Option, Some, None, All, IfSome}
-use Rattle.std.specs.Str.{bytes_eq}
-use Rattle.std.proofs.Common.{inl, inr, arith, refl, ap, sym, ◌∙◌}
-use Rattle.std.proofs.lemmas.Slice.Eq.{bytes_eq-Decides}
-use Rattle.std.proofs.lemmas.List.Elements.{All-head, All-tail}
-use Rattle.lapdm_frame.specs.Content.{Content, I, Rr, Rej, Sabm, Ua, Frame}
-use Rattle.lapdm_end.specs.lapdm_window.declared.Sapi.TheVariants.{Zero}
-use Rattle.lapdm_end.specs.lapdm_window.declared.State.{State}
-use Rattle.lapdm_end.specs.lapdm_window.declared.State.TheVariants.{Idle, Opening, Open, Closed}
-use Rattle.lapdm_end.specs.lapdm_window.declared.Refused.{Refused}
-use Rattle.lapdm_end.specs.lapdm_window.segmenting.Segments.{Segment}
-use Rattle.lapdm_end.specs.lapdm_window.Ends.{EndpointState, Role, Mobile, Network, command_cr, response_frame}
-use Rattle.lapdm_end.specs.lapdm_window.Rules.{nr_acknowledges_segment, takes_i_frame, takes_rr}
-use Rattle.lapdm_end.specs.lapdm_window.Ends.{vr, first_unacked_segment}
-use Rattle.lapdm_end.specs.lapdm_window.Tables.{Reply, TakesIFrame, TakesRr, SendsUa, AcceptsSabm, ConfirmsEstablishment, Nothing}
-use Rattle.lapdm_end.specs.lapdm_window.Tables.{is_command, outcome_of_reply}
-use Rattle.lapdm_end.specs.lapdm_window.Calls.{Call, Opens, Sends, refusal_of, awaited_frame, t200_expiry}
-use Rattle.lapdm_link.specs.Events.{other}
-use Rattle.lapdm_datalink.specs.Links.{LinkState, slot_outcome, after_call, first_frame, ignores, after_frame}
-use Rattle.lapdm_datalink.specs.Channels.{after_calls, after_call_unless, after_arriving, IsUse}
-use Rattle.lapdm_datalink.specs.Slots.{IsStepOfEndpoint}
-use Rattle.lapdm_datalink.specs.Progress.{answer_goes, expires_in}
-use Rattle.lapdm_end.specs.lapdm_window.Ends.{awaits_answer}
-use Rattle.lapdm_datalink.proofs.ProgressSteps.{taken, outcome_endpoint}
-use Rattle.lapdm_datalink.proofs.ProgressLink.{reply_with, frame_taken, is_i, is_rr, From, nowhere, owed, first, again, slot_from}
-use Rattle.lapdm_datalink.proofs.Answering.{step_of_endpoint}
+use Rattle.{
+  std.specs.Prelude.{◌≡◌, ◌≢◌, ℕ, ◌≤◌, Bool, true, false, ◌⊎◌, nat_eq, List, [], ◌∷◌, length, Option, Some},
+  std.{specs.{Prelude.{None, All, IfSome}, Str.bytes_eq}, proofs.Common.{inl, inr, arith, refl, ap, sym, ◌∙◌}},
+  std.proofs.lemmas.{Slice.Eq.bytes_eq-Decides, List.Elements.{All-head, All-tail}},
+  lapdm_frame.specs.Content.{Content, I, Rr, Rej, Sabm, Ua, Frame},
+  lapdm_end.specs.lapdm_window.{
+    declared.{Sapi.TheVariants.Zero, State.TheVariants.{Idle, Opening, Open, Closed}, Refused.Refused},
+    segmenting.Segments.Segment,
+    Ends.{EndpointState, Role, Mobile, Network, command_cr, response_frame, vr, first_unacked_segment, awaits_answer},
+    Rules.{nr_acknowledges_segment, takes_i_frame, takes_rr},
+    Tables.{Reply, TakesIFrame, TakesRr, SendsUa, AcceptsSabm, ConfirmsEstablishment, Nothing, outcome_of_reply},
+    Calls.{Call, Opens, Sends, refusal_of, awaited_frame, t200_expiry},
+  },
+  lapdm_link.specs.Events.other,
+  lapdm_datalink.{
+    specs.{Links.{LinkState, slot_outcome, after_call, first_frame, after_frame}, Channels.{after_calls, after_call_unless}},
+    specs.{Channels.{after_arriving, IsUse}, Slots.IsStepOfEndpoint, Progress.{answer_goes, expires_in}},
+    proofs.{
+      ProgressSteps.{taken, outcome_endpoint},
+      ProgressLink.{reply_with, frame_taken, is_rr, From, nowhere, owed, first, again, slot_from},
+      Answering.step_of_endpoint,
+    },
+  },
+}
 
 -- the frames that a side sends: the mobile its SABM, the network the UA to it, and each side I frames, RR and REJ once it is open
 abbrev pub Brings : (sender : Role) (young : Bool) (info : List ℕ) (cr : Bool) → Content → Type 0
@@ -66,7 +64,8 @@ more_brings sender info cr (Rr nr p) b = refl
 more_brings sender info cr (Rej nr p) b = refl
 more_brings sender info cr other b = absurd b
 
-pub still_brings : (sender : Role) (info : List ℕ) (cr : Bool) (c : Content) (idle later : Bool) → (idle ≡ false → later ≡ false) →
+pub still_brings : (sender : Role) (info : List ℕ) (cr : Bool) (c : Content) (idle later : Bool) →
+    (idle ≡ false → later ≡ false) →
     Brings sender idle info cr c → Brings sender later info cr c
 still_brings sender info cr c true true h b = b
 still_brings sender info cr c true false h b = more_brings sender info cr c b
@@ -94,7 +93,8 @@ module _ (cr : Bool) (l : LinkState) (z : l.endpoint.sapi ≡ Zero) (idle : Bool
       reply_with 0 cr l (Sabm p (x ∷ xs)) ≡ AcceptsSabm (x ∷ xs)
   sabm_accepted p x xs ro o c = grind (arith, z, ro, o, c)
 
-  sabm_opens : (p : Bool) (info : List ℕ) → 1 ≤ length info → l.endpoint.role ≡ Network → l.endpoint.state ≡ Idle → cr ≡ false →
+  sabm_opens : (p : Bool) (info : List ℕ) → 1 ≤ length info → l.endpoint.role ≡ Network → l.endpoint.state ≡ Idle →
+      cr ≡ false →
       taken (reply_with 0 cr l (Sabm p info)) l ≡ accepting info l
   sabm_opens p [] some ro o c = absurd (omega (arith, some))
   sabm_opens p (x ∷ xs) some ro o c = ap (λ q. taken q l) (sabm_accepted p x xs ro o c)
@@ -102,7 +102,8 @@ module _ (cr : Bool) (l : LinkState) (z : l.endpoint.sapi ≡ Zero) (idle : Bool
   true_false : true ≡ false → ⊥
   true_false h = cc
 
-  pub idle_accepts : l.endpoint.role ≡ Network → l.endpoint.state ≡ Idle → (info : List ℕ) → 1 ≤ length info → (c : Content) →
+  pub idle_accepts : l.endpoint.role ≡ Network → l.endpoint.state ≡ Idle → (info : List ℕ) → 1 ≤ length info →
+      (c : Content) →
       Brings Mobile idle info cr c → idle ≡ true → taken (reply_with 0 cr l c) l ≡ accepting info l
   idle_accepts ro o info some (Sabm p x) b i =
       ap (λ y. taken (reply_with 0 cr l (Sabm p y)) l) b.1 ∙ sabm_opens p info some ro o b.2
@@ -313,7 +314,8 @@ module _ (m : LinkState) where
       by_step (inr (inl x)) = inl (ap (λ e. e.state) x.repeats)
       by_step (inr (inr x)) = by_expiry (expiry_state m.endpoint)
         where
-          by_expiry : ((t200_expiry m.endpoint).new_state.state ≡ m.endpoint.state) ⊎ ((t200_expiry m.endpoint).new_state.state ≡ Closed) →
+          by_expiry : ((t200_expiry m.endpoint).new_state.state ≡ m.endpoint.state)
+              ⊎ ((t200_expiry m.endpoint).new_state.state ≡ Closed) →
               ((slot_outcome m).link.endpoint.state ≡ m.endpoint.state) ⊎ ((slot_outcome m).link.endpoint.state ≡ Closed)
           by_expiry (inl e) = inl (ap (λ e. e.state) x.expires ∙ e)
           by_expiry (inr e) = inr (ap (λ e. e.state) x.expires ∙ e)
@@ -322,7 +324,8 @@ module _ (m : LinkState) where
     abbrev pub SentBy : Option Frame → Type 0
     SentBy x = IfSome x (λ f. Brings role idle m.endpoint.sabm_info f.cr f.content)
 
-    opening_made : m.endpoint.state ≡ Opening → role ≡ Mobile → (p : Bool) → SentBy (Some (awaited_frame p m.endpoint.state m.endpoint))
+    opening_made : m.endpoint.state ≡ Opening → role ≡ Mobile → (p : Bool) →
+        SentBy (Some (awaited_frame p m.endpoint.state m.endpoint))
     opening_made o e p = rw o (e, refl, ap command_cr (ro ∙ e))
 
     open_made : m.endpoint.state ≡ Open → idle ≡ false → (p : Bool) → SentBy (Some (awaited_frame p m.endpoint.state m.endpoint))
@@ -376,7 +379,8 @@ module _ (l : LinkState) (z : l.endpoint.sapi ≡ Zero) (idle : Bool) where
           by_kept (inl k) = inl (e ∙ ap (λ s. taken (reply_with s f.cr l f.content) l) b.0 ∙ k)
           by_kept (inr (k, i)) = inr (e ∙ ap (λ s. taken (reply_with s f.cr l f.content) l) b.0 ∙ k, i)
 
-  pub idle_arrives : l.endpoint.role ≡ Network → l.endpoint.state ≡ Idle → idle ≡ true → (info : List ℕ) → 1 ≤ length info →
+  pub idle_arrives : l.endpoint.role ≡ Network → l.endpoint.state ≡ Idle → idle ≡ true → (info : List ℕ) →
+      1 ≤ length info →
       (o : Option Frame) → Arrived Network idle info o →
       (after_arriving o l ≡ l) ⊎ ((after_arriving o l ≡ accepting info l) × (o ≢ None))
   idle_arrives ro op i info some None b = inl refl
@@ -390,7 +394,8 @@ module _ (l : LinkState) (z : l.endpoint.sapi ≡ Zero) (idle : Bool) where
         λ h. cc,
       )
 
-  pub open_arrives : l.endpoint.state ≡ Open → l.answer ≡ None → (role : Role) → l.endpoint.role ≡ role → (o : Option Frame) →
+  pub open_arrives : l.endpoint.state ≡ Open → l.answer ≡ None → (role : Role) → l.endpoint.role ≡ role →
+      (o : Option Frame) →
       Arrived role idle l.endpoint.sabm_info o → StaysOpen l (after_arriving o l)
   open_arrives op none role ro None b = stays_as l l refl op none
   open_arrives op none role ro (Some f) b = by_taken (frame_taken f l z)
@@ -442,7 +447,8 @@ module _ (m : LinkState) where
       ((slot_outcome m).frame ≡ Some (ua_of info)) × (answer_goes m.answer m ≡ true)
   ua_goes info o a = (grind (arith, o, a), grind (arith, o, a))
 
-  module _ (z : m.endpoint.sapi ≡ Zero) (ro : m.endpoint.role ≡ Mobile) (o : m.endpoint.state ≡ Opening) (none : m.answer ≡ None) where
+  module _ (z : m.endpoint.sapi ≡ Zero) (ro : m.endpoint.role ≡ Mobile) (o : m.endpoint.state ≡ Opening)
+      (none : m.answer ≡ None) where
     pub opening_first : m.is_sent ≡ false → m.clock ≡ 0 → ((slot_outcome m).frame ≡ Some (sabm_of m.endpoint.sabm_info))
         × ((slot_outcome m).link.clock ≡ m.t200) × (expires_in m ≡ false)
     opening_first s k = (grind (arith, z, ro, o, none, s, k), grind (arith, o, none, s, k), grind (arith, s))

@@ -1,47 +1,47 @@
 -- The bounds from the start of a run, and why few losses close no link.
-use Rattle.std.specs.Prelude.{◌≡◌, ◌≢◌, ℕ, zero, suc, ◌+◌, ◌-◌, ◌*◌, ◌≤◌, Bool, true, false, not, ◌⊎◌, nat_eq, nat_le, nat_lt, List, [], ◌∷◌}
-use Rattle.std.specs.Prelude.{Option, Some, None, All}
-use Rattle.std.proofs.Common.{inl, inr, arith, refl, ap, sym, ◌∙◌}
-use Rattle.std.proofs.lemmas.List.Elements.{All-head, All-tail}
-use Rattle.std.proofs.Math.Nat.{add-mul, mul-add, mul-one, one-mul}
-use Rattle.lapdm_frame.specs.Content.{Content, I, Rr, Rej, Ua, Frame}
-use Rattle.lapdm_end.specs.lapdm_window.declared.State.TheVariants.{Idle, Opening, Open, Closed}
-use Rattle.lapdm_end.specs.lapdm_window.declared.Sapi.TheVariants.{Zero}
-use Rattle.lapdm_end.specs.lapdm_window.declared.Refused.{Refused}
-use Rattle.lapdm_end.specs.lapdm_window.Ends.{Role, Mobile, Network, EndpointState, awaits_answer, awaits_ack, n200}
-use Rattle.lapdm_end.specs.lapdm_window.Tables.{outcome_of_reply}
-use Rattle.lapdm_end.specs.lapdm_window.Calls.{Call, Opens, Sends, refusal_of, is_idle, t200_expiry}
-use Rattle.lapdm_link.specs.Events.{other}
-use Rattle.lapdm_datalink.specs.Links.{LinkState, slot_outcome, after_slot, after_call, after_frame, is_due, keeps_back, is_closed}
-use Rattle.lapdm_datalink.specs.Channels.{Run, IsUse, after_arriving, after_calls, after_call_unless, carried}
-use Rattle.lapdm_datalink.specs.Progress.{link_at, turn_at, arriving_at, ready_at, frame_at, round_trip, waiting_slots, lossy_slots}
-use Rattle.lapdm_datalink.specs.Progress.{one_if, expires_in, answer_goes, frames_at, behind_ua, FromStart}
-use Rattle.lapdm_datalink.proofs.ProgressSteps.{acked, issued, taken, outcome_endpoint}
-use Rattle.lapdm_datalink.proofs.ProgressLink.{reply_with, frame_taken, kept_back}
-use Rattle.lapdm_datalink.proofs.ProgressRuns.{NeverReleases, sound, link_step, nothing_arrives}
-use Rattle.lapdm_datalink.proofs.ProgressStart.{is_young, idle_silent}
-use Rattle.lapdm_datalink.proofs.ProgressPaid.{le_of, not_le_of, arrived_other}
-use Rattle.lapdm_datalink.proofs.ProgressExpiries.{old_enough, waits_at}
-use Rattle.lapdm_datalink.proofs.ProgressPolls.{goes_first, is_for_poll}
+use Rattle.{
+  std.specs.Prelude.{◌≡◌, ◌≢◌, ℕ, zero, suc, ◌+◌, ◌*◌, ◌≤◌, Bool, true, false, ◌⊎◌, nat_le, nat_lt, List},
+  std.{specs.Prelude.{[], ◌∷◌, Option, Some, None, All, ◌&&◌}, proofs.Common.{inl, inr, arith, refl, ap, sym, ◌∙◌}},
+  std.proofs.{lemmas.List.Elements.{All-head, All-tail}, Math.Nat.{add-mul, mul-add, one-mul}},
+  lapdm_frame.specs.Content.{Content, I, Rr, Rej, Frame},
+  lapdm_end.specs.lapdm_window.{
+    declared.{State.TheVariants.{Idle, Opening, Open, Closed}, Sapi.TheVariants.Zero, Refused.Refused},
+    Ends.{Role, Mobile, Network, EndpointState, n200},
+    Tables.{outcome_of_reply, Reply, Nothing, SendsDm, TakesIFrame, TakesRr, is_command},
+    Calls.{Call, Opens, Sends, refusal_of, is_idle, t200_expiry},
+    segmenting.Segments.Segment,
+    Rules.{takes_i_frame, takes_rr},
+  },
+  lapdm_link.specs.Events.other,
+  lapdm_datalink.{
+    specs.{
+      Links.{LinkState, slot_outcome, after_frame, is_due, keeps_back},
+      Channels.{Run, IsUse, after_arriving, after_calls, after_call_unless},
+      Progress.{link_at, turn_at, arriving_at, ready_at, round_trip, lossy_slots, one_if, expires_in, frames_at, FromStart},
+    },
+    proofs.{
+      ProgressSteps.{acked, issued, taken, outcome_endpoint},
+      ProgressLink.{reply_with, frame_taken, kept_back},
+      ProgressRuns.{NeverReleases, sound, link_step},
+      ProgressStart.{is_young, i_reply, rr_reply},
+      ProgressPaid.{le_of, not_le_of},
+      ProgressExpiries.{old_enough, waits_at},
+      ProgressWaiting.{Stage, quiet, unsent, failed, going, pending, answers_first, times_le, ack_one, clock_within, expires_due},
+      ProgressWaiting.{due_clock, no_ack},
+      ProgressKnown.{Known, Unclosed, MobileSlot, NetworkSlot, known},
+      ProgressOpening.{true-false, times_one, idle_not_open, opening_not_open, idle_rests, W, E, B, Lo, expiry_step, loss_step, Calling},
+      ProgressOpening.{Through, must_fail},
+      ProgressEarly.{Early, Alone, late_open, expires_not},
+      ProgressWhole.{Work, Whole, whole, few, IsUnheard, mobile_work},
+      ProgressTotal.{answers_total, idle_opening},
+    },
+  },
+}
 use Rattle.lapdm_datalink.proofs.ProgressWaiting as P
-use Rattle.lapdm_datalink.proofs.ProgressWaiting.{Stage, quiet, unsent, failed, going, pending, answers_first, times_le, ack_one, clock_within}
-use Rattle.lapdm_datalink.proofs.ProgressWaiting.{expires_due, due_clock, no_ack}
 use Rattle.lapdm_datalink.proofs.ProgressFrames as F
 use Rattle.lapdm_datalink.proofs.ProgressKnown as K
-use Rattle.lapdm_datalink.proofs.ProgressKnown.{Known, Unclosed, MobileSlot, NetworkSlot, known}
-use Rattle.lapdm_datalink.proofs.ProgressOpening.{true-false, times_one, idle_not_open, opening_not_open, some_none, idle_rests, W, E, B, Lo}
-use Rattle.lapdm_datalink.proofs.ProgressOpening.{waits_step, expiry_step, answer_step, loss_step, Calling, Through, Resting, must_fail}
-use Rattle.lapdm_datalink.proofs.ProgressOpening.{not_due_yet}
 use Rattle.lapdm_datalink.proofs.ProgressEarly as Y
-use Rattle.lapdm_datalink.proofs.ProgressEarly.{Early, Alone, late_open, expires_not}
 use Rattle.lapdm_datalink.proofs.ProgressWhole as Z
-use Rattle.lapdm_datalink.proofs.ProgressWhole.{Work, Whole, whole, few, IsUnheard, mobile_work}
-use Rattle.lapdm_datalink.proofs.ProgressTotal.{answers_total, idle_opening}
-use Rattle.std.specs.Prelude.{◌&&◌}
-use Rattle.lapdm_end.specs.lapdm_window.segmenting.Segments.{Segment}
-use Rattle.lapdm_end.specs.lapdm_window.Rules.{takes_i_frame, takes_rr}
-use Rattle.lapdm_end.specs.lapdm_window.Tables.{Reply, Nothing, SendsDm, TakesIFrame, TakesRr, is_command}
-use Rattle.lapdm_datalink.proofs.ProgressStart.{i_reply, rr_reply}
 
 -- ---- the bounds
 
@@ -237,7 +237,8 @@ module _ (s : ℕ) (cr : Bool) (l : LinkState) where
       by_reply : ((reply_with s cr l (Rr nr p) ≡
           TakesRr nr (is_command l.endpoint (record { sapi = s; cr = cr; content = Rr nr p }) && p))
           × (l.endpoint.state ≡ Open))
-          ⊎ (reply_with s cr l (Rr nr p) ≡ Nothing) ⊎ (reply_with s cr l (Rr nr p) ≡ SendsDm) → Fewer l (reply_with s cr l (Rr nr p))
+          ⊎ (reply_with s cr l (Rr nr p) ≡ Nothing) ⊎ (reply_with s cr l (Rr nr p) ≡ SendsDm) →
+          Fewer l (reply_with s cr l (Rr nr p))
       by_reply (inl (e, o)) = same_reply (reply_with s cr l (Rr nr p)) _ e (rr_retries nr _ l.endpoint)
       by_reply (inr (inl e)) = same_reply (reply_with s cr l (Rr nr p)) Nothing e (omega arith)
       by_reply (inr (inr e)) = same_reply (reply_with s cr l (Rr nr p)) SendsDm e (omega arith)
@@ -316,7 +317,8 @@ module _ (r : Run) (u : NeverReleases r) (long : round_trip r.delay ≤ r.t200) 
   module _ (n : ℕ) (h : Known r u n) where
     work_owes : (role : Role) (more n0 : ℕ) → Work r u long role more n0 n → n0 ≤ suc n + r.delay →
         (ready_at r n role).endpoint.state ≡ Open →
-        ((k : ℕ) → n0 ≤ k → k ≤ n → (link_at r k (other role)).endpoint.state ≡ Open) → expires_in (ready_at r n role) ≡ true →
+        ((k : ℕ) → n0 ≤ k → k ≤ n → (link_at r k (other role)).endpoint.state ≡ Open) →
+        expires_in (ready_at r n role) ≡ true →
         E r u long n role + 1 ≤ Lo r u long n
     work_owes role more n0 w first o there x =
         let y = expires_due (ready_at r n role) x in

@@ -1,23 +1,24 @@
 -- The states of two links of SAPI 0 while neither is closed: how the mobile opens, what the network knows, and what is on its way.
-use Rattle.std.specs.Prelude.{◌≡◌, ◌≢◌, ℕ, zero, suc, ◌+◌, ◌≤◌, Bool, true, false, not, ◌⊎◌, List, length, get_or}
-use Rattle.std.specs.Prelude.{Option, Some, None, IfSome}
-use Rattle.std.proofs.Common.{inl, inr, arith, refl, ap, sym, ◌∙◌}
-use Rattle.lapdm_frame.specs.Content.{Ua, Frame}
-use Rattle.lapdm_end.specs.lapdm_window.declared.Sapi.TheVariants.{Zero}
-use Rattle.lapdm_end.specs.lapdm_window.declared.State.{State}
-use Rattle.lapdm_end.specs.lapdm_window.declared.State.TheVariants.{Idle, Opening, Open, Closed}
-use Rattle.lapdm_end.specs.lapdm_window.Ends.{Role, Mobile, Network, response_frame, command_cr}
-use Rattle.lapdm_end.specs.lapdm_window.Calls.{is_idle}
-use Rattle.lapdm_datalink.proofs.ProgressStart.{is_young}
-use Rattle.lapdm_link.specs.Events.{other}
-use Rattle.lapdm_datalink.specs.Links.{LinkState, slot_outcome, after_slot}
-use Rattle.lapdm_datalink.specs.Channels.{Run, channel_at, side_at, after_calls, after_arriving, carried}
-use Rattle.lapdm_datalink.specs.Progress.{link_at, turn_at, arriving_at, ready_at, frame_at}
-use Rattle.lapdm_datalink.proofs.ProgressStart.{ready_called, ready_role, ready_moves, idle_silent}
-use Rattle.lapdm_datalink.proofs.ProgressRuns.{NeverReleases, sound, slotted_in, link_step, sent_step}
-use Rattle.lapdm_datalink.proofs.ProgressFrames.{Brings, Arrived, opened, accepting, StaysOpen, CalledTo, nothing, opens, sends, calls_to}
-use Rattle.lapdm_datalink.proofs.ProgressFrames.{slot_info, slot_state, opening_brings, open_brings, opening_arrives, idle_arrives, open_arrives}
-use Rattle.lapdm_datalink.proofs.ProgressFrames.{still_brings}
+use Rattle.{
+  std.specs.Prelude.{◌≡◌, ◌≢◌, ℕ, zero, suc, ◌≤◌, Bool, true, false, not, ◌⊎◌, List, length, get_or, Option},
+  std.{specs.Prelude.{Some, None, IfSome}, proofs.Common.{inl, inr, arith, refl, ap, sym, ◌∙◌}},
+  lapdm_frame.specs.Content.{Ua, Frame},
+  lapdm_end.specs.lapdm_window.{
+    declared.{Sapi.TheVariants.Zero, State.TheVariants.{Idle, Opening, Open, Closed}},
+    Ends.{Role, Mobile, Network, response_frame, command_cr},
+    Calls.is_idle,
+  },
+  lapdm_datalink.{
+    proofs.{
+      ProgressStart.{is_young, ready_called, ready_role, ready_moves, idle_silent},
+      ProgressRuns.{NeverReleases, sound, slotted_in, link_step, sent_step},
+      ProgressFrames.{Brings, opened, accepting, StaysOpen, CalledTo, nothing, opens, sends, calls_to, slot_info, slot_state},
+      ProgressFrames.{opening_brings, open_brings, opening_arrives, idle_arrives, open_arrives, still_brings},
+    },
+    specs.{Links.{LinkState, slot_outcome, after_slot}, Channels.{Run, channel_at, side_at, after_calls, after_arriving, carried}},
+    specs.Progress.{link_at, turn_at, arriving_at, ready_at, frame_at},
+  },
+}
 
 pub idle_opening : Idle ≡ Opening → ⊥
 idle_opening h = cc
@@ -49,7 +50,8 @@ module _ (r : Run) (u : NeverReleases r) where
   Unclosed n = (j : ℕ) → j ≤ n → (role : Role) → (link_at r j role).endpoint.state ≢ Closed
 
   pub record Known (n : ℕ) : Type 0 where
-    pub mobile : ((L n Mobile).endpoint.state ≡ Idle) ⊎ ((L n Mobile).endpoint.state ≡ Opening) ⊎ ((L n Mobile).endpoint.state ≡ Open)
+    pub mobile : ((L n Mobile).endpoint.state ≡ Idle) ⊎ ((L n Mobile).endpoint.state ≡ Opening)
+        ⊎ ((L n Mobile).endpoint.state ≡ Open)
     pub network : ((L n Network).endpoint.state ≡ Idle) ⊎ ((L n Network).endpoint.state ≡ Open)
     pub info : (L n Network).endpoint.state ≡ Open → (L n Network).endpoint.sabm_info ≡ info_at n
     pub some : (L n Mobile).endpoint.state ≢ Idle → 1 ≤ length (info_at n)
@@ -65,7 +67,8 @@ module _ (r : Run) (u : NeverReleases r) where
         (M n Mobile).answer ≡ None → MobileSlot n
     tries : (L n Mobile).endpoint.state ≡ Opening → M n Mobile ≡ after_slot (L n Mobile) → MobileSlot n
     joins : (L n Mobile).endpoint.state ≡ Opening → (M n Mobile).endpoint.state ≡ Open →
-        (M n Mobile).endpoint.sabm_info ≡ info_at n → (M n Mobile).answer ≡ None → (L n Network).endpoint.state ≡ Open → MobileSlot n
+        (M n Mobile).endpoint.sabm_info ≡ info_at n → (M n Mobile).answer ≡ None → (L n Network).endpoint.state ≡ Open →
+        MobileSlot n
     stays : (L n Mobile).endpoint.state ≡ Open → (M n Mobile).endpoint.state ≡ Open →
         (M n Mobile).endpoint.sabm_info ≡ info_at n →
         IfSome (M n Mobile).answer (λ f. Brings Mobile false (info_at n) f.cr f.content) → MobileSlot n
@@ -113,7 +116,8 @@ module _ (r : Run) (u : NeverReleases r) where
     mobile_opening h o = by_after (opening_arrives (L n Mobile) ((sound r u n).good Mobile).sapi (young_at n Network) (role_is Mobile) o
         (arriving_at r n Mobile) (h.frames Network r.delay))
       where
-        by_after : (after Mobile ≡ L n Mobile) ⊎ ((after Mobile ≡ opened (L n Mobile)) × (young_at n Network ≡ false)) → MobileSlot n
+        by_after : (after Mobile ≡ L n Mobile) ⊎ ((after Mobile ≡ opened (L n Mobile)) × (young_at n Network ≡ false)) →
+            MobileSlot n
         by_after (inl e) = by_calls (calls_of Mobile)
           where
             by_calls : CalledTo Mobile (after Mobile) (after_calls (turn_at r n Mobile).calls (after Mobile)) → MobileSlot n
@@ -160,12 +164,14 @@ module _ (r : Run) (u : NeverReleases r) where
     pub mobile_slot : Known n → MobileSlot n
     mobile_slot h = by_state h.mobile
       where
-        by_state : ((L n Mobile).endpoint.state ≡ Idle) ⊎ ((L n Mobile).endpoint.state ≡ Opening) ⊎ ((L n Mobile).endpoint.state ≡ Open) →
+        by_state : ((L n Mobile).endpoint.state ≡ Idle) ⊎ ((L n Mobile).endpoint.state ≡ Opening)
+            ⊎ ((L n Mobile).endpoint.state ≡ Open) →
             MobileSlot n
         by_state (inl i) = mobile_idle i
         by_state (inr (inl o)) = mobile_opening h o
         by_state (inr (inr o)) =
-            let x = open_slot Mobile o (open_arrives (L n Mobile) ((sound r u n).good Mobile).sapi (young_at n Network) o (none Mobile) Mobile
+            let x = open_slot Mobile o
+            (open_arrives (L n Mobile) ((sound r u n).good Mobile).sapi (young_at n Network) o (none Mobile) Mobile
             (role_is Mobile) (arriving_at r n Mobile) (h.frames Network r.delay)) in
             stays o x.0 x.1 x.2
 
@@ -208,7 +214,8 @@ module _ (r : Run) (u : NeverReleases r) where
         by_state : ((L n Network).endpoint.state ≡ Idle) ⊎ ((L n Network).endpoint.state ≡ Open) → NetworkSlot n
         by_state (inl i) = network_idle h i
         by_state (inr o) =
-            let x = open_slot Network o (open_arrives (L n Network) ((sound r u n).good Network).sapi (young_at n Mobile) o (none Network) Network
+            let x = open_slot Network o
+            (open_arrives (L n Network) ((sound r u n).good Network).sapi (young_at n Mobile) o (none Network) Network
             (role_is Network) (arriving_at r n Network) (rw (← h.info o) at (h.frames Mobile r.delay))) in
             stays o x.0 x.1 (rw (h.info o) at x.2)
 
@@ -372,8 +379,11 @@ module _ (r : Run) (u : NeverReleases r) where
     older : (role : Role) (x : Option Frame) → ((L n Mobile).endpoint.state ≡ Idle → x ≡ None) →
         IfSome x (λ f. (f.sapi ≡ 0) × Brings role (young_at n role) (info_at n) f.cr f.content) → Sent role x
     older role None q b = tt
-    older role (Some f) q b = (b.0, rw (same_info (mobile_slot n h) not_idle)
-        (still_brings role (info_at n) f.cr f.content (young_at n role) (young_at (suc n) role) (young_next role) b.1))
+    older role (Some f) q b = (
+      b.0,
+      rw (same_info (mobile_slot n h) not_idle)
+          (still_brings role (info_at n) f.cr f.content (young_at n role) (young_at (suc n) role) (young_next role) b.1),
+    )
       where
         not_idle : (L n Mobile).endpoint.state ≢ Idle
         not_idle i = some_none (q i)

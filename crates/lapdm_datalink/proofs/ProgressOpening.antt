@@ -1,31 +1,25 @@
 -- From the start of a run until the mobile opens: its SABM, and what a network that is open already sends, charged to losses.
-use Rattle.std.specs.Prelude.{◌≡◌, ◌≢◌, ℕ, zero, suc, ◌+◌, ◌-◌, ◌*◌, ◌≤◌, Bool, true, false, ◌⊎◌, nat_eq, nat_le, List}
-use Rattle.std.specs.Prelude.{Option, Some, None, IfSome}
-use Rattle.std.proofs.Common.{inl, inr, arith, refl, ap, sym, ◌∙◌}
-use Rattle.std.proofs.Math.Nat.{mul-add, mul-one}
-use Rattle.lapdm_frame.specs.Content.{Content, I, Rr, Rej, Ua, Frame}
-use Rattle.lapdm_end.specs.lapdm_window.declared.State.TheVariants.{Idle, Opening, Open, Closed}
-use Rattle.lapdm_end.specs.lapdm_window.Ends.{Role, Mobile, Network, awaits_answer, awaits_ack, vs, response_frame}
-use Rattle.lapdm_end.specs.lapdm_window.Calls.{is_idle}
-use Rattle.lapdm_link.specs.Events.{other}
-use Rattle.lapdm_datalink.specs.Links.{LinkState, slot_outcome, after_slot, is_due}
-use Rattle.lapdm_datalink.specs.Slots.{nr_in, nr_of}
-use Rattle.lapdm_datalink.specs.Channels.{Run, after_calls, after_arriving, carried}
-use Rattle.lapdm_datalink.specs.Progress.{link_at, turn_at, arriving_at, ready_at, frame_at, is_loss_at, is_lossy, one_if, round_trip}
-use Rattle.lapdm_datalink.specs.Progress.{waiting_slots, lossy_slots, expiries, expires_in, answer_goes, is_i_frame}
-use Rattle.lapdm_datalink.proofs.ProgressSteps.{acked, issued, aired, Moves}
-use Rattle.lapdm_datalink.proofs.ProgressLink.{slot_acked, slot_issued, aired_unsent, aired_sent}
-use Rattle.lapdm_datalink.proofs.ProgressStart.{ready_moves, ready_due, ready_t200, idle_silent, is_young}
-use Rattle.lapdm_datalink.proofs.ProgressRuns.{NeverReleases, sound, slotted_in, link_step, arrived}
-use Rattle.lapdm_datalink.proofs.ProgressWaits.{SlotWay, sends, blocked, counts, slot_way}
-use Rattle.lapdm_datalink.proofs.ProgressPaid.{le_of, not_le_of}
-use Rattle.lapdm_datalink.proofs.ProgressExpiries.{waits_at, loss_of}
-use Rattle.lapdm_datalink.proofs.ProgressWaiting.{answers_first, answering_slots, open_awaits, due_clock, not_due, no_ack, ack_none, ack_one}
-use Rattle.lapdm_datalink.proofs.ProgressWaiting.{expires_due, goes_it, lossy_by, eq_of, both, clock_within}
+use Rattle.{
+  std.specs.Prelude.{◌≡◌, ℕ, suc, ◌+◌, ◌-◌, ◌*◌, ◌≤◌, Bool, true, false, ◌⊎◌, nat_eq, nat_le, List, Some},
+  std.{specs.Prelude.None, proofs.{Common.{inl, inr, arith, refl, ap, sym, ◌∙◌}, Math.Nat.{mul-add, mul-one}}},
+  lapdm_frame.specs.Content.{Content, I, Rr, Rej, Frame},
+  lapdm_end.specs.lapdm_window.{
+    declared.State.TheVariants.{Idle, Opening, Open},
+    Ends.{Role, Mobile, Network, awaits_answer},
+    Calls.is_idle,
+  },
+  lapdm_link.specs.Events.other,
+  lapdm_datalink.{
+    specs.{Links.{LinkState, slot_outcome, after_slot}, Slots.nr_in, Channels.{Run, after_calls, after_arriving}, Progress.link_at},
+    specs.Progress.{turn_at, arriving_at, ready_at, frame_at, is_lossy, one_if, round_trip, waiting_slots, lossy_slots, expiries},
+    specs.Progress.expires_in,
+    proofs.{ProgressStart.{ready_t200, idle_silent}, ProgressRuns.{NeverReleases, sound, link_step, arrived}, ProgressPaid.le_of},
+    proofs.{ProgressPaid.not_le_of, ProgressExpiries.loss_of, ProgressWaiting.{answers_first, answering_slots, lossy_by, eq_of}},
+    proofs.{ProgressFrames.{Brings, sabm_of, ua_of}, ProgressKnown.{Known, Unclosed, MobileSlot, NetworkSlot}},
+  },
+}
 use Rattle.lapdm_datalink.proofs.ProgressFrames as F
-use Rattle.lapdm_datalink.proofs.ProgressFrames.{Brings, sabm_of, ua_of}
 use Rattle.lapdm_datalink.proofs.ProgressKnown as K
-use Rattle.lapdm_datalink.proofs.ProgressKnown.{Known, Unclosed, MobileSlot, NetworkSlot}
 
 pub true-false : true ≡ false → ⊥
 true-false h = cc
@@ -335,7 +329,8 @@ module _ (r : Run) (u : NeverReleases r) (long : round_trip r.delay ≤ r.t200) 
 
           y : ((slot_outcome (M n Mobile)).frame ≡ Some (sabm_of (M n Mobile).endpoint.sabm_info))
               × ((slot_outcome (M n Mobile)).link.clock ≡ (M n Mobile).t200)
-          y = F.opening_again (M n Mobile) (K.sapi_next r u n Mobile) (K.role_next r u n Mobile) (m_opening n x e) (m_none n x e) (m_sent n x e) zero_clock
+          y = F.opening_again (M n Mobile) (K.sapi_next r u n Mobile) (K.role_next r u n Mobile) (m_opening n x e) (m_none n x e)
+              (m_sent n x e) zero_clock
               (ap (λ l. l.endpoint.state) (sym (link_step r n Mobile)) ∙ K.state_next r u n c Mobile ∙ (m_opening n x e))
 
           sent : frame_at r n Mobile ≡ Some (sabm_of (info_at (suc n)))
@@ -343,31 +338,36 @@ module _ (r : Run) (u : NeverReleases r) (long : round_trip r.delay ≤ r.t200) 
 
           more : E (suc n) Mobile ≡ E n Mobile + 1
           more = expiry_step n Mobile ∙ ap (λ b. E n Mobile + one_if b)
-              (F.opening_expires (M n Mobile) (K.sapi_next r u n Mobile) (K.role_next r u n Mobile) (m_opening n x e) (m_none n x e) (m_sent n x e) zero_clock)
+              (F.opening_expires (M n Mobile) (K.sapi_next r u n Mobile) (K.role_next r u n Mobile) (m_opening n x e) (m_none n x e)
+              (m_sent n x e) zero_clock)
 
           product : r.t200 * E (suc n) Mobile ≡ r.t200 * (E n Mobile + 1)
           product = ap (λ k. r.t200 * k) more
 
       call_on : 2 ≤ (L n Mobile).clock → (z : Calling (suc n)) × (z.v ≡ x.v) × (E (suc n) Mobile ≡ E n Mobile)
-      call_on k = (record {
-        v = x.v;
-        v1 = x.v1;
-        now = omega (arith, x.now);
-        state = K.state_next r u n c Mobile ∙ (m_opening n x e);
-        time = omega (arith, ap (λ l. l.clock) (link_step r n Mobile), y.0, (m_clock n x e), x.time, k);
-        early = omega (arith, x.time, k);
-        sabm = x.sabm ∙ ap (λ i. Some (sabm_of i)) (sym (info_same n x e));
-        count = x.count ∙ ap (λ j. x.v1 + r.t200 * j) (sym same);
-        before = x.before;
-        waits = omega (
-          arith,
-          waits_step n Mobile,
-          x.waits,
-          ap one_if (F.opening_awaits (M n Mobile) (m_opening n x e)),
-          ap (λ j. r.t200 * j) same,
-        );
-        fate = rw same (by_case x.fate);
-      }, refl, same)
+      call_on k = (
+        record {
+          v = x.v;
+          v1 = x.v1;
+          now = omega (arith, x.now);
+          state = K.state_next r u n c Mobile ∙ (m_opening n x e);
+          time = omega (arith, ap (λ l. l.clock) (link_step r n Mobile), y.0, (m_clock n x e), x.time, k);
+          early = omega (arith, x.time, k);
+          sabm = x.sabm ∙ ap (λ i. Some (sabm_of i)) (sym (info_same n x e));
+          count = x.count ∙ ap (λ j. x.v1 + r.t200 * j) (sym same);
+          before = x.before;
+          waits = omega (
+            arith,
+            waits_step n Mobile,
+            x.waits,
+            ap one_if (F.opening_awaits (M n Mobile) (m_opening n x e)),
+            ap (λ j. r.t200 * j) same,
+          );
+          fate = rw same (by_case x.fate);
+        },
+        refl,
+        same,
+      )
         where
           y : ((slot_outcome (M n Mobile)).link.clock ≡ (M n Mobile).clock) × (expires_in (M n Mobile) ≡ false)
           y = F.opening_counts (M n Mobile) (K.sapi_next r u n Mobile) (K.role_next r u n Mobile) (m_opening n x e) (m_none n x e)

@@ -10,9 +10,9 @@ use Rattle.{
     specs.Progress.{link_at, turn_at, arriving_at, ready_at, frame_at},
     proofs.{ProgressSteps.{acked, issued, accepted, aired, accepts_taken}, ProgressLink.{ns_in, poll_in}, ProgressStart.kept_counts},
     proofs.{ProgressAnswers.{gets_ack, i_arrives, answers}, ProgressRuns.{sound, slotted_in, link_step, arrived, counts, counted}},
+    proofs.ProgressRuns.NeverReleases,
   },
 }
-use Rattle.lapdm_datalink.proofs.ProgressRuns.{NeverReleases}
 use Rattle.lapdm_datalink.proofs.ProgressCounts as C
 
 pub arrived_other : (r : Run) (n : ℕ) (role : Role) →

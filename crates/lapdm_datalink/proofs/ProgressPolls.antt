@@ -9,31 +9,26 @@ use Rattle.{
   lapdm_end.specs.lapdm_window.{
     declared.State.TheVariants.{Open, Closed},
     segmenting.Segments.Segment,
-    Ends.{Role, Mobile, Network, EndpointState, vr, command_cr, first_unacked_segment},
+    Ends.{Role, Mobile, Network, EndpointState, vr, command_cr, first_unacked_segment, awaits_ack},
     Rules.nr_acknowledges_segment,
     Calls.{awaited_frame, t200_expiry},
   },
   lapdm_link.specs.Events.other,
   lapdm_datalink.{
     specs.{Links.{LinkState, slot_outcome, is_due, keeps_back, is_plain_rr, is_awaiting_kind, first_frame}, Slots.took, Channels.Run},
-    specs.{Channels.after_arriving, Progress.{link_at, turn_at, arriving_at, ready_at, frame_at, round_trip, one_if}},
-    specs.Progress.{is_i_frame, is_i_content, is_repetition, is_repeated_content, lossy_slots, expiries, AreOpen, Progress},
+    specs.{Channels.after_arriving, Progress.{link_at, turn_at, arriving_at, ready_at, frame_at, round_trip, one_if, is_i_frame}},
+    specs.Progress.{is_i_content, is_repetition, is_repeated_content, lossy_slots, expiries, AreOpen, Progress, expires_in, answer_goes},
     proofs.{
       ProgressSteps.{IsAnswerOf, taken},
       ProgressLink.{From, nowhere, owed, first, again, slot_from, reply_with, frame_taken},
       ProgressStart.{ready_called, ready_role, slot_open},
-      ProgressWaits.{SlotWay, sends, blocked, counts, slot_way},
-      ProgressRuns.{sound, link_step},
+      ProgressRuns.{sound, link_step, NeverReleases},
       ProgressPaid.{in_sequence_or_polls, taken_is, arrived_other, le_of, not_le_of},
-      ProgressExpiries.{true-false, owes_ready, i_parts},
+      ProgressExpiries.{true-false, owes_ready, i_parts, repeats, poll_is_i, answer_no_i},
       ProgressWaiting.{answers_first, answering_slots, waits_at_most, repeats_at_most, open_closed},
     },
   },
 }
-use Rattle.lapdm_datalink.specs.Progress.{expires_in, answer_goes}
-use Rattle.lapdm_datalink.proofs.ProgressExpiries.{repeats, poll_is_i, answer_no_i}
-use Rattle.lapdm_end.specs.lapdm_window.Ends.{awaits_ack}
-use Rattle.lapdm_datalink.proofs.ProgressRuns.{NeverReleases}
 
 -- ---- what an open link owes after a frame that does not poll
 

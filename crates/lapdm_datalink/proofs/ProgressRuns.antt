@@ -1,13 +1,13 @@
 -- A run of the links of SAPI 0, slot by slot: what each link is between slots, what arrives, and the counts of both.
 use Rattle.{
   std.specs.Prelude.{◌≡◌, ℕ, zero, suc, ◌+◌, ◌%◌, ◌≤◌, Bool, true, false, ◌⊎◌, ◌∷◌, length, get_or},
-  std.{specs.Prelude.{Option, Some, None}, proofs.{Common.{inl, inr, arith, refl, ap, sym, ◌∙◌}, lemmas.List.get_or_past}},
+  std.{specs.Prelude.{Option, Some, None, All}, proofs.{Common.{inl, inr, arith, refl, ap, sym, ◌∙◌}, lemmas.List.get_or_past}},
   lapdm_frame.specs.Content.Frame,
   lapdm_end.specs.lapdm_window.{Ends.{Role, Mobile, Network, vr, vs}, Calls.is_idle},
   lapdm_link.specs.Events.other,
   lapdm_datalink.{
     specs.{Links.{LinkState, slot_outcome, after_slot}, Slots.{nr_in, nr_of}, Channels.{Run, channel_at, side_at, side_after, carried}},
-    specs.{Channels.{after_calls, after_arriving}, Progress.{link_at, turn_at, arriving_at, ready_at, frame_at}},
+    specs.{Channels.{after_calls, after_arriving, IsUse}, Progress.{link_at, turn_at, arriving_at, ready_at, frame_at}},
     proofs.{
       ProgressSteps.{acked, issued, accepted, aired, Good},
       ProgressLink.{Slotted, ns_in, ns_of},
@@ -15,8 +15,6 @@ use Rattle.{
     },
   },
 }
-use Rattle.std.specs.Prelude.{All}
-use Rattle.lapdm_datalink.specs.Channels.{IsUse}
 use Rattle.lapdm_datalink.proofs.ProgressCounts as C
 
 -- layer 3 releases no link in any slot

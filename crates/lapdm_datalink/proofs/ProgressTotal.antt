@@ -1,41 +1,25 @@
 -- A link lets an answer go before its own frame only after T200 of the other side expired, the network also after the first SABM.
-use Rattle.std.specs.Prelude.{◌≡◌, ◌≢◌, ℕ, zero, suc, ◌+◌, ◌-◌, ◌*◌, ◌≤◌, Bool, true, false, not, ◌⊎◌, nat_eq, nat_le, nat_lt, List, [], ◌∷◌}
-use Rattle.std.specs.Prelude.{Option, Some, None, All}
-use Rattle.std.proofs.Common.{inl, inr, arith, refl, ap, sym, ◌∙◌}
-use Rattle.std.proofs.lemmas.List.Elements.{All-head, All-tail}
-use Rattle.std.proofs.Math.Nat.{add-mul, mul-add, mul-one, one-mul}
-use Rattle.lapdm_frame.specs.Content.{Content, I, Rr, Rej, Ua, Frame}
-use Rattle.lapdm_end.specs.lapdm_window.declared.State.TheVariants.{Idle, Opening, Open, Closed}
-use Rattle.lapdm_end.specs.lapdm_window.declared.Sapi.TheVariants.{Zero}
-use Rattle.lapdm_end.specs.lapdm_window.declared.Refused.{Refused}
-use Rattle.lapdm_end.specs.lapdm_window.Ends.{Role, Mobile, Network, EndpointState, awaits_answer, awaits_ack, n200}
-use Rattle.lapdm_end.specs.lapdm_window.Tables.{outcome_of_reply}
-use Rattle.lapdm_end.specs.lapdm_window.Calls.{Call, Opens, Sends, refusal_of, is_idle, t200_expiry}
-use Rattle.lapdm_link.specs.Events.{other}
-use Rattle.lapdm_datalink.specs.Links.{LinkState, slot_outcome, after_slot, after_call, after_frame, is_due, keeps_back, is_closed}
-use Rattle.lapdm_datalink.specs.Channels.{Run, IsUse, after_arriving, after_calls, after_call_unless, carried}
-use Rattle.lapdm_datalink.specs.Progress.{link_at, turn_at, arriving_at, ready_at, frame_at, round_trip, waiting_slots, lossy_slots}
-use Rattle.lapdm_datalink.specs.Progress.{one_if, expires_in, answer_goes, frames_at, behind_ua, FromStart}
-use Rattle.lapdm_datalink.proofs.ProgressSteps.{acked, issued, taken, outcome_endpoint}
-use Rattle.lapdm_datalink.proofs.ProgressLink.{reply_with, frame_taken, kept_back}
-use Rattle.lapdm_datalink.proofs.ProgressRuns.{NeverReleases, sound, link_step, nothing_arrives}
-use Rattle.lapdm_datalink.proofs.ProgressStart.{is_young, idle_silent}
-use Rattle.lapdm_datalink.proofs.ProgressPaid.{le_of, not_le_of, arrived_other}
-use Rattle.lapdm_datalink.proofs.ProgressExpiries.{old_enough, waits_at}
-use Rattle.lapdm_datalink.proofs.ProgressPolls.{goes_first, is_for_poll}
-use Rattle.lapdm_datalink.proofs.ProgressWaiting as P
-use Rattle.lapdm_datalink.proofs.ProgressWaiting.{Stage, quiet, unsent, failed, going, pending, answers_first, times_le, ack_one, clock_within}
-use Rattle.lapdm_datalink.proofs.ProgressWaiting.{expires_due, due_clock, no_ack}
+use Rattle.{
+  std.specs.Prelude.{◌≡◌, ℕ, zero, suc, ◌+◌, ◌-◌, ◌≤◌, Bool, true, false, not, ◌⊎◌, nat_le, None},
+  std.proofs.Common.{inl, inr, arith, refl, ap, sym, ◌∙◌},
+  lapdm_end.specs.lapdm_window.{declared.State.TheVariants.{Idle, Opening, Open}, Ends.{Role, Mobile, Network}, Calls.is_idle},
+  lapdm_link.specs.Events.other,
+  lapdm_datalink.{
+    specs.{Links.{LinkState, after_slot}, Channels.{Run, after_arriving, carried}, Progress.{link_at, turn_at, arriving_at, ready_at}},
+    specs.Progress.{frame_at, round_trip, one_if, expires_in},
+    proofs.{
+      ProgressRuns.{NeverReleases, sound, nothing_arrives},
+      ProgressStart.idle_silent,
+      ProgressPaid.{le_of, not_le_of, arrived_other},
+      ProgressPolls.{goes_first, is_for_poll},
+      ProgressWaiting.answers_first,
+      ProgressKnown.{Known, Unclosed, MobileSlot, NetworkSlot, known},
+      ProgressOpening.{some_none, E, B, expiry_step, answer_step},
+    },
+  },
+}
 use Rattle.lapdm_datalink.proofs.ProgressFrames as F
 use Rattle.lapdm_datalink.proofs.ProgressKnown as K
-use Rattle.lapdm_datalink.proofs.ProgressKnown.{Known, Unclosed, MobileSlot, NetworkSlot, known}
-use Rattle.lapdm_datalink.proofs.ProgressOpening.{true-false, times_one, idle_not_open, opening_not_open, some_none, idle_rests, W, E, B, Lo}
-use Rattle.lapdm_datalink.proofs.ProgressOpening.{waits_step, expiry_step, answer_step, loss_step, Calling, Through, Resting, must_fail}
-use Rattle.lapdm_datalink.proofs.ProgressOpening.{not_due_yet}
-use Rattle.lapdm_datalink.proofs.ProgressEarly as Y
-use Rattle.lapdm_datalink.proofs.ProgressEarly.{Early, Alone, late_open, expires_not}
-use Rattle.lapdm_datalink.proofs.ProgressWhole as Z
-use Rattle.lapdm_datalink.proofs.ProgressWhole.{Work, Whole, whole, few, IsUnheard, mobile_work}
 
 pub idle_opening : Idle ≡ Opening → ⊥
 idle_opening q = cc
@@ -64,13 +48,15 @@ module _ (r : Run) (u : NeverReleases r) where
 
   -- nothing that is not sent arrives
   silent_then : (q : ℕ) (role : Role) → frame_at r q role ≡ None → answers_first r (suc q + r.delay) (other role) ≡ true → ⊥
-  silent_then q role e h = owes_for (suc q + r.delay) (other role) (arrived_other r q role ∙ carried_nothing (turn_at r q role).is_lost e) h
+  silent_then q role e h = owes_for (suc q + r.delay) (other role)
+      (arrived_other r q role ∙ carried_nothing (turn_at r q role).is_lost e) h
     where
       carried_nothing : (b : Bool) → frame_at r q role ≡ None → carried b (frame_at r q role) ≡ None
       carried_nothing true x = refl
       carried_nothing false x = x
 
-  idle_frame : (q : ℕ) (role : Role) → (link_at r q role).endpoint.state ≡ Idle → ready_at r q role ≡ after_slot (link_at r q role) →
+  idle_frame : (q : ℕ) (role : Role) → (link_at r q role).endpoint.state ≡ Idle →
+      ready_at r q role ≡ after_slot (link_at r q role) →
       frame_at r q role ≡ None
   idle_frame q role i e = idle_silent (ready_at r q role) (ap (λ l. is_idle l.endpoint.state) e ∙ ap is_idle i)
       (ap (λ l. l.answer) e ∙ ((sound r u q).settled role).owes)

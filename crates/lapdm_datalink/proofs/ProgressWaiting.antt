@@ -1,7 +1,7 @@
 -- How long a link of SAPI 0 waits while both are open: each slot of waiting is charged to a segment, to a loss, or to an answer.
 use Rattle.{
-  std.specs.Prelude.{◌≡◌, ◌≢◌, ℕ, zero, suc, ◌+◌, ◌-◌, ◌*◌, ◌≤◌, Bool, true, false, not, ◌&&◌},
-  std.{specs.Prelude.{◌||◌, ◌⊎◌, nat_le, nat_eq, List, Some}, proofs.Common.{inl, inr, arith, refl, ap, sym, ◌∙◌}},
+  std.specs.Prelude.{◌≡◌, ◌≢◌, ℕ, zero, suc, ◌+◌, ◌-◌, ◌*◌, ◌≤◌, Bool, true, false, ◌&&◌, ◌||◌},
+  std.{specs.Prelude.{◌⊎◌, nat_le, nat_eq, List, Some}, proofs.Common.{inl, inr, arith, refl, ap, sym, ◌∙◌}},
   std.proofs.Math.Nat.{mul-add, mul-one},
   lapdm_frame.specs.Content.{I, Frame},
   lapdm_end.specs.lapdm_window.{
@@ -10,23 +10,20 @@ use Rattle.{
   },
   lapdm_link.specs.Events.other,
   lapdm_datalink.{
-    specs.{Links.{LinkState, slot_outcome, is_due}, Channels.Run, Progress.{link_at, turn_at, arriving_at, ready_at, frame_at, is_loss_at}},
-    specs.Progress.{round_trip, is_i_frame, is_repetition, is_lossy, one_if, waiting_slots, lossy_slots, expiries},
-    specs.Progress.{AreOpen, acked_at},
+    specs.{Links.{LinkState, slot_outcome, is_due, keeps_back}, Channels.Run, Progress.{link_at, turn_at, arriving_at, ready_at, frame_at}},
+    specs.Progress.{is_loss_at, round_trip, is_i_frame, is_lossy, one_if, waiting_slots, lossy_slots, expiries, AreOpen, acked_at},
+    specs.Progress.{expires_in, answer_goes},
     proofs.{
       ProgressSteps.{acked, issued, aired, Moves},
       ProgressLink.{slot_acked, slot_issued, aired_unsent, aired_sent},
       ProgressStart.{ready_t200, ready_moves, ready_due, slot_open, clock_after},
       ProgressWaits.{SlotWay, sends, blocked, counts, slot_way},
-      ProgressRuns.{sound, slotted_in, link_step, counted},
+      ProgressRuns.{sound, slotted_in, link_step, counted, NeverReleases},
       ProgressPaid.{acked_in_time, answered_frame, le_of, not_le_of},
-      ProgressExpiries.{repeats, poll_is_i, answer_no_i, i_parts, loss_of, true-false, owes_ready, waits_at, awaits_same},
+      ProgressExpiries.{i_parts, loss_of, true-false, waits_at, awaits_same},
     },
   },
 }
-use Rattle.lapdm_datalink.specs.Progress.{expires_in, answer_goes}
-use Rattle.lapdm_datalink.specs.Links.{keeps_back}
-use Rattle.lapdm_datalink.proofs.ProgressRuns.{NeverReleases}
 
 -- B: in how many of these slots this link sends an answer though the frame that awaits an answer is due
 abbrev pub answers_first : (run : Run) (slot : ℕ) (role : Role) → Bool
@@ -404,19 +401,30 @@ module _ (r : Run) (u : NeverReleases r) (long : round_trip r.delay ≤ r.t200) 
             paid_next = 0;
             used_next = 0;
             stage = failed (omega (arith, c, (due_clock (M n) due).0)) refl;
-            bound = omega (arith, ap one_if (due_clock (M n) due).1, settle paid used s (λ g. not_yet g due), ap one_if (answers_it due i));
+            bound = omega (
+              arith,
+              ap one_if (due_clock (M n) due).1,
+              settle paid used s (λ g. not_yet g due),
+              ap one_if (answers_it due i),
+            );
             repays = omega (arith, no_expiry (no_poll i), was_failed paid used s due e);
           }
           yields paid used s due i sent c false e = record {
             paid_next = 0;
             used_next = 0;
             stage = unsent refl refl (sent ∙ e);
-            bound = omega (arith, ap one_if (due_clock (M n) due).1, settle paid used s (λ g. not_yet g due), ap one_if (answers_it due i));
+            bound = omega (
+              arith,
+              ap one_if (due_clock (M n) due).1,
+              settle paid used s (λ g. not_yet g due),
+              ap one_if (answers_it due i),
+            );
             repays = omega (arith, no_expiry (no_poll i));
           }
 
           -- its frame is not due, and its clock counts
-          module _ (w : awaits_answer (M n).endpoint ≡ true) (due : is_due (M n) ≡ false) (keeps : (L (suc n)).is_sent ≡ (M n).is_sent)
+          module _ (w : awaits_answer (M n).endpoint ≡ true) (due : is_due (M n) ≡ false)
+              (keeps : (L (suc n)).is_sent ≡ (M n).is_sent)
               (runs : (L (suc n)).clock ≡ (M n).clock)
             where
               ticks : 1 ≤ (M n).clock
@@ -494,7 +502,8 @@ module _ (r : Run) (u : NeverReleases r) (long : round_trip r.delay ≤ r.t200) 
                 repays = omega (arith, silent, ap one_if lossy);
               }
 
-              loss_there : (g : Going n) → suc g.slot + r.delay ≡ n → (turn_at r (suc g.slot + r.delay) (other role)).is_lost ≡ true →
+              loss_there : (g : Going n) → suc g.slot + r.delay ≡ n →
+                  (turn_at r (suc g.slot + r.delay) (other role)).is_lost ≡ true →
                   is_lossy r n ≡ true
               loss_there g at_n lost =
                   let f = i_parts (frame_at r g.slot role) g.sent in

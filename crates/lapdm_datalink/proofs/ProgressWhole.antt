@@ -1,29 +1,28 @@
 -- A run from its start, slot by slot: each side's waiting is paid by its frames and by lossy slots.
-use Rattle.std.specs.Prelude.{◌≡◌, ◌≢◌, ℕ, zero, suc, ◌+◌, ◌-◌, ◌*◌, ◌≤◌, Bool, true, false, ◌⊎◌, nat_eq, nat_le, List}
-use Rattle.std.specs.Prelude.{Option, Some, None}
-use Rattle.std.proofs.Common.{inl, inr, arith, refl, ap, sym, ◌∙◌}
-use Rattle.std.proofs.Math.Nat.{mul-add, mul-one}
-use Rattle.lapdm_end.specs.lapdm_window.declared.State.TheVariants.{Idle, Opening, Open, Closed}
-use Rattle.lapdm_end.specs.lapdm_window.Ends.{Role, Mobile, Network, awaits_answer, awaits_ack}
-use Rattle.lapdm_link.specs.Events.{other}
-use Rattle.lapdm_datalink.specs.Links.{LinkState, slot_outcome, after_slot, is_due}
-use Rattle.lapdm_datalink.specs.Channels.{Run}
-use Rattle.lapdm_datalink.specs.Progress.{link_at, turn_at, arriving_at, ready_at, frame_at, round_trip}
-use Rattle.lapdm_datalink.specs.Progress.{is_lossy, one_if, expires_in}
-use Rattle.lapdm_datalink.proofs.ProgressSteps.{acked, issued}
-use Rattle.lapdm_datalink.proofs.ProgressRuns.{NeverReleases, sound, link_step}
-use Rattle.lapdm_datalink.proofs.ProgressStart.{is_young}
-use Rattle.lapdm_datalink.proofs.ProgressPaid.{le_of, not_le_of}
-use Rattle.lapdm_datalink.proofs.ProgressExpiries.{old_enough}
+use Rattle.{
+  std.specs.Prelude.{◌≡◌, ℕ, zero, suc, ◌+◌, ◌-◌, ◌*◌, ◌≤◌, Bool, true, false, ◌⊎◌, nat_le},
+  std.proofs.{Common.{inl, inr, arith, refl, ap, sym, ◌∙◌}, Math.Nat.{mul-add, mul-one}},
+  lapdm_end.specs.lapdm_window.{declared.State.TheVariants.{Idle, Opening, Open}, Ends.{Role, Mobile, Network, awaits_ack}},
+  lapdm_link.specs.Events.other,
+  lapdm_datalink.{
+    specs.{Channels.Run, Progress.{link_at, ready_at, round_trip, is_lossy, one_if}},
+    proofs.{
+      ProgressSteps.acked,
+      ProgressRuns.{NeverReleases, link_step},
+      ProgressStart.is_young,
+      ProgressPaid.{le_of, not_le_of},
+      ProgressExpiries.old_enough,
+      ProgressWaiting.{Stage, Next, pending, quiet, unsent, failed, going, times_le, no_ack, clock_within, eq_of},
+      ProgressKnown.{Known, Unclosed, MobileSlot, NetworkSlot, known},
+      ProgressOpening.{times_one, idle_not_open, W, E, B, Lo, waits_step, expiry_step, answer_step, loss_step, Calling, Through, Resting},
+      ProgressOpening.{rest_on, begin, call_next, confirmed, not_due_yet, through_next, some_none},
+      ProgressEarly.{Early, Alone, early_next, late_open, times_less},
+    },
+  },
+}
 use Rattle.lapdm_datalink.proofs.ProgressWaiting as P
-use Rattle.lapdm_datalink.proofs.ProgressWaiting.{Stage, Next, pending, quiet, unsent, failed, going, times_le, no_ack, clock_within, eq_of}
 use Rattle.lapdm_datalink.proofs.ProgressKnown as K
-use Rattle.lapdm_datalink.proofs.ProgressKnown.{Known, Unclosed, MobileSlot, NetworkSlot, known}
-use Rattle.lapdm_datalink.proofs.ProgressOpening.{true-false, times_one, idle_not_open, opening_not_open, W, E, B, Lo, waits_step, expiry_step}
-use Rattle.lapdm_datalink.proofs.ProgressOpening.{answer_step, loss_step, Calling, Through, Resting, rest_on, begin, call_next, confirmed}
-use Rattle.lapdm_datalink.proofs.ProgressOpening.{must_fail, not_due_yet, through_next, some_none}
 use Rattle.lapdm_datalink.proofs.ProgressEarly as Y
-use Rattle.lapdm_datalink.proofs.ProgressEarly.{Early, Alone, early_next, late_open, times_less}
 
 module _ (r : Run) (u : NeverReleases r) (long : round_trip r.delay ≤ r.t200) where
   -- the link waited this long up to slot n, with so many frames before its I frames
@@ -180,7 +179,8 @@ module _ (r : Run) (u : NeverReleases r) (long : round_trip r.delay ≤ r.t200) 
         suc (suc v + r.delay) ≤ n → (link_at r n Network).endpoint.state ≡ Open →
         Work Network 0 (suc (suc v + (1 + 2 * r.delay))) n → Whole n
     joined : (link_at r n Mobile).endpoint.state ≡ Open → (n0 n1 : ℕ) → n0 ≤ n →
-        ((k : ℕ) → n0 ≤ k → k ≤ n → (link_at r k Network).endpoint.state ≡ Open) → Work Mobile 1 n0 n → n1 ≤ suc n + r.delay →
+        ((k : ℕ) → n0 ≤ k → k ≤ n → (link_at r k Network).endpoint.state ≡ Open) → Work Mobile 1 n0 n →
+        n1 ≤ suc n + r.delay →
         ((k : ℕ) → n1 ≤ k → k ≤ n → (link_at r k Mobile).endpoint.state ≡ Open) → Work Network 0 n1 n → Whole n
 
   module _ (n : ℕ) (h : Known r u n) (c : Unclosed r u (suc n)) where
@@ -203,14 +203,16 @@ module _ (r : Run) (u : NeverReleases r) (long : round_trip r.delay ≤ r.t200) 
         by_case false e = let same : k ≡ suc n = omega (arith, not_le_of k n e, b) in rw same now
 
     -- the slot in which the mobile opens
-    joins_mobile : Calling r u long n → (ready_at r n Mobile).endpoint.state ≡ Open → (link_at r n Network).endpoint.state ≡ Open →
+    joins_mobile : Calling r u long n → (ready_at r n Mobile).endpoint.state ≡ Open →
+        (link_at r n Network).endpoint.state ≡ Open →
         Work Mobile 1 n (suc n)
     joins_mobile x o t = work_next Mobile 1 n n (mobile_work n x) c (omega arith) o
         (λ k a b. (let same : k ≡ n = omega (arith, a, b) in rw same t)) (λ a. (network_open t).1)
 
     mobile_there : (link_at r n Network).endpoint.state ≡ Open → (k : ℕ) → n ≤ k → k ≤ suc n →
         (link_at r k Network).endpoint.state ≡ Open
-    mobile_there t k a b = at_last k n Network (λ j a' b'. (let same : j ≡ n = omega (arith, a', b') in rw same t)) (network_open t).1 a b
+    mobile_there t k a b = at_last k n Network (λ j a' b'. (let same : j ≡ n = omega (arith, a', b') in rw same t))
+        (network_open t).1 a b
 
     idle_opening : Idle ≡ Opening → ⊥
     idle_opening q = cc
@@ -286,8 +288,10 @@ module _ (r : Run) (u : NeverReleases r) (long : round_trip r.delay ≤ r.t200) 
     heard_next x v e t p late o w (K.stays q s i a) = absurd (opening_open (sym x.state ∙ q))
 
     joined_next : (link_at r n Mobile).endpoint.state ≡ Open → (n0 n1 : ℕ) → n0 ≤ n →
-        ((k : ℕ) → n0 ≤ k → k ≤ n → (link_at r k Network).endpoint.state ≡ Open) → Work Mobile 1 n0 n → n1 ≤ suc n + r.delay →
-        ((k : ℕ) → n1 ≤ k → k ≤ n → (link_at r k Mobile).endpoint.state ≡ Open) → Work Network 0 n1 n → MobileSlot r u n →
+        ((k : ℕ) → n0 ≤ k → k ≤ n → (link_at r k Network).endpoint.state ≡ Open) → Work Mobile 1 n0 n →
+        n1 ≤ suc n + r.delay →
+        ((k : ℕ) → n1 ≤ k → k ≤ n → (link_at r k Mobile).endpoint.state ≡ Open) → Work Network 0 n1 n →
+        MobileSlot r u n →
         Whole (suc n)
     joined_next o n0 n1 a there w b here v (K.rests i e) = absurd (idle_not_open (sym i ∙ o))
     joined_next o n0 n1 a there w b here v (K.begins i p q s k x) = absurd (idle_not_open (sym i ∙ o))

@@ -1,7 +1,7 @@
 -- Progress: how long a link of SAPI 0 waits for answers, and what each expiry of T200 costs the channel. These are this project's own
 -- statements; the standard has none.
-use Rattle.std.specs.Prelude.{◌≡◌, ◌≢◌, ℕ, zero, suc, ◌+◌, ◌*◌, ◌≤◌, Bool, true, false, not, ◌&&◌, ◌||◌, ◌⊎◌}
-use Rattle.std.specs.Prelude.{Option, Some, None, All}
+use Rattle.std.specs.Prelude.{◌≡◌, ◌≢◌, ℕ, zero, suc, ◌+◌, ◌*◌, ◌≤◌, Bool, true, false, not, ◌&&◌, ◌||◌}
+use Rattle.std.specs.Prelude.{◌⊎◌, Option, Some, None, All}
 use Rattle.lapdm_frame.specs.Content.{Content, I, Frame}
 use Rattle.lapdm_end.specs.lapdm_window.declared.State.TheVariants.{Open}
 use Rattle.lapdm_end.specs.lapdm_window.Ends.{Role, Mobile, Network, awaits_answer}
@@ -86,8 +86,9 @@ abbrev pub is_repetition : Option Frame → Bool
 is_repetition None = false
 is_repetition (Some f) = is_repeated_content f.content
 
--- The expiry of T200 in this slot is paid by a loss: the link sent the I frame T200 slots ago or earlier, and no I frame since; and that
--- frame was lost, or the block with its answer, which leaves the other side one delay later, was. (The other side answers if it is open.)
+-- The repetition of an I frame in this slot is paid by a loss: the link sent the I frame T200 slots ago or earlier, and no I frame since;
+-- and that frame was lost, or the block with its answer, which leaves the other side one delay later, was. A mobile that still opens
+-- answers no I frame: then an older loss pays, of its SABM or of the UA (`FromStart`). One lost block may pay for one of each side.
 pub record IsPaid (r : Run) (n : ℕ) (role : Role) : Type 0 where
   pub slot : ℕ
   pub before : slot + r.t200 ≤ n
@@ -96,11 +97,11 @@ pub record IsPaid (r : Run) (n : ℕ) (role : Role) : Type 0 where
   pub lost : is_open (link_at r (suc slot + r.delay) (other role)).endpoint.state ≡ true →
       (is_loss_at r slot role ≡ true) ⊎ (is_loss_at r (suc slot + r.delay) (other role) ≡ true)
 
--- Each expiry of T200 of an open link is paid by a loss of its own: between two of them the link sends the I frame again.
+-- Each repetition of an I frame is paid by a loss of its own: between two of them the link sends the I frame again.
 abbrev pub PaysForExpiries : Run → Type 0
 PaysForExpiries r =
-    round_trip r.delay ≤ r.t200 → (n : ℕ) → IsWithoutRelease r (suc n) → ((k : ℕ) → k ≤ n → NoneGaveUp r k) → (role : Role) →
-    is_repetition (frame_at r n role) ≡ true → IsPaid r n role
+    round_trip r.delay ≤ r.t200 → (n : ℕ) → IsWithoutRelease r (suc n) → ((k : ℕ) → k ≤ n → NoneGaveUp r k) →
+    (role : Role) → is_repetition (frame_at r n role) ≡ true → IsPaid r n role
 
 -- ---- how long a link waits
 
@@ -153,6 +154,7 @@ behind_ua Network = 1
 
 -- Progress from the start. Until one gives up, and without a release, whatever is lost, a link waits at most one round trip for each of its
 -- frames, and T200 and one slot for each slot with a loss; the network one slot more. T200 expires at most once for each slot with a loss.
+-- That holds in each slot, so each expiry of a link has an earlier lossy slot of its own; one lossy slot may pay for one of each side.
 pub record FromStart (r : Run) (k : ℕ) (role : Role) : Type 0 where
   pub waits : waiting_slots r 0 k role
       ≤ round_trip r.delay * frames_at r k role + (r.t200 + 1) * lossy_slots r 0 k + behind_ua role
@@ -160,10 +162,11 @@ pub record FromStart (r : Run) (k : ℕ) (role : Role) : Type 0 where
 
 abbrev pub ProgressesFromStart : Run → Type 0
 ProgressesFromStart r =
-    round_trip r.delay ≤ r.t200 → (k : ℕ) → IsWithoutRelease r k → ((j : ℕ) → j ≤ k → NoneGaveUp r j) → (role : Role) →
-    FromStart r k role
+    round_trip r.delay ≤ r.t200 → (k : ℕ) → IsWithoutRelease r k → ((j : ℕ) → j ≤ k → NoneGaveUp r j) →
+    (role : Role) → FromStart r k role
 
--- With at most N200 slots with a loss so far, neither link has been given up: each of the N200 + 1 expiries before that has its own.
+-- With at most five slots with a loss so far, neither link has been given up: an expiry gives a link up only after N200 others, at least
+-- five, and each has a lossy slot of its own.
 abbrev pub KeepsLinks : Run → Type 0
 KeepsLinks r = round_trip r.delay ≤ r.t200 → (k : ℕ) → IsWithoutRelease r k → lossy_slots r 0 k ≤ 5 → NoneGaveUp r k
 

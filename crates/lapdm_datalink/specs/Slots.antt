@@ -1,9 +1,8 @@
 -- What a link does to its endpoint in a slot, and how soon it answers an I frame.
-use Rattle.std.specs.Prelude.{◌≡◌, ◌⊎◌, ℕ, Bool, true, false, Option, Some, None}
+use Rattle.std.specs.Prelude.{◌≡◌, ◌⊎◌, ℕ, Bool, true, Option, Some, None}
 use Rattle.lapdm_frame.specs.Content.{Content, I, Rr, Rej, Frame}
-use Rattle.lapdm_end.specs.lapdm_window.declared.State.TheVariants.{Open, Closed}
 use Rattle.lapdm_end.specs.lapdm_window.segmenting.Segments.{Segment}
-use Rattle.lapdm_end.specs.lapdm_window.Ends.{vr, awaits_answer}
+use Rattle.lapdm_end.specs.lapdm_window.Ends.{awaits_answer}
 use Rattle.lapdm_end.specs.lapdm_window.Rules.{takes_i_frame}
 use Rattle.lapdm_end.specs.lapdm_window.Calls.{Repeats, T200Expires, call_outcome}
 use Rattle.lapdm_datalink.specs.Links.{LinkState, SlotOutcome, with_outcome, first_frame}
