@@ -22,7 +22,7 @@ use Rattle.{
     segmenting.{Buffers.{message_buffer, octets_in_buffer}, Segments.Message, declared.buffers.MessageBuffer.MessageBuffer},
     segmenting.declared.joiner.ReassemblyState.ReassemblyState,
   },
-  um_among.proofs.list_decode.Lemmas.{both_unique, one_margin},
+  um_list_receive.proofs.list_decode.Lemmas.{both_unique, one_margin},
   um_block.proofs.{Lemmas.{one_received_access, one_received_block, one_received_sync}, interleave.Lemmas.same_coded},
   um_block.specs.{Received.coded_soft_bits, declared.received.Received.Received, interleave.Bursts.IsInterleaved},
   um_c.specs.{

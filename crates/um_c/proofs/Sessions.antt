@@ -36,7 +36,7 @@ use Rattle.{
       segmenting.Segments.Message,
     },
   },
-  um_among.{proofs.Lemmas.block_first, specs.declared.reports.ListDecodedBlock.ListDecodedBlock},
+  um_list_receive.{proofs.Lemmas.block_first, specs.declared.reports.ListDecodedBlock.ListDecodedBlock},
   um_block.{proofs.Lemmas.some_received_block, specs.{Received.IsReceivedBlock, declared.received.Received.Received}},
   um_c.{
     proofs.Calls.{IsFlagged, octets-c_struct},

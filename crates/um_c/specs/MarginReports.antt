@@ -4,7 +4,7 @@ use Rattle.um_block.specs.bit_blocks.SoftValues.{likelihood}
 use Rattle.um_block.specs.conv_code.Code.{encoding}
 use Rattle.um_block.specs.conv_code.Likelihood.{IsMostLikely}
 use Rattle.um_block.specs.interleave.Bursts.{IsInterleaved}
-use Rattle.um_among.specs.list_decode.Ranking.{IsSecondMostLikely, IsLikelihoodMargin, HasTiedWord}
+use Rattle.um_list_receive.specs.list_decode.Ranking.{IsSecondMostLikely, IsLikelihoodMargin, HasTiedWord}
 use Rattle.um_block.specs.Received.{coded_soft_bits}
 use Rattle.um_c.specs.declared.margins.MarginReport.{MarginReport}
 

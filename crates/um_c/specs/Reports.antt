@@ -7,8 +7,8 @@ use Rattle.um_block.specs.declared.received.Received.{Received}
 use Rattle.um_block.specs.declared.received.ReceivedAccess.{ReceivedAccess}
 use Rattle.um_block.specs.declared.received.ReceivedSync.{ReceivedSync}
 use Rattle.um_block.specs.Received.{IsReceivedBlock, IsReceivedAccess, IsReceivedSync, coded_soft_bits, access_soft_bits, sync_soft_bits}
-use Rattle.um_among.specs.declared.reports.ListDecodedBlock.{ListDecodedBlock}
-use Rattle.um_among.specs.ListDecoding.{IsListDecodedBlock}
+use Rattle.um_list_receive.specs.declared.reports.ListDecodedBlock.{ListDecodedBlock}
+use Rattle.um_list_receive.specs.ListDecoding.{IsListDecodedBlock}
 use Rattle.um_c.specs.declared.blocks.BlockReport.{BlockReport}
 use Rattle.um_c.specs.declared.bursts.AccessReport.{AccessReport}
 use Rattle.um_c.specs.declared.bursts.SyncReport.{SyncReport}

@@ -7,18 +7,18 @@ ghost use Rattle.um_block.specs.Sent.{IsSentBlock};
 ghost use Rattle.um_block.specs.conv_code.Code.{IsEncoderInput};
 ghost use Rattle.um_block.specs.conv_code.Likelihood.{RanksAfter};
 ghost use Rattle.um_block.specs.interleave.Bursts.{IsInterleaved};
-ghost use Rattle.um_among.specs.list_decode.Ranking.{IsCandidate};
+ghost use Rattle.um_list_receive.specs.list_decode.Ranking.{IsCandidate};
 ghost use Rattle.um_block.specs.declared.received.Received.{Received as ReceivedOf};
 ghost use Rattle.um_block.specs.Received.{IsReceivedBlock, coded_soft_bits};
-ghost use Rattle.um_among.specs.ListDecoding.{BlockCrcHolds, NoCrcHolds};
+ghost use Rattle.um_list_receive.specs.ListDecoding.{BlockCrcHolds, NoCrcHolds};
 ghost use Rattle.um_c.specs.Reports.{IsBlockReport, IsListDecodedReport, ReportsBlock};
 
 use crate::soft::are_soft_bursts;
-use um_among::{MAX_RANK, receive_deinterleaved_among};
 use um_block::{
     BLOCK_OCTETS, BURST_BITS, CODED_BITS, ENCODER_INPUT_BITS, Received, deinterleave_block,
     receive_deinterleaved, send_block, wrong_coded_bits,
 };
+use um_list_receive::{MAX_RANK, receive_deinterleaved_among};
 
 /// The report on a block received in four bursts.
 #[repr(C)]

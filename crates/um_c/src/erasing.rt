@@ -8,9 +8,9 @@ ghost use Rattle.um_c.specs.SlotCalls.{IsErasingReport};
 
 use crate::blocks::{BlockReport, block_report_of};
 use crate::soft::are_soft_bursts;
-use um_among::MAX_RANK;
 use um_block::{BURST_BITS, CODED_BITS, Received, deinterleave_block};
 use um_erasing::{detect_training, receive_first, receive_later_erasing, without_burst};
+use um_list_receive::MAX_RANK;
 
 /// The index of an erased burst if none was erased.
 const NO_BURST: u8 = 4;

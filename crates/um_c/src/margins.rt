@@ -4,8 +4,8 @@ ghost use Rattle.um_block.specs.bit_blocks.SoftValues.{AllSoftBits};
 ghost use Rattle.um_c.specs.MarginReports.{IsMarginReport};
 
 use crate::soft::are_soft_bursts;
-use um_among::margin;
 use um_block::{BURST_BITS, ENCODER_INPUT_BITS, deinterleave_block};
+use um_list_receive::margin;
 
 /// The two most likely words of a block, and the difference between their path metrics.
 #[repr(C)]

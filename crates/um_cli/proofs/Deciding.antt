@@ -6,7 +6,7 @@ use Rattle.{
     proofs.lemmas.{Int.ints, List.Elements.{All-append, All-cons, All-nil}, Slice.Eq.bytes_eq-Decides},
     specs.{List.All, Str.bytes_eq},
   },
-  um_bursts.specs.{BurstRules.answer_to_burst, Replay.{replay_answers, replay_rules}},
+  um_replay.specs.{BurstRules.answer_to_burst, Replay.{replay_answers, replay_rules}},
   um_cli.specs.{
     Arrivals.{LinkDecodesToMostLikelyWords, ReceivesMostLikelyWord, ReportsMostLikelyWord},
     EndAnswers.EndDecodesToMostLikelyWords,
@@ -25,7 +25,7 @@ use Rattle.{
     specs.{um_block.declared.received.Received.Received, um_link.{lapdm_link.Events.Deliver, lapdm_window.Ends.Role}},
     specs.um_link.um_air.{Computed.air_step, Air.{Accepts, AirState, Answer, Event, EventDelivers, IsAirStep, Refuses, with_bits_inverted}},
   },
-  um_session.proofs.Lemmas.answer_is_air_step,
+  um_link_command.proofs.Lemmas.answer_is_air_step,
 }
 
 none_more_likely : (soft : List ℤ) (u : List ℕ) → IsMostLikely soft u → IsMaximumLikelihood soft u

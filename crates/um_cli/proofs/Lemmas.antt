@@ -22,7 +22,7 @@ use Rattle.{
     specs.{Rules.Rules, Table.{EndsAsPrescribed, IsRun}, declared.status.Status.Status, um_lines.declared.fault.LineFault.LineFault},
   },
   um_end.specs.{lapdm_frame.declared.Channel.Channel, um_link.Naming.spec_role_of},
-  um_session.{proofs.Lemmas.delivery_laws_hold, specs.Courses.RadioCounters},
+  um_link_command.{proofs.Lemmas.delivery_laws_hold, specs.Courses.RadioCounters},
 }
 
 -- ## WordListsLemmas: Lemmas about lists of words whose length is known.

@@ -4,7 +4,7 @@ use Rattle.{
   std.proofs.{lemmas.{Bool.{le-ltb, lt-ltb}, List.{Elements.{All-map, All-weaker, All-append, All-cons, All-nil}, length-map}}, Common.Err},
   std.proofs.Common.{List, Ok, Result, [], append-nil, append_assoc, ap, arith, inl, length, lit<, map, refl, subst, sym, ℕ, ℤ},
   std.{proofs.Common.{◌++◌, ◌<◌, ◌∙◌, ◌∷◌, ◌≡◌}, specs.List.All},
-  um_bursts.specs.{BurstRules.answer_to_burst, Replay.{replay_answers, replay_rules}},
+  um_replay.specs.{BurstRules.answer_to_burst, Replay.{replay_answers, replay_rules}},
   um_code.{
     specs.{
       Code.{code_answer, code_command_rules},

@@ -11,7 +11,7 @@ use Rattle.um_end.specs.um_link.um_air.Air.{Block, AirState, Event, Answer, Refu
 use Rattle.um_end.specs.um_link.um_air.Computed.{air_step}
 use Rattle.um_make.specs.um_script.ScriptLines.{script_line}
 use Rattle.um_driver.specs.Rules.{Runs}
-use Rattle.um_session.specs.Sessions.{LinkSession, new_session, link_command_rules}
+use Rattle.um_link_command.specs.Sessions.{LinkSession, new_session, link_command_rules}
 use Rattle.um_cli.specs.Decoded.{IsMostLikelyWord}
 
 -- `report` is the report on the oldest block of `sender`, received with the bits at `places` inverted and decoded to a most likely word

@@ -16,7 +16,7 @@ use Rattle.um_code.specs.um_formats.declared.burst_lines.BurstLine.{BurstLine}
 use Rattle.um_code.specs.um_formats.declared.burst_lines.BurstLine.TheVariants.{Skip, Normal, Access, Sync}
 use Rattle.um_code.specs.um_formats.BurstLines.{burst_line}
 use Rattle.um_driver.specs.Rules.{Runs}
-use Rattle.um_bursts.specs.Replay.{replay_rules}
+use Rattle.um_replay.specs.Replay.{replay_rules}
 
 -- the encoding of the encoder input `word` is a codeword, and no codeword of the same length is more likely for the soft values `soft`
 pub record IsMaximumLikelihood (soft : List ℤ) (word : List ℕ) : Type 0 where

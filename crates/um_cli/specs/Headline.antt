@@ -4,8 +4,8 @@ use Rattle.std.specs.Prelude.{ℕ, List}
 use Rattle.um_end.specs.lapdm_frame.declared.Channel.{Channel}
 use Rattle.um_end.specs.um_link.Naming.{spec_role_of}
 use Rattle.um_driver.specs.Rules.{Runs}
-use Rattle.um_session.specs.Sessions.{LinkSession, new_session, link_command_rules}
-use Rattle.um_session.specs.Promises.{DeliveryLawsHold}
+use Rattle.um_link_command.specs.Sessions.{LinkSession, new_session, link_command_rules}
+use Rattle.um_link_command.specs.Promises.{DeliveryLawsHold}
 use Rattle.um_cli.specs.Arrivals.{LinkDecodesToMostLikelyWords}
 use Rattle.um_cli.specs.EndAnswers.{EndDecodesToMostLikelyWords}
 use Rattle.um_cli.specs.Decoded.{ReplayDecodesToMostLikelyWords}

@@ -5,13 +5,13 @@ use Rattle.um_driver.specs.Table.{IsRun, EndsAsPrescribed}
 use Rattle.um_driver.specs.declared.status.Status.{Status}
 use Rattle.um_driver.specs.declared.status.Status.TheVariants.{BadWords, NoMemory}
 use Rattle.um_code.specs.Code.{code_command_rules}
-use Rattle.um_bursts.specs.Replay.{replay_rules}
+use Rattle.um_replay.specs.Replay.{replay_rules}
 use Rattle.um_show.specs.Show.{show_command_rules}
 use Rattle.um_margin.specs.Margins.{margin_command_rules}
 use Rattle.um_repair.specs.RepairRules.{repair_command_rules}
-use Rattle.um_session.specs.Courses.{RadioCounters}
-use Rattle.um_session.specs.Promises.{IsLinkCommandRun}
-use Rattle.um_session.specs.Sessions.{new_session, link_command_rules}
+use Rattle.um_link_command.specs.Courses.{RadioCounters}
+use Rattle.um_link_command.specs.Promises.{IsLinkCommandRun}
+use Rattle.um_link_command.specs.Sessions.{new_session, link_command_rules}
 use Rattle.um_end.specs.um_link.Naming.{spec_role_of}
 use Rattle.um_end.specs.EndRuns.{initial_end_command_state, end_command_rules}
 use Rattle.um_cli.specs.declared.words.Invocation.{Invocation}

@@ -8,7 +8,7 @@ use Rattle.um_driver.specs.declared.status.Status.TheVariants.{Done, WriteFault,
 use Rattle.um_make.specs.declared.summary.Summary.{Summary}
 use Rattle.um_make.specs.Runs.{AckedAtMostReceived, generated_summary}
 use Rattle.um_make.specs.Texts.{summary_text}
-use Rattle.um_session.specs.Courses.{RadioCounters}
+use Rattle.um_link_command.specs.Courses.{RadioCounters}
 
 -- the radio encoded and decoded each block that the summary counts; each block raised a counter by one, up to the largest `u64`
 pub record RadioCountedBlocks (summary : Summary) (before after : RadioCounters) : Type 0 where

@@ -13,7 +13,7 @@ use Rattle.um_code.specs.um_formats.Reports.{block_report_text, access_report_te
 use Rattle.um_driver.specs.Outputs.{response}
 use Rattle.um_driver.specs.declared.status.Status.TheVariants.{Done}
 use Rattle.um_code.specs.Code.{code_command_rules}
-use Rattle.um_bursts.specs.Replay.{replay_rules}
+use Rattle.um_replay.specs.Replay.{replay_rules}
 
 -- the report of `replay` on the undamaged bursts that `code` writes for a line: the encoded information, a CRC that holds, no wrong
 -- training bits, and the maximum path metric

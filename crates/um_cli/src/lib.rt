@@ -12,6 +12,6 @@ pub use laws::{
 };
 pub use top::run;
 pub use um_driver::{MemorySink, MemorySource, PlainSource, ReadSource, Source, Status, WriteSink};
+pub use um_link_command::PlainRadio;
 pub use um_make::Script;
-pub use um_session::PlainRadio;
 pub use words::{Invocation, Words};

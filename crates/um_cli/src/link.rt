@@ -3,12 +3,12 @@ ghost use Rattle.std.specs.Prelude.{◌≡◌, ◌≢◌, ◌≤◌};
 ghost use Rattle.um_driver.specs.Table.{FailureCountsMatch, EndsAsPrescribed};
 ghost use Rattle.um_end.specs.um_link.um_air.Air.{initial_session};
 ghost use Rattle.um_end.specs.um_link.Abstraction.{Represents};
-ghost use Rattle.um_session.specs.Sessions.{new_session, link_command_rules};
-ghost use Rattle.um_session.specs.Promises.{IsLinkCommandRun};
+ghost use Rattle.um_link_command.specs.Sessions.{new_session, link_command_rules};
+ghost use Rattle.um_link_command.specs.Promises.{IsLinkCommandRun};
 
 use std::alloc::Global;
 use um_driver::{Sink, Source, Status, drive};
-use um_session::{Channel, LinkCommand, Radio, World};
+use um_link_command::{Channel, LinkCommand, Radio, World};
 
 /// Runs a script in a new session on `channel`. The training sequence code `tsc` must be 0 to 7. All memory is allocated before the first
 /// octet is read.

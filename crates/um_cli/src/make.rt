@@ -6,8 +6,8 @@ ghost use Rattle.um_make.specs.Texts.{summary_text};
 
 use std::alloc::Global;
 use um_driver::{Sink, Status, Text, put_all};
+use um_link_command::Radio;
 use um_make::{Summary, make, write_summary_lines};
-use um_session::Radio;
 
 /// Carries out the generated session of `message_count` messages with training sequence code `tsc`, and writes its summary.
 ///

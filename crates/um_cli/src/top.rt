@@ -10,13 +10,13 @@ use crate::link::run_link;
 use crate::make::run_make;
 use crate::words::{Invocation, Words};
 use std::alloc::Global;
-use um_bursts::{BurstCommand, Replay};
 use um_code::Code;
 use um_driver::{Sink, Source, StatelessCommand, Status, drive};
 use um_end::EndCommand;
+use um_link_command::Radio;
 use um_margin::Margins;
 use um_repair::Repair;
-use um_session::Radio;
+use um_replay::{BurstCommand, Replay};
 use um_show::Show;
 
 /// Runs the command named on the command line, reading from `input` and writing to `output`.

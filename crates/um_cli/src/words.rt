@@ -31,7 +31,7 @@ pub enum Invocation {
 use arrayvec::{ArrayString, ArrayVec};
 use std::marker::Model;
 use um_end::End;
-use um_session::Channel;
+use um_link_command::Channel;
 
 /// The command-line words, without the program's name.
 ///

@@ -2,9 +2,9 @@
 use Rattle.std.proofs.Common.{arith, List, None, Option, Some, ap, map, refl, set, subst, suc, sym, zero, ℕ, ℤ, ◌+◌, ◌-◌}
 use Rattle.std.proofs.Common.{◌∙◌, ◌≡◌, ◌≢◌, ◌≤◌}
 use Rattle.std.specs.Prelude.{IsSome, MatchOption}
-use Rattle.um_among.specs.declared.reports.ListDecodedBlock.{ListDecodedBlock}
-use Rattle.um_among.specs.ListDecoding.{IsListDecodedBlock}
-use Rattle.um_among.proofs.Lemmas.{block_at_once, one_block_among}
+use Rattle.um_list_receive.specs.declared.reports.ListDecodedBlock.{ListDecodedBlock}
+use Rattle.um_list_receive.specs.ListDecoding.{IsListDecodedBlock}
+use Rattle.um_list_receive.proofs.Lemmas.{block_at_once, one_block_among}
 use Rattle.um_block.specs.Received.{IsReceivedBlock}
 use Rattle.um_block.specs.declared.received.Received.{Received}
 use Rattle.um_erasing.specs.Erasing.{IsErasingDecodedBlock, IsErasingSearch, IsFoundOrFirst, index_of_greatest, without_burst}

@@ -6,8 +6,8 @@ use Rattle.std.specs.Prelude.{Option, Some, None, MatchOption}
 use Rattle.um_block.specs.bit_blocks.SoftValues.{count_wrong_bits}
 use Rattle.um_block.specs.burst_map.training_seq.Sequences.{midamble}
 use Rattle.um_block.specs.Received.{midamble_of_burst}
-use Rattle.um_among.specs.ListDecoding.{IsListDecodedBlock}
-use Rattle.um_among.specs.declared.reports.ListDecodedBlock.{ListDecodedBlock}
+use Rattle.um_list_receive.specs.ListDecoding.{IsListDecodedBlock}
+use Rattle.um_list_receive.specs.declared.reports.ListDecodedBlock.{ListDecodedBlock}
 use Rattle.um_erasing.specs.declared.blocks.ErasedBlock.{ErasedBlock}
 use Rattle.um_erasing.specs.declared.blocks.ErasingDecodedBlock.{ErasingDecodedBlock}
 

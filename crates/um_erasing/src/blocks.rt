@@ -4,14 +4,14 @@ ghost use Rattle.um_block.specs.bit_blocks.SoftValues.{AllSoftBits};
 ghost use Rattle.um_block.specs.conv_code.Code.{IsEncoderInput};
 ghost use Rattle.um_block.specs.interleave.Bursts.{IsInterleaved};
 ghost use Rattle.um_block.specs.Received.{IsReceivedBlock, coded_soft_bits};
-ghost use Rattle.um_among.specs.ListDecoding.{IsListDecodedBlock};
+ghost use Rattle.um_list_receive.specs.ListDecoding.{IsListDecodedBlock};
 ghost use Rattle.um_erasing.specs.Erasing.{IsErasingDecodedBlock, IsErasingSearch, index_of_greatest, without_burst};
 ghost use Rattle.um_erasing.specs.Erasing.{wrong_training_of_bursts};
 
 use crate::training::{TrainingErrors, detect_training};
 use burst_map::BURST_BITS;
-use um_among::{ListDecodedBlock, MAX_RANK, receive_block_among, receive_later_among};
 use um_block::{CODED_BITS, Received, deinterleave_block, receive_detected};
+use um_list_receive::{ListDecodedBlock, MAX_RANK, receive_block_among, receive_later_among};
 
 /// The report of a block, which burst was erased for it, and how far each burst is to be trusted.
 #[derive(Clone, Copy, PartialEq, Eq, Debug)]

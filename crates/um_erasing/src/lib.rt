@@ -8,4 +8,4 @@ pub use blocks::{
     ErasingDecodedBlock, receive_block_erasing, receive_first, receive_later_erasing, without_burst,
 };
 pub use training::{TrainingErrors, detect_training};
-pub use um_among::{ListDecodedBlock, MAX_RANK};
+pub use um_list_receive::{ListDecodedBlock, MAX_RANK};

@@ -1,8 +1,8 @@
 -- How the `margin` command answers a line (this project's own rule). It reads the same lines as `replay`.
 use Rattle.std.specs.Prelude.{ℤ, List}
 use Rattle.um_block.specs.Received.{access_soft_bits, sync_soft_bits}
-use Rattle.um_bursts.specs.um_driver.Rules.{Rules}
-use Rattle.um_bursts.specs.BurstRules.{BurstAnswers, burst_rules}
+use Rattle.um_replay.specs.um_driver.Rules.{Rules}
+use Rattle.um_replay.specs.BurstRules.{BurstAnswers, burst_rules}
 use Rattle.um_margin.specs.Compared.{compared_words, compared_block_words}
 use Rattle.um_margin.specs.Texts.{block_margin_text, access_margin_text, sync_margin_text}
 

@@ -1,9 +1,9 @@
 -- The output lines of `margin` (this project's own rule).
 use Rattle.std.specs.Prelude.{ℕ, ℤ, List, ◌++◌, take, drop, codes}
 use Rattle.std.specs.Fmt.{signed_decimal}
-use Rattle.um_bursts.specs.um_lines.Hex.{encode_lower}
+use Rattle.um_replay.specs.um_lines.Hex.{encode_lower}
 use Rattle.um_block.specs.bit_blocks.Octets.{octets_of}
-use Rattle.um_bursts.specs.um_lines.Fields.{bit_digits}
+use Rattle.um_replay.specs.um_lines.Fields.{bit_digits}
 use Rattle.um_margin.specs.Compared.{TwoMostLikelyWords}
 
 -- the part ` margin G metric M` of an output line, with the margin and the metric in decimal

@@ -12,7 +12,7 @@ use um_block::{
     AccessView, BURST_BITS, Bits, ENCODER_INPUT_BITS, SyncView, deinterleave_block,
     join_sync_halves,
 };
-use um_bursts::{Reports, Text};
+use um_replay::{Reports, Text};
 
 /// Writes, for each block or single burst, a line that compares its two most likely words.
 #[derive(Drop)]

@@ -5,7 +5,7 @@ ghost use Rattle.um_margin.specs.Texts.{sync_margin_text};
 
 use crate::comparison::WordComparison;
 use um_block::{BLOCK_BITS, BLOCK_OCTETS, Bits, ENCODER_INPUT_BITS};
-use um_bursts::{Text, octets_from_bits_at};
+use um_replay::{Text, octets_from_bits_at};
 
 /// Writes the line `block margin G metric M data HEX46 check HEX10 next HEX46 HEX10`.
 pub(crate) fn write_block_margin_line(

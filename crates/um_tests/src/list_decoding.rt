@@ -1,8 +1,8 @@
 //! Blocks decoded with a list of words, tested on values computed by hand.
 use crate::blocks::{are_soft, soften_burst};
 use std::process::Abort;
-use um_among::{ListDecodedBlock, receive_block_among};
 use um_block::{BLOCK_OCTETS, BURST_BITS, Bits, Received, send_block};
+use um_list_receive::{ListDecodedBlock, receive_block_among};
 
 fn decode_block(rt: &impl Abort, bursts: &[[i8; BURST_BITS]; 4], most: u32) -> ListDecodedBlock {
     let all_soft = bursts.iter().all(|burst| are_soft(burst));

@@ -1,7 +1,7 @@
 use Rattle.{
   std.proofs.Common.{sym, ◌∙◌, ap, subst, rules, List, ℕ},
   um_block.specs.conv_code.Likelihood.RanksAfter,
-  um_among.{
+  um_list_receive.{
     specs.declared.reports.ListDecodedBlock.ListDecodedBlock,
     proofs.Lemmas.{one_block_among, block_best, block_none, block_information, block_first},
   },

@@ -1,6 +1,6 @@
 use Rattle.{
   std.proofs.Common.{◌≡◌, ap, sym, ◌∙◌},
-  um_session.{specs.Courses.RadioCounters, proofs.Lemmas.{IsLinkCommandRun-no_memory, IsLinkCommandRun-equal}},
+  um_link_command.{specs.Courses.RadioCounters, proofs.Lemmas.{IsLinkCommandRun-no_memory, IsLinkCommandRun-equal}},
 }
 use Rattle.um_cli.proofs.link.run_link.Goals as goal
 

@@ -1,4 +1,4 @@
-use Rattle.um_session.proofs.Lemmas.{IsLinkCommandRun-run, link-prescribed}
+use Rattle.um_link_command.proofs.Lemmas.{IsLinkCommandRun-run, link-prescribed}
 use Rattle.um_cli.proofs.link.run_link_session.Goals as goal
 
 pub returns-clause-run : goal.returns-clause-run

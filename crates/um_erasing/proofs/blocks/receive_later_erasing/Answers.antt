@@ -1,5 +1,5 @@
-use Rattle.um_among.specs.ListDecoding.{BlockCrcHolds}
-use Rattle.um_among.proofs.Lemmas.{block_first_word, octets_if_crc_holds, taken_information}
+use Rattle.um_list_receive.specs.ListDecoding.{BlockCrcHolds}
+use Rattle.um_list_receive.proofs.Lemmas.{block_first_word, octets_if_crc_holds, taken_information}
 use Rattle.um_erasing.proofs.blocks.receive_later_erasing.Goals as goal
 
 pub receive_later_among-block-requires-clause-best : goal.receive_later_among-block-requires-clause-best
