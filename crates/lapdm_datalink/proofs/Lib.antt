@@ -13,6 +13,14 @@ pub mod ProgressPaid
 pub mod ProgressExpiries
 pub mod ProgressWaiting
 pub mod ProgressPolls
+pub mod ProgressCut
+pub mod ProgressFrames
+pub mod ProgressKnown
+pub mod ProgressOpening
+pub mod ProgressEarly
+pub mod ProgressWhole
+pub mod ProgressTotal
+pub mod ProgressFromStart
 pub mod ProgressAlone
 mod RunsWorked
 mod RunsClaims

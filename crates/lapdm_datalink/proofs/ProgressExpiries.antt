@@ -12,14 +12,14 @@ use Rattle.{
   lapdm_link.specs.Events.other,
   lapdm_datalink.{
     specs.{Links.{LinkState, slot_outcome, is_closed, is_due, first_frame, is_awaiting_kind}, Channels.Run, Progress.{link_at, turn_at}},
-    specs.Progress.{arriving_at, ready_at, frame_at, is_loss, is_loss_at, IsWithoutRelease, is_i_frame, is_i_content, is_repetition},
-    specs.Progress.{is_repeated_content, PaysForExpiries},
+    specs.Progress.{arriving_at, ready_at, frame_at, is_loss, is_loss_at, is_i_frame, is_i_content, is_repetition, is_repeated_content},
+    specs.Progress.{round_trip, NoneGaveUp, IsPaid},
     proofs.{
       ProgressSteps.{acked, issued, IsAnswerOf},
       ProgressLink.{From, nowhere, owed, first, again, slot_from, slot_acked, slot_issued},
       ProgressStart.{is_young, Ages, ages, ages_ready, ready_owed, ready_t200, slot_open},
       ProgressWaits.{WaitsFrom, waits_ready, WaitsOver, starts, goes_on, waits_over},
-      ProgressRuns.{sound, slotted_in, link_step},
+      ProgressRuns.{sound, slotted_in, link_step, NeverReleases},
       ProgressPaid.{acked_in_time, le_of, not_le_of, answered_frame},
     },
   },
@@ -68,7 +68,7 @@ repeats m owes h = by_from (slot_from m)
 
 -- ---- the last sending
 
-module _ (r : Run) (u : IsWithoutRelease r) (role : Role) where
+module _ (r : Run) (u : NeverReleases r) (role : Role) where
   -- a link that waits sent its I frame in this slot, and none since
   pub record LastSending (n : ℕ) : Type 0 where
     pub slot : ℕ
@@ -79,7 +79,8 @@ module _ (r : Run) (u : IsWithoutRelease r) (role : Role) where
     pub time : suc slot + r.t200 ≤ n + (link_at r n role).clock
     pub opened : (k : ℕ) → suc slot ≤ k → k ≤ n → (link_at r k role).endpoint.state ≡ Open
 
-  old_enough : (n : ℕ) → is_young (link_at r n role).endpoint.state ≡ true → issued (link_at r n role) ≡ acked (link_at r n role)
+  pub old_enough : (n : ℕ) → is_young (link_at r n role).endpoint.state ≡ true →
+      issued (link_at r n role) ≡ acked (link_at r n role)
   old_enough zero h = start_same role
     where
       start_same : (q : Role) → issued (link_at r 0 q) ≡ acked (link_at r 0 q)
@@ -229,8 +230,10 @@ i_parts (Some f) h = let y = one f.content h in (f, refl, y.0, y.1, y.2, y.3, y.
 pub loss_of : (lost : Bool) (x : Option Frame) (f : Frame) → x ≡ Some f → lost ≡ true → is_loss lost x ≡ true
 loss_of lost x f e h = rw e h
 
-pub pays_for_expiries : (r : Run) → PaysForExpiries r
-pays_for_expiries r u long n none role again_ = record {
+pub pays : (r : Run) → NeverReleases r → round_trip r.delay ≤ r.t200 → (n : ℕ) →
+    ((k : ℕ) → k ≤ n → NoneGaveUp r k) → (role : Role) →
+    is_repetition (frame_at r n role) ≡ true → IsPaid r n role
+pays r u long n none role again_ = record {
   slot = y.slot;
   before = omega (arith, in_time);
   sent = y.sent;

@@ -7,9 +7,10 @@ use Rattle.{
   lapdm_link.specs.Events.other,
   lapdm_datalink.{
     specs.{Links.{LinkState, slot_outcome, after_slot}, Slots.{nr_in, nr_of, took}, Channels.{Run, carried, after_calls, after_arriving}},
-    specs.Progress.{link_at, turn_at, arriving_at, ready_at, frame_at, IsWithoutRelease},
+    specs.Progress.{link_at, turn_at, arriving_at, ready_at, frame_at},
     proofs.{ProgressSteps.{acked, issued, accepted, aired, accepts_taken}, ProgressLink.{ns_in, poll_in}, ProgressStart.kept_counts},
     proofs.{ProgressAnswers.{gets_ack, i_arrives, answers}, ProgressRuns.{sound, slotted_in, link_step, arrived, counts, counted}},
+    proofs.ProgressRuns.NeverReleases,
   },
 }
 use Rattle.lapdm_datalink.proofs.ProgressCounts as C
@@ -52,7 +53,7 @@ not_le_of n k h = grind (arith, h)
 true-false : true ≡ false → ⊥
 true-false h = cc
 
-module _ (r : Run) (u : IsWithoutRelease r) (s : ℕ) (role : Role) (f : Frame) (ns nr : ℕ) (p more : Bool) (info : List ℕ)
+module _ (r : Run) (u : NeverReleases r) (s : ℕ) (role : Role) (f : Frame) (ns nr : ℕ) (p more : Bool) (info : List ℕ)
     (sent : frame_at r s role ≡ Some f) (is_i : f.content ≡ I ns nr p more info) (arrives : (turn_at r s role).is_lost ≡ false)
     (open_there : (link_at r (suc s + r.delay) (other role)).endpoint.state ≡ Open)
     (stays_there : (link_at r (suc (suc s + r.delay)) (other role)).endpoint.state ≢ Closed)

@@ -9,23 +9,22 @@ use Rattle.{
   lapdm_end.specs.lapdm_window.{
     declared.State.TheVariants.{Open, Closed},
     segmenting.Segments.Segment,
-    Ends.{Role, Mobile, Network, EndpointState, vr, command_cr, first_unacked_segment},
+    Ends.{Role, Mobile, Network, EndpointState, vr, command_cr, first_unacked_segment, awaits_ack},
     Rules.nr_acknowledges_segment,
     Calls.{awaited_frame, t200_expiry},
   },
   lapdm_link.specs.Events.other,
   lapdm_datalink.{
     specs.{Links.{LinkState, slot_outcome, is_due, keeps_back, is_plain_rr, is_awaiting_kind, first_frame}, Slots.took, Channels.Run},
-    specs.{Channels.after_arriving, Progress.{link_at, turn_at, arriving_at, ready_at, frame_at, IsWithoutRelease, round_trip, one_if}},
-    specs.Progress.{is_i_frame, is_i_content, is_repetition, is_repeated_content, lossy_slots, expiries, AreOpen, Progress, Progresses},
+    specs.{Channels.after_arriving, Progress.{link_at, turn_at, arriving_at, ready_at, frame_at, round_trip, one_if, is_i_frame}},
+    specs.Progress.{is_i_content, is_repetition, is_repeated_content, lossy_slots, expiries, AreOpen, Progress, expires_in, answer_goes},
     proofs.{
       ProgressSteps.{IsAnswerOf, taken},
       ProgressLink.{From, nowhere, owed, first, again, slot_from, reply_with, frame_taken},
       ProgressStart.{ready_called, ready_role, slot_open},
-      ProgressWaits.{SlotWay, sends, blocked, counts, slot_way},
-      ProgressRuns.{sound, link_step},
+      ProgressRuns.{sound, link_step, NeverReleases},
       ProgressPaid.{in_sequence_or_polls, taken_is, arrived_other, le_of, not_le_of},
-      ProgressExpiries.{true-false, owes_ready, i_parts},
+      ProgressExpiries.{true-false, owes_ready, i_parts, repeats, poll_is_i, answer_no_i},
       ProgressWaiting.{answers_first, answering_slots, waits_at_most, repeats_at_most, open_closed},
     },
   },
@@ -88,9 +87,39 @@ held_back : (f : Frame) (m : LinkState) → is_plain_rr f.content ≡ true → i
     keeps_back f m ≡ true
 held_back f m p d o = grind (arith, p, d, o)
 
-goes_first : (m : LinkState) (x : Option Frame) → (is_due m && not (is_i_frame x)) ≡ true →
-    (is_due m ≡ true) × (is_i_frame x ≡ false)
-goes_first m x h = (grind (arith, h), grind (arith, h))
+parts_of : (a b : Bool) → (a && b) ≡ true → (a ≡ true) × (b ≡ true)
+parts_of true true h = (refl, refl)
+parts_of true false h = absurd cc
+parts_of false b h = absurd cc
+
+-- an answer goes first
+pub goes_first : (m : LinkState) → (is_due m && answer_goes m.answer m) ≡ true →
+    (f : Frame) × (m.answer ≡ Some f) × (is_due m ≡ true) × (keeps_back f m ≡ false)
+goes_first m h = let x = parts_of (is_due m) (answer_goes m.answer m) h in by_answer m.answer refl x.0 x.1
+  where
+    not_false : (b : Bool) → not b ≡ true → b ≡ false
+    not_false true h = absurd cc
+    not_false false h = refl
+
+    by_answer : (a : Option Frame) → m.answer ≡ a → is_due m ≡ true → answer_goes a m ≡ true →
+        (f : Frame) × (m.answer ≡ Some f) × (is_due m ≡ true) × (keeps_back f m ≡ false)
+    by_answer None e due g = absurd cc
+    by_answer (Some f) e due g = (f, e, due, not_false (keeps_back f m) g)
+
+repeats_expire : (m : LinkState) → IfSome m.answer (IsAnswerOf m) → is_repetition (slot_outcome m).frame ≡ true →
+    expires_in m ≡ true
+repeats_expire m owes h = by_answer m.answer refl (repeats m owes h)
+  where
+    by_answer : (a : Option Frame) → m.answer ≡ a →
+        (m.is_sent ≡ true) × (m.endpoint.state ≡ Open) × (m.clock ≡ 0) × (awaits_ack m.endpoint ≡ true) → expires_in m ≡ true
+    by_answer None n x = grind (arith, n, x.0, x.1, x.2, x.3)
+    by_answer (Some f) n x = by_kept (keeps_back f m) refl
+      where
+        by_kept : (b : Bool) → keeps_back f m ≡ b → expires_in m ≡ true
+        by_kept true k = grind (arith, n, x.0, x.1, x.2, x.3, k)
+        by_kept false k =
+            let e : (slot_outcome m).frame ≡ m.answer = grind (arith, n, k) in
+            absurd (true-false (sym (poll_is_i m.answer (ap is_repetition (sym e) ∙ h)) ∙ answer_no_i m m.answer owes))
 
 some_none : (f : Frame) → None ≡ Some f → ⊥
 some_none f h = cc
@@ -99,13 +128,13 @@ in_order : (b p : Bool) → (b || p) ≡ true → p ≡ false → b ≡ true
 in_order true p h e = refl
 in_order false p h e = absurd (true-false (sym h ∙ e))
 
-sender_role : (r : Run) (u : IsWithoutRelease r) (q : ℕ) (role : Role) → (ready_at r q role).endpoint.role ≡ role
+sender_role : (r : Run) (u : NeverReleases r) (q : ℕ) (role : Role) → (ready_at r q role).endpoint.role ≡ role
 sender_role r u q role = ready_role role (arriving_at r q role) (turn_at r q role).calls (link_at r q role) ((sound r u q).good role)
     ((sound r u q).settled role).owes ((sound r u q).idle role) (u q role) ∙ (sound r u q).roles role
 
 -- ---- the slot in which an answer goes first is one delay after a repetition of the other side
 
-module _ (r : Run) (u : IsWithoutRelease r) (q : ℕ) (role : Role) where
+module _ (r : Run) (u : NeverReleases r) (q : ℕ) (role : Role) where
   abbrev pub n : ℕ
   n = suc q + r.delay
 
@@ -189,18 +218,15 @@ module _ (r : Run) (u : IsWithoutRelease r) (q : ℕ) (role : Role) where
           by_sent false lost None e = nothing (arrived_other r q role ∙ rw (lost, e) refl)
           by_sent false lost (Some g) e = by_kind g e lost (is_i_content g.content) refl
 
-      pub is_for_poll : answers_first r n x ≡ true → is_repetition (frame_at r q role) ≡ true
+      pub is_for_poll : answers_first r n x ≡ true → expires_in (ready_at r q role) ≡ true
       is_for_poll h = by_frame (is_repetition (frame_at r q role)) refl
         where
-          by_way : is_repetition (frame_at r q role) ≡ false → SlotWay m → is_repetition (frame_at r q role) ≡ true
-          by_way none (sends d i t c) = absurd (true-false (sym i ∙ (goes_first m (frame_at r n x) h).1))
-          by_way none (blocked f a k d e t c) =
-              absurd (true-false (sym (held_back f m (owes_plain f a none) d m_open) ∙ k))
-          by_way none (counts d t c) = absurd (true-false (sym (goes_first m (frame_at r n x) h).0 ∙ d))
+          y : (f : Frame) × (m.answer ≡ Some f) × (is_due m ≡ true) × (keeps_back f m ≡ false)
+          y = goes_first m h
 
-          by_frame : (b : Bool) → is_repetition (frame_at r q role) ≡ b → is_repetition (frame_at r q role) ≡ true
-          by_frame true e = e
-          by_frame false e = by_way e (slot_way m m_open (ap (λ k. k.endpoint.state) (sym (link_step r n x)) ∙ open_next))
+          by_frame : (b : Bool) → is_repetition (frame_at r q role) ≡ b → expires_in (ready_at r q role) ≡ true
+          by_frame true e = repeats_expire (ready_at r q role) (owes_ready r u role q) e
+          by_frame false e = absurd (true-false (sym (held_back y.0 m (owes_plain y.0 y.1 e) y.2 m_open) ∙ y.3))
 
 -- ---- all slots
 
@@ -212,7 +238,7 @@ one_or_none : (b : Bool) → one_if b ≤ 1
 one_or_none true = omega arith
 one_or_none false = omega arith
 
-module _ (r : Run) (u : IsWithoutRelease r) (n0 : ℕ) (role : Role) where
+module _ (r : Run) (u : NeverReleases r) (n0 : ℕ) (role : Role) where
   few : (k : ℕ) → answering_slots r n0 k (other role) ≤ k
   few zero = omega arith
   few (suc k) = omega (arith, few k, one_or_none (answers_first r (n0 + k) (other role)))
@@ -225,10 +251,10 @@ module _ (r : Run) (u : IsWithoutRelease r) (n0 : ℕ) (role : Role) where
   open_in k j a b o p = let e : n0 + (j - n0) ≡ j = omega (arith, a) in rw e at (o (j - n0) (omega (arith, b)) p)
 
   polled : (j : ℕ) → AreOpen r n0 (suc (suc r.delay + j)) →
-      one_if (answers_first r (n0 + (suc r.delay + j)) (other role)) ≤ one_if (is_repetition (frame_at r (n0 + j) role))
+      one_if (answers_first r (n0 + (suc r.delay + j)) (other role)) ≤ one_if (expires_in (ready_at r (n0 + j) role))
   polled j o =
       let e : n0 + (suc r.delay + j) ≡ suc (n0 + j) + r.delay = omega arith in
-      rw e (one_at_most (answers_first r (suc (n0 + j) + r.delay) (other role)) (is_repetition (frame_at r (n0 + j) role))
+      rw e (one_at_most (answers_first r (suc (n0 + j) + r.delay) (other role)) (expires_in (ready_at r (n0 + j) role))
       (is_for_poll r u (n0 + j) role
       (open_in (suc (suc r.delay + j)) (suc (n0 + j)) (omega arith) (omega arith) o role)
       (open_in (suc (suc r.delay + j)) (suc (n0 + j) + r.delay) (omega arith) (omega arith) o (other role))
@@ -260,7 +286,7 @@ module _ (r : Run) (u : IsWithoutRelease r) (n0 : ℕ) (role : Role) where
 bound : (t l : ℕ) → (t + 1) * l ≡ t * l + l
 bound t l = add-mul t 1 l ∙ ap (λ x. t * l + x) (one-mul l)
 
-progress_of : (r : Run) → IsWithoutRelease r → round_trip r.delay ≤ r.t200 → (n k : ℕ) → AreOpen r n k → (role : Role) →
+progress_of : (r : Run) → NeverReleases r → round_trip r.delay ≤ r.t200 → (n k : ℕ) → AreOpen r n k → (role : Role) →
     answering_slots r n k role ≤ expiries r n k (other role) + suc r.delay → Progress r n k role
 progress_of r u long n k o role h = record {
   waits = omega (
@@ -273,6 +299,7 @@ progress_of r u long n k o role h = record {
   expires = repeats_at_most r u long n role k o;
 }
 
-pub progresses : (r : Run) → Progresses r
+pub progresses : (r : Run) → NeverReleases r → round_trip r.delay ≤ r.t200 → (n k : ℕ) → AreOpen r n k → (role : Role) →
+    Progress r n k role
 progresses r u long n k o Mobile = progress_of r u long n k o Mobile (answers_at_most r u n Network k o)
 progresses r u long n k o Network = progress_of r u long n k o Network (answers_at_most r u n Mobile k o)

@@ -1,13 +1,13 @@
 -- A run of the links of SAPI 0, slot by slot: what each link is between slots, what arrives, and the counts of both.
 use Rattle.{
   std.specs.Prelude.{◌≡◌, ℕ, zero, suc, ◌+◌, ◌%◌, ◌≤◌, Bool, true, false, ◌⊎◌, ◌∷◌, length, get_or},
-  std.{specs.Prelude.{Option, Some, None}, proofs.{Common.{inl, inr, arith, refl, ap, sym, ◌∙◌}, lemmas.List.get_or_past}},
+  std.{specs.Prelude.{Option, Some, None, All}, proofs.{Common.{inl, inr, arith, refl, ap, sym, ◌∙◌}, lemmas.List.get_or_past}},
   lapdm_frame.specs.Content.Frame,
   lapdm_end.specs.lapdm_window.{Ends.{Role, Mobile, Network, vr, vs}, Calls.is_idle},
   lapdm_link.specs.Events.other,
   lapdm_datalink.{
     specs.{Links.{LinkState, slot_outcome, after_slot}, Slots.{nr_in, nr_of}, Channels.{Run, channel_at, side_at, side_after, carried}},
-    specs.{Channels.{after_calls, after_arriving}, Progress.{link_at, turn_at, arriving_at, ready_at, frame_at, IsWithoutRelease}},
+    specs.{Channels.{after_calls, after_arriving, IsUse}, Progress.{link_at, turn_at, arriving_at, ready_at, frame_at}},
     proofs.{
       ProgressSteps.{acked, issued, accepted, aired, Good},
       ProgressLink.{Slotted, ns_in, ns_of},
@@ -16,6 +16,10 @@ use Rattle.{
   },
 }
 use Rattle.lapdm_datalink.proofs.ProgressCounts as C
+
+-- layer 3 releases no link in any slot
+abbrev pub NeverReleases : Run → Type 0
+NeverReleases r = (n : ℕ) (role : Role) → All (IsUse role) (turn_at r n role).calls
 
 module _ (r : Run) where
   side_step : (n : ℕ) (role : Role) → side_at role (channel_at r (suc n)) ≡
@@ -27,7 +31,7 @@ module _ (r : Run) where
   link_step n Mobile = refl
   link_step n Network = refl
 
-  sent_step : (n : ℕ) (role : Role) → (side_at role (channel_at r (suc n))).sent ≡
+  pub sent_step : (n : ℕ) (role : Role) → (side_at role (channel_at r (suc n))).sent ≡
       carried (turn_at r n role).is_lost (frame_at r n role) ∷ (side_at role (channel_at r n)).sent
   sent_step n Mobile = refl
   sent_step n Network = refl
@@ -105,11 +109,11 @@ module _ (r : Run) where
       start_silent h Mobile k = refl
       start_silent h Network k = refl
 
-  carried_none : (lost : Bool) → carried lost None ≡ None
+  pub carried_none : (lost : Bool) → carried lost None ≡ None
   carried_none true = refl
   carried_none false = refl
 
-  module _ (u : IsWithoutRelease r) where
+  module _ (u : NeverReleases r) where
     -- the slot of each link
     slotted_at : (n : ℕ) → Sound n → (role : Role) →
         Slotted (arriving_at r n role) (link_at r n role) (link_at r (suc n) role) (frame_at r n role)

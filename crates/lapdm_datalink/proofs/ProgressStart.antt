@@ -41,7 +41,7 @@ module _ (s : ℕ) (cr : Bool) (l : LinkState) where
   idle_reply other h = grind arith
 
   -- an I frame is taken in Open alone
-  i_reply : (ns nr : ℕ) (p more : Bool) (info : List ℕ) →
+  pub i_reply : (ns nr : ℕ) (p more : Bool) (info : List ℕ) →
       ((reply_with s cr l (I ns nr p more info) ≡ TakesIFrame ns nr p (info, more)) × (l.endpoint.state ≡ Open))
       ⊎ (reply_with s cr l (I ns nr p more info) ≡ Nothing) ⊎ (reply_with s cr l (I ns nr p more info) ≡ SendsDm)
   i_reply ns nr p more info = grind arith
@@ -381,7 +381,7 @@ ages_then l m k a b = record {
     by_open (inr y) = inr ((a.young y).0)
 
 module _ (s : ℕ) (cr : Bool) (l : LinkState) where
-  rr_reply : (nr : ℕ) (p : Bool) →
+  pub rr_reply : (nr : ℕ) (p : Bool) →
       ((reply_with s cr l (Rr nr p) ≡ TakesRr nr (is_command l.endpoint (record { sapi = s; cr = cr; content = Rr nr p }) && p))
       × (l.endpoint.state ≡ Open))
       ⊎ (reply_with s cr l (Rr nr p) ≡ Nothing) ⊎ (reply_with s cr l (Rr nr p) ≡ SendsDm)

@@ -1,7 +1,7 @@
 -- How long a link of SAPI 0 waits while both are open: each slot of waiting is charged to a segment, to a loss, or to an answer.
 use Rattle.{
-  std.specs.Prelude.{◌≡◌, ◌≢◌, ℕ, zero, suc, ◌+◌, ◌-◌, ◌*◌, ◌≤◌, Bool, true, false, not, ◌&&◌},
-  std.{specs.Prelude.{◌||◌, ◌⊎◌, nat_le, nat_eq, List, Some}, proofs.Common.{inl, inr, arith, refl, ap, sym, ◌∙◌}},
+  std.specs.Prelude.{◌≡◌, ◌≢◌, ℕ, zero, suc, ◌+◌, ◌-◌, ◌*◌, ◌≤◌, Bool, true, false, ◌&&◌, ◌||◌},
+  std.{specs.Prelude.{◌⊎◌, nat_le, nat_eq, List, Some}, proofs.Common.{inl, inr, arith, refl, ap, sym, ◌∙◌}},
   std.proofs.Math.Nat.{mul-add, mul-one},
   lapdm_frame.specs.Content.{I, Frame},
   lapdm_end.specs.lapdm_window.{
@@ -10,24 +10,24 @@ use Rattle.{
   },
   lapdm_link.specs.Events.other,
   lapdm_datalink.{
-    specs.{Links.{LinkState, slot_outcome, is_due}, Channels.Run, Progress.{link_at, turn_at, arriving_at, ready_at, frame_at, is_loss_at}},
-    specs.Progress.{IsWithoutRelease, round_trip, is_i_frame, is_repetition, is_lossy, one_if, waiting_slots, lossy_slots, expiries},
-    specs.Progress.{AreOpen, acked_at},
+    specs.{Links.{LinkState, slot_outcome, is_due, keeps_back}, Channels.Run, Progress.{link_at, turn_at, arriving_at, ready_at, frame_at}},
+    specs.Progress.{is_loss_at, round_trip, is_i_frame, is_lossy, one_if, waiting_slots, lossy_slots, expiries, AreOpen, acked_at},
+    specs.Progress.{expires_in, answer_goes},
     proofs.{
       ProgressSteps.{acked, issued, aired, Moves},
       ProgressLink.{slot_acked, slot_issued, aired_unsent, aired_sent},
       ProgressStart.{ready_t200, ready_moves, ready_due, slot_open, clock_after},
       ProgressWaits.{SlotWay, sends, blocked, counts, slot_way},
-      ProgressRuns.{sound, slotted_in, link_step, counted},
+      ProgressRuns.{sound, slotted_in, link_step, counted, NeverReleases},
       ProgressPaid.{acked_in_time, answered_frame, le_of, not_le_of},
-      ProgressExpiries.{repeats, poll_is_i, answer_no_i, i_parts, loss_of, true-false, owes_ready, waits_at, awaits_same},
+      ProgressExpiries.{i_parts, loss_of, true-false, waits_at, awaits_same},
     },
   },
 }
 
 -- B: in how many of these slots this link sends an answer though the frame that awaits an answer is due
 abbrev pub answers_first : (run : Run) (slot : ℕ) (role : Role) → Bool
-answers_first r n role = is_due (ready_at r n role) && not (is_i_frame (frame_at r n role))
+answers_first r n role = is_due (ready_at r n role) && answer_goes (ready_at r n role).answer (ready_at r n role)
 
 abbrev pub answering_slots : (run : Run) (first slots : ℕ) (role : Role) → ℕ
 answering_slots r n zero role = 0
@@ -39,15 +39,25 @@ open_awaits e o = grind (arith, o)
 pub due_clock : (m : LinkState) → is_due m ≡ true → (m.clock ≡ 0) × (awaits_answer m.endpoint ≡ true)
 due_clock m h = (grind (arith, h), grind (arith, h))
 
-not_due : (m : LinkState) → is_due m ≡ false → awaits_answer m.endpoint ≡ true → 1 ≤ m.clock
+pub not_due : (m : LinkState) → is_due m ≡ false → awaits_answer m.endpoint ≡ true → 1 ≤ m.clock
 not_due m h w = grind (arith, h, w)
 
-ack_none : (l : LinkState) → awaits_ack l.endpoint ≡ false → issued l ≡ acked l
+pub ack_none : (l : LinkState) → awaits_ack l.endpoint ≡ false → issued l ≡ acked l
 ack_none l w = grind (arith, w)
 
-ack_one : (l : LinkState) → awaits_ack l.endpoint ≡ true → acked l ≤ issued l → issued l ≤ acked l + 1 →
+pub ack_one : (l : LinkState) → awaits_ack l.endpoint ≡ true → acked l ≤ issued l → issued l ≤ acked l + 1 →
     issued l ≡ acked l + 1
 ack_one l w a b = grind (arith, w)
+
+pub expires_due : (m : LinkState) → expires_in m ≡ true →
+    (is_due m ≡ true) × (m.is_sent ≡ true) × (answer_goes m.answer m ≡ false)
+expires_due m h = (grind (arith, h), grind (arith, h), grind (arith, h))
+
+pub both : (a b : Bool) → a ≡ true → b ≡ true → (a && b) ≡ true
+both a b h k = rw (h, k) refl
+
+pub goes_it : (m : LinkState) (f : Frame) → m.answer ≡ Some f → keeps_back f m ≡ false → answer_goes m.answer m ≡ true
+goes_it m f a k = grind (arith, a, k)
 
 some_loss : (a b : Bool) → a ≡ true → (a || b) ≡ true
 some_loss a b h = rw h refl
@@ -59,13 +69,13 @@ other_loss false b h = h
 pub open_closed : Open ≡ Closed → ⊥
 open_closed h = cc
 
-eq_of : (a b : ℕ) → nat_eq a b ≡ true → a ≡ b
+pub eq_of : (a b : ℕ) → nat_eq a b ≡ true → a ≡ b
 eq_of a b h = grind (arith, h)
 
 above : (a b : ℕ) → b ≤ a → nat_eq a b ≡ false → b + 1 ≤ a
 above a b h e = grind (arith, e)
 
-no_ack : (l : LinkState) → issued l ≡ acked l → awaits_ack l.endpoint ≡ false
+pub no_ack : (l : LinkState) → issued l ≡ acked l → awaits_ack l.endpoint ≡ false
 no_ack l e = grind (arith, e)
 
 pub times_next : (k a b : ℕ) → a + 1 ≤ b → k * a + k ≤ k * b
@@ -86,11 +96,11 @@ cost t a b = let e : a + b + 1 ≡ (a + 1) + b = omega arith in rw e (mul-add t 
 apart : (a n : ℕ) → suc a ≤ suc n → nat_eq a n ≡ false → suc a ≤ n
 apart a n h e = grind (arith, e)
 
-lossy_by : (r : Run) (n : ℕ) (role : Role) → is_loss_at r n role ≡ true → is_lossy r n ≡ true
+pub lossy_by : (r : Run) (n : ℕ) (role : Role) → is_loss_at r n role ≡ true → is_lossy r n ≡ true
 lossy_by r n Mobile h = some_loss (is_loss_at r n Mobile) (is_loss_at r n Network) h
 lossy_by r n Network h = other_loss (is_loss_at r n Mobile) (is_loss_at r n Network) h
 
-clock_within : (r : Run) → IsWithoutRelease r → (role : Role) (n : ℕ) → (link_at r n role).clock ≤ r.t200
+pub clock_within : (r : Run) → NeverReleases r → (role : Role) (n : ℕ) → (link_at r n role).clock ≤ r.t200
 clock_within r u Mobile zero = omega arith
 clock_within r u Network zero = omega arith
 clock_within r u role (suc n) = by_slot (clock_after role (arriving_at r n role) (turn_at r n role).calls (link_at r n role)
@@ -109,7 +119,7 @@ clock_within r u role (suc n) = by_slot (clock_after role (arriving_at r n role)
       (sound r u n).t200 role,
     )
 
-module _ (r : Run) (u : IsWithoutRelease r) (long : round_trip r.delay ≤ r.t200) (n0 : ℕ) (role : Role) where
+module _ (r : Run) (u : NeverReleases r) (long : round_trip r.delay ≤ r.t200) (n0 : ℕ) (role : Role) where
   abbrev pub L : ℕ → LinkState
   L n = link_at r n role
 
@@ -120,7 +130,8 @@ module _ (r : Run) (u : IsWithoutRelease r) (long : round_trip r.delay ≤ r.t20
   pub record Going (n : ℕ) : Type 0 where
     pub slot : ℕ
     pub since : ℕ
-    pub start : n0 ≤ slot
+    pub start : n0 ≤ suc slot + r.delay
+    pub here : (L n).endpoint.state ≡ Open
     pub now : suc slot + since ≡ n
     pub sent : is_i_frame (frame_at r slot role) ≡ true
     pub arrives : (turn_at r slot role).is_lost ≡ false
@@ -152,18 +163,12 @@ module _ (r : Run) (u : IsWithoutRelease r) (long : round_trip r.delay ≤ r.t20
     pub stage : Stage (suc n) paid_next used_next
     pub bound : one_if (awaits_answer (M n).endpoint) + paid_next + round_trip r.delay * acked (L n) + used
         ≤ round_trip r.delay * acked (L (suc n)) + r.t200 * one_if (is_lossy r n) + one_if (answers_first r n role) + used_next + paid
-    pub repays : one_if (is_repetition (frame_at r n role)) + pending stage ≤ one_if (is_lossy r n) + left
+    pub repays : one_if (expires_in (M n)) + pending stage ≤ one_if (is_lossy r n) + left
 
-  -- the links are open before slot n, and since the first slot
-  module _ (n : ℕ) (first : n0 ≤ n)
-      (opened : (k : ℕ) → n0 ≤ k → k ≤ suc n → (q : Role) → (link_at r k q).endpoint.state ≡ Open)
+  -- the link is open in slot n, and the other side since slot n0
+  module _ (n : ℕ) (first : n0 ≤ suc n + r.delay) (m_open : (M n).endpoint.state ≡ Open)
+      (there : (k : ℕ) → n0 ≤ k → k ≤ n → (link_at r k (other role)).endpoint.state ≡ Open)
     where
-      out_open : (slot_outcome (M n)).link.endpoint.state ≡ Open
-      out_open = ap (λ l. l.endpoint.state) (sym (link_step r n role)) ∙ opened (suc n) (omega (arith, first)) (omega arith) role
-
-      m_open : (M n).endpoint.state ≡ Open
-      m_open = slot_open (M n) out_open
-
       m_acked : acked (L (suc n)) ≡ acked (M n)
       m_acked = ap acked (link_step r n role) ∙ slot_acked (M n)
 
@@ -207,14 +212,14 @@ module _ (r : Run) (u : IsWithoutRelease r) (long : round_trip r.delay ≤ r.t20
               x = i_parts (frame_at r g.slot role) g.sent
 
               open_back : (link_at r back (other role)).endpoint.state ≡ Open
-              open_back = opened back (omega (arith, g.start)) (omega (arith, h)) (other role)
+              open_back = there back (omega (arith, g.start)) (omega (arith, h))
 
               closed_open : (link_at r (suc back) (other role)).endpoint.state ≢ Closed
-              closed_open e = open_closed (sym (opened (suc back) (omega (arith, g.start)) (omega (arith, h)) (other role)) ∙ e)
+              closed_open e = open_closed (sym (there (suc back) (omega (arith, g.start)) (omega (arith, h))) ∙ e)
 
               acked_back : acked (L (suc g.slot)) + 1 ≤ acked (L (suc (suc back + r.delay)))
               acked_back = acked_in_time r u g.slot role x.0 x.2 x.3 x.4 x.5 x.6 x.1 x.7 g.arrives open_back closed_open
-                  (g.returns (omega (arith, h))) (opened (suc back + r.delay) (omega (arith, g.start)) (omega (arith, h)) role)
+                  (g.returns (omega (arith, h))) (rw h g.here)
 
               acked_late : acked (L (suc g.slot)) + 1 ≤ acked (L (suc n))
               acked_late = rw (← h) acked_back
@@ -258,20 +263,20 @@ module _ (r : Run) (u : IsWithoutRelease r) (long : round_trip r.delay ≤ r.t20
 
       -- ---- a repetition
 
-      no_repetition : (is_repetition (frame_at r n role) ≡ true → ⊥) → one_if (is_repetition (frame_at r n role)) ≡ 0
-      no_repetition ends = by_frame (is_repetition (frame_at r n role)) refl
+      no_expiry : (expires_in (M n) ≡ true → ⊥) → one_if (expires_in (M n)) ≡ 0
+      no_expiry ends = by_frame (expires_in (M n)) refl
         where
-          by_frame : (b : Bool) → is_repetition (frame_at r n role) ≡ b → one_if (is_repetition (frame_at r n role)) ≡ 0
+          by_frame : (b : Bool) → expires_in (M n) ≡ b → one_if (expires_in (M n)) ≡ 0
           by_frame true e = absurd (ends e)
           by_frame false e = ap one_if e
 
-      -- the link that repeats its I frame had sent it, and its clock is over
-      repeating : is_repetition (frame_at r n role) ≡ true →
+      -- the link whose T200 expires had sent its I frame, and its clock is over
+      expiring : expires_in (M n) ≡ true →
           ((M n).is_sent ≡ true) × ((M n).clock ≡ 0) × (awaits_answer (M n).endpoint ≡ true)
-      repeating h = let x = repeats (M n) (owes_ready r u role n) h in (x.0, x.2, open_awaits (M n).endpoint m_open ∙ x.3)
+      expiring h = let x = expires_due (M n) h in let y = due_clock (M n) x.0 in (x.1, y.0, y.1)
 
       -- the sending before it was lost
-      was_failed : (paid used : ℕ) (s : Stage n paid used) → is_due (M n) ≡ true → (M n).is_sent ≡ true → pending s ≡ 1
+      pub was_failed : (paid used : ℕ) (s : Stage n paid used) → is_due (M n) ≡ true → (M n).is_sent ≡ true → pending s ≡ 1
       was_failed paid used s due sent = by_stage s
         where
           x : (awaits_ack (L n).endpoint ≡ true) × ((L n).is_sent ≡ true) × (acked (M n) ≡ acked (L n))
@@ -285,250 +290,270 @@ module _ (r : Run) (u : IsWithoutRelease r) (long : round_trip r.delay ≤ r.t20
           by_stage (going g p q) = absurd (not_yet g due (m_acked ∙ x.2))
 
       repeats_failed : (paid used : ℕ) (s : Stage n paid used) → is_due (M n) ≡ true →
-          one_if (is_repetition (frame_at r n role)) ≤ pending s
-      repeats_failed paid used s due = by_frame (is_repetition (frame_at r n role)) refl
+          one_if (expires_in (M n)) ≤ pending s
+      repeats_failed paid used s due = by_frame (expires_in (M n)) refl
         where
-          by_frame : (b : Bool) → is_repetition (frame_at r n role) ≡ b → one_if (is_repetition (frame_at r n role)) ≤ pending s
-          by_frame true e = omega (arith, ap one_if e, was_failed paid used s due (repeating e).0)
+          by_frame : (b : Bool) → expires_in (M n) ≡ b → one_if (expires_in (M n)) ≤ pending s
+          by_frame true e = omega (arith, ap one_if e, was_failed paid used s due (expiring e).0)
           by_frame false e = omega (arith, ap one_if e)
 
       -- ---- the ways of a slot
 
-      -- it awaits nothing
-      rests : (paid used : ℕ) (s : Stage n paid used) → awaits_answer (M n).endpoint ≡ false → Next n paid used (pending s)
-      rests paid used s w = record {
-        paid_next = 0;
-        used_next = 0;
-        stage = quiet refl refl later;
-        bound = omega (arith, ap one_if w, settle paid used s ends);
-        repays = omega (arith, no_repetition (λ h. true-false (sym (repeating h).2 ∙ w)));
-      }
+      module _ (out_open : (slot_outcome (M n)).link.endpoint.state ≡ Open)
+          (next_there : n0 ≤ suc n → (link_at r (suc n) (other role)).endpoint.state ≡ Open)
         where
-          none : issued (M n) ≡ acked (M n)
-          none = ack_none (M n) (sym (open_awaits (M n).endpoint m_open) ∙ w)
+          here : (L (suc n)).endpoint.state ≡ Open
+          here = ap (λ l. l.endpoint.state) (link_step r n role) ∙ out_open
 
-          later : awaits_ack (L (suc n)).endpoint ≡ false
-          later = no_ack (L (suc n)) (m_issued ∙ none ∙ sym m_acked)
-
-          ends : (g : Going n) → acked (L (suc n)) ≡ acked (L n) → ⊥
-          ends g stays =
-              let one : aired (L n) ≡ issued (L n) = aired_sent (L n) (issued (L n)) g.is_sent refl in
-              let two : issued (L n) ≡ acked (L n) + 1 =
-              ack_one (L n) g.awaits ((sound r u n).good role).low ((sound r u n).good role).window in
-              omega (
-                arith,
-                one,
-                two,
-                (slotted_in r u n role).moves.aired_up,
-                (counted r u).aired_issued role (suc n),
-                m_issued,
-                none,
-                m_acked,
-                stays,
-              )
-
-      -- its frame is due, and it sends it
-      starts : (paid used : ℕ) (s : Stage n paid used) → is_due (M n) ≡ true → is_i_frame (frame_at r n role) ≡ true →
-          (L (suc n)).is_sent ≡ true → (L (suc n)).clock ≡ r.t200 → (b : Bool) → (turn_at r n role).is_lost ≡ b →
-          Next n paid used (pending s)
-      starts paid used s due i sent c true lost = record {
-        paid_next = r.t200 - 1;
-        used_next = 0;
-        stage = failed (rw c refl) refl;
-        bound = omega (
-          arith,
-          ap one_if (due_clock (M n) due).1,
-          settle paid used s (λ g. not_yet g due),
-          ap one_if (lossy lost),
-          mul-one r.t200,
-          ap (λ k. r.t200 * k) (ap one_if (lossy lost)),
-          long,
-        );
-        repays = omega (arith, repeats_failed paid used s due, ap one_if (lossy lost));
-      }
-        where
-          lossy : (turn_at r n role).is_lost ≡ true → is_lossy r n ≡ true
-          lossy e =
-              let x = i_parts (frame_at r n role) i in
-              lossy_by r n role (loss_of (turn_at r n role).is_lost (frame_at r n role) x.0 x.1 e)
-      starts paid used s due i sent c false kept = record {
-        paid_next = 0;
-        used_next = 1;
-        stage = going (record {
-          slot = n;
-          since = 0;
-          start = first;
-          now = omega arith;
-          sent = i;
-          arrives = kept;
-          returns = λ h. absurd (omega (arith, h));
-          same = refl;
-          time = omega (arith, c);
-          early = omega arith;
-          awaits = awaits_same r u role (L (suc n)) (M n) (sym m_acked) (sym m_issued) w;
-          is_sent = sent;
-        }) refl refl;
-        bound = omega (arith, ap one_if (due_clock (M n) due).1, settle paid used s (λ g. not_yet g due));
-        repays = omega (arith, repeats_failed paid used s due);
-      }
-        where
-          w : awaits_ack (M n).endpoint ≡ true
-          w = sym (open_awaits (M n).endpoint m_open) ∙ (due_clock (M n) due).1
-
-      answers_it : is_due (M n) ≡ true → is_i_frame (frame_at r n role) ≡ false → answers_first r n role ≡ true
-      answers_it due i = rw (due, i) refl
-
-      no_poll : is_i_frame (frame_at r n role) ≡ false → is_repetition (frame_at r n role) ≡ true → ⊥
-      no_poll i h = true-false (sym (poll_is_i (frame_at r n role) h) ∙ i)
-
-      -- its frame is due, and an answer goes first
-      yields : (paid used : ℕ) (s : Stage n paid used) → is_due (M n) ≡ true → is_i_frame (frame_at r n role) ≡ false →
-          (L (suc n)).is_sent ≡ (M n).is_sent → (L (suc n)).clock ≡ (M n).clock → (b : Bool) → (M n).is_sent ≡ b →
-          Next n paid used (pending s)
-      yields paid used s due i sent c true e = record {
-        paid_next = 0;
-        used_next = 0;
-        stage = failed (omega (arith, c, (due_clock (M n) due).0)) refl;
-        bound = omega (arith, ap one_if (due_clock (M n) due).1, settle paid used s (λ g. not_yet g due), ap one_if (answers_it due i));
-        repays = omega (arith, no_repetition (no_poll i), was_failed paid used s due e);
-      }
-      yields paid used s due i sent c false e = record {
-        paid_next = 0;
-        used_next = 0;
-        stage = unsent refl refl (sent ∙ e);
-        bound = omega (arith, ap one_if (due_clock (M n) due).1, settle paid used s (λ g. not_yet g due), ap one_if (answers_it due i));
-        repays = omega (arith, no_repetition (no_poll i));
-      }
-
-      -- its frame is not due, and its clock counts
-      module _ (w : awaits_answer (M n).endpoint ≡ true) (due : is_due (M n) ≡ false) (keeps : (L (suc n)).is_sent ≡ (M n).is_sent)
-          (runs : (L (suc n)).clock ≡ (M n).clock)
-        where
-          ticks : 1 ≤ (M n).clock
-          ticks = not_due (M n) due w
-
-          m_sent : (b : Bool) → (M n).is_sent ≡ b → (M n).is_sent ≡ true
-          m_sent true e = e
-          m_sent false e = absurd (omega (arith, ticks, m_due e))
-
-          m_awaits : awaits_ack (M n).endpoint ≡ true
-          m_awaits = sym (open_awaits (M n).endpoint m_open) ∙ w
-
-          x : (awaits_ack (L n).endpoint ≡ true) × ((L n).is_sent ≡ true) × (acked (M n) ≡ acked (L n))
-              × ((M n).clock ≡ (L n).clock - 1)
-          x = waits_at r u role n m_awaits (m_sent _ refl)
-
-          stays : acked (L (suc n)) ≡ acked (L n)
-          stays = m_acked ∙ x.2
-
-          goes_on : (g : Going n) →
-              (suc (suc g.slot + r.delay) ≤ suc n → (turn_at r (suc g.slot + r.delay) (other role)).is_lost ≡ false) →
-              (h : Going (suc n)) × (h.since ≡ g.since + 1)
-          goes_on g returns = (
-            record {
-              slot = g.slot;
-              since = g.since + 1;
-              start = g.start;
-              now = omega (arith, g.now);
-              sent = g.sent;
-              arrives = g.arrives;
-              returns = returns;
-              same = g.same ∙ sym stays;
-              time = omega (arith, g.time, runs, ticks, x.3);
-              early = omega (arith, in_time g stays);
-              awaits = awaits_same r u role (L (suc n)) (M n) (sym m_acked) (sym m_issued) m_awaits;
-              is_sent = keeps ∙ m_sent _ refl;
-            },
-            refl,
-          )
-
-          silent : one_if (is_repetition (frame_at r n role)) ≡ 0
-          silent = no_repetition (λ h. absurd (omega (arith, ticks, (repeating h).1)))
-
-          goes : (paid used left : ℕ) (g : Going n) → used ≡ g.since + 1 → (h : Going (suc n)) × (h.since ≡ g.since + 1) →
-              Next n paid used left
-          goes paid used left g q (h, e) = record {
+          -- it awaits nothing
+          rests : (paid used : ℕ) (s : Stage n paid used) → awaits_answer (M n).endpoint ≡ false → Next n paid used (pending s)
+          rests paid used s w = record {
             paid_next = 0;
-            used_next = h.since + 1;
-            stage = going h refl refl;
-            bound = omega (arith, ap one_if w, product, q, e);
-            repays = omega (arith, silent);
-          }
-
-          back_lost : (paid used left : ℕ) (g : Going n) → paid ≡ 0 → used ≡ g.since + 1 → suc g.slot + r.delay ≡ n →
-              is_lossy r n ≡ true → Next n paid used left
-          back_lost paid used left g p q at_n lossy = record {
-            paid_next = (L (suc n)).clock - 1;
             used_next = 0;
-            stage = failed refl refl;
+            stage = quiet refl refl later;
+            bound = omega (arith, ap one_if w, settle paid used s ends);
+            repays = omega (arith, no_expiry (λ h. true-false (sym (expiring h).2 ∙ w)));
+          }
+            where
+              none : issued (M n) ≡ acked (M n)
+              none = ack_none (M n) (sym (open_awaits (M n).endpoint m_open) ∙ w)
+
+              later : awaits_ack (L (suc n)).endpoint ≡ false
+              later = no_ack (L (suc n)) (m_issued ∙ none ∙ sym m_acked)
+
+              ends : (g : Going n) → acked (L (suc n)) ≡ acked (L n) → ⊥
+              ends g stays =
+                  let one : aired (L n) ≡ issued (L n) = aired_sent (L n) (issued (L n)) g.is_sent refl in
+                  let two : issued (L n) ≡ acked (L n) + 1 =
+                  ack_one (L n) g.awaits ((sound r u n).good role).low ((sound r u n).good role).window in
+                  omega (
+                    arith,
+                    one,
+                    two,
+                    (slotted_in r u n role).moves.aired_up,
+                    (counted r u).aired_issued role (suc n),
+                    m_issued,
+                    none,
+                    m_acked,
+                    stays,
+                  )
+
+          -- its frame is due, and it sends it
+          starts : (paid used : ℕ) (s : Stage n paid used) → is_due (M n) ≡ true → is_i_frame (frame_at r n role) ≡ true →
+              (L (suc n)).is_sent ≡ true → (L (suc n)).clock ≡ r.t200 → (b : Bool) → (turn_at r n role).is_lost ≡ b →
+              Next n paid used (pending s)
+          starts paid used s due i sent c true lost = record {
+            paid_next = r.t200 - 1;
+            used_next = 0;
+            stage = failed (rw c refl) refl;
             bound = omega (
               arith,
-              ap one_if w,
-              product,
-              q,
-              g.time,
-              g.now,
-              at_n,
-              runs,
-              ticks,
-              x.3,
-              ap (λ k. r.t200 * one_if k) lossy,
+              ap one_if (due_clock (M n) due).1,
+              settle paid used s (λ g. not_yet g due),
+              ap one_if (lossy lost),
               mul-one r.t200,
+              ap (λ k. r.t200 * k) (ap one_if (lossy lost)),
+              long,
             );
-            repays = omega (arith, silent, ap one_if lossy);
+            repays = omega (arith, repeats_failed paid used s due, ap one_if (lossy lost));
           }
+            where
+              lossy : (turn_at r n role).is_lost ≡ true → is_lossy r n ≡ true
+              lossy e =
+                  let x = i_parts (frame_at r n role) i in
+                  lossy_by r n role (loss_of (turn_at r n role).is_lost (frame_at r n role) x.0 x.1 e)
+          starts paid used s due i sent c false kept = record {
+            paid_next = 0;
+            used_next = 1;
+            stage = going (record {
+              slot = n;
+              since = 0;
+              start = first;
+              here = here;
+              now = omega arith;
+              sent = i;
+              arrives = kept;
+              returns = λ h. absurd (omega (arith, h));
+              same = refl;
+              time = omega (arith, c);
+              early = omega arith;
+              awaits = awaits_same r u role (L (suc n)) (M n) (sym m_acked) (sym m_issued) w;
+              is_sent = sent;
+            }) refl refl;
+            bound = omega (arith, ap one_if (due_clock (M n) due).1, settle paid used s (λ g. not_yet g due));
+            repays = omega (arith, repeats_failed paid used s due);
+          }
+            where
+              w : awaits_ack (M n).endpoint ≡ true
+              w = sym (open_awaits (M n).endpoint m_open) ∙ (due_clock (M n) due).1
 
-          loss_there : (g : Going n) → suc g.slot + r.delay ≡ n → (turn_at r (suc g.slot + r.delay) (other role)).is_lost ≡ true →
-              is_lossy r n ≡ true
-          loss_there g at_n lost =
-              let f = i_parts (frame_at r g.slot role) g.sent in
-              let answer = answered_frame r u g.slot role f.0 f.2 f.3 f.4 f.5 f.6 f.1 f.7 g.arrives
-              (opened (suc g.slot + r.delay) (omega (arith, g.start)) (omega (arith, at_n)) (other role))
-              (λ e. open_closed (sym (opened (suc (suc g.slot + r.delay)) (omega (arith, g.start)) (omega (arith, at_n))
-              (other role)) ∙ e)) in
-              rw at_n at (lossy_by r (suc g.slot + r.delay) (other role)
-              (loss_of (turn_at r (suc g.slot + r.delay) (other role)).is_lost (frame_at r (suc g.slot + r.delay) (other role)) answer.0
-              answer.1 lost))
+          answers_it : is_due (M n) ≡ true → answer_goes (M n).answer (M n) ≡ true → answers_first r n role ≡ true
+          answers_it due goes = both (is_due (M n)) (answer_goes (M n).answer (M n)) due goes
 
-          going_on : (paid used left : ℕ) (g : Going n) → paid ≡ 0 → used ≡ g.since + 1 → (b : Bool) →
-              nat_eq (suc g.slot + r.delay) n ≡ b →
-              (c : Bool) → (turn_at r (suc g.slot + r.delay) (other role)).is_lost ≡ c → Next n paid used left
-          going_on paid used left g p q true e true lost =
-              let at_n : suc g.slot + r.delay ≡ n = eq_of (suc g.slot + r.delay) n e in
-              back_lost paid used left g p q at_n (loss_there g at_n lost)
-          going_on paid used left g p q b e false kept =
-              goes paid used left g q (goes_on g (λ late. kept))
-          going_on paid used left g p q false e true lost =
-              goes paid used left g q (goes_on g (λ late. g.returns (apart (suc g.slot + r.delay) n late e)))
+          no_poll : answer_goes (M n).answer (M n) ≡ true → expires_in (M n) ≡ true → ⊥
+          no_poll goes h = true-false (sym goes ∙ (expires_due (M n) h).2)
 
-          ticking : (paid used : ℕ) (s : Stage n paid used) → Next n paid used (pending s)
-          ticking paid used (quiet p q a) = absurd (true-false (sym x.0 ∙ a))
-          ticking paid used (unsent p q s) = absurd (true-false (sym x.1 ∙ s))
-          ticking paid used (failed p q) = record {
-            paid_next = (L (suc n)).clock - 1;
+          -- its frame is due, and an answer goes first
+          yields : (paid used : ℕ) (s : Stage n paid used) → is_due (M n) ≡ true → answer_goes (M n).answer (M n) ≡ true →
+              (L (suc n)).is_sent ≡ (M n).is_sent → (L (suc n)).clock ≡ (M n).clock → (b : Bool) → (M n).is_sent ≡ b →
+              Next n paid used (pending s)
+          yields paid used s due i sent c true e = record {
+            paid_next = 0;
             used_next = 0;
-            stage = failed refl refl;
-            bound = omega (arith, ap one_if w, product, p, q, runs, ticks, x.3);
-            repays = omega (arith, silent);
+            stage = failed (omega (arith, c, (due_clock (M n) due).0)) refl;
+            bound = omega (
+              arith,
+              ap one_if (due_clock (M n) due).1,
+              settle paid used s (λ g. not_yet g due),
+              ap one_if (answers_it due i),
+            );
+            repays = omega (arith, no_expiry (no_poll i), was_failed paid used s due e);
           }
-          ticking paid used (going g p q) = going_on paid used 0 g p q _ refl _ refl
+          yields paid used s due i sent c false e = record {
+            paid_next = 0;
+            used_next = 0;
+            stage = unsent refl refl (sent ∙ e);
+            bound = omega (
+              arith,
+              ap one_if (due_clock (M n) due).1,
+              settle paid used s (λ g. not_yet g due),
+              ap one_if (answers_it due i),
+            );
+            repays = omega (arith, no_expiry (no_poll i));
+          }
 
-      -- the slot
-      next : (paid used : ℕ) (s : Stage n paid used) → Next n paid used (pending s)
-      next paid used s = by_awaits (awaits_answer (M n).endpoint) refl
-        where
-          by_way : awaits_answer (M n).endpoint ≡ true → SlotWay (M n) → Next n paid used (pending s)
-          by_way w (sends d i t c) = starts paid used s d i (ap (λ l. l.is_sent) (link_step r n role) ∙ t)
-              (ap (λ l. l.clock) (link_step r n role) ∙ c ∙ m_t200) (turn_at r n role).is_lost refl
-          by_way w (blocked x a k d f t c) =
-              yields paid used s d (ap is_i_frame f ∙ answer_no_i (M n) (M n).answer (owes_ready r u role n))
-              (ap (λ l. l.is_sent) (link_step r n role) ∙ t) (ap (λ l. l.clock) (link_step r n role) ∙ c) (M n).is_sent refl
-          by_way w (counts d t c) = ticking w d (ap (λ l. l.is_sent) (link_step r n role) ∙ t)
-              (ap (λ l. l.clock) (link_step r n role) ∙ c) paid used s
+          -- its frame is not due, and its clock counts
+          module _ (w : awaits_answer (M n).endpoint ≡ true) (due : is_due (M n) ≡ false)
+              (keeps : (L (suc n)).is_sent ≡ (M n).is_sent)
+              (runs : (L (suc n)).clock ≡ (M n).clock)
+            where
+              ticks : 1 ≤ (M n).clock
+              ticks = not_due (M n) due w
 
-          by_awaits : (b : Bool) → awaits_answer (M n).endpoint ≡ b → Next n paid used (pending s)
-          by_awaits true w = by_way w (slot_way (M n) m_open out_open)
-          by_awaits false w = rests paid used s w
+              m_sent : (b : Bool) → (M n).is_sent ≡ b → (M n).is_sent ≡ true
+              m_sent true e = e
+              m_sent false e = absurd (omega (arith, ticks, m_due e))
+
+              m_awaits : awaits_ack (M n).endpoint ≡ true
+              m_awaits = sym (open_awaits (M n).endpoint m_open) ∙ w
+
+              x : (awaits_ack (L n).endpoint ≡ true) × ((L n).is_sent ≡ true) × (acked (M n) ≡ acked (L n))
+                  × ((M n).clock ≡ (L n).clock - 1)
+              x = waits_at r u role n m_awaits (m_sent _ refl)
+
+              stays : acked (L (suc n)) ≡ acked (L n)
+              stays = m_acked ∙ x.2
+
+              goes_on : (g : Going n) →
+                  (suc (suc g.slot + r.delay) ≤ suc n → (turn_at r (suc g.slot + r.delay) (other role)).is_lost ≡ false) →
+                  (h : Going (suc n)) × (h.since ≡ g.since + 1)
+              goes_on g returns = (
+                record {
+                  slot = g.slot;
+                  since = g.since + 1;
+                  start = g.start;
+                  here = here;
+                  now = omega (arith, g.now);
+                  sent = g.sent;
+                  arrives = g.arrives;
+                  returns = returns;
+                  same = g.same ∙ sym stays;
+                  time = omega (arith, g.time, runs, ticks, x.3);
+                  early = omega (arith, in_time g stays);
+                  awaits = awaits_same r u role (L (suc n)) (M n) (sym m_acked) (sym m_issued) m_awaits;
+                  is_sent = keeps ∙ m_sent _ refl;
+                },
+                refl,
+              )
+
+              silent : one_if (expires_in (M n)) ≡ 0
+              silent = no_expiry (λ h. absurd (omega (arith, ticks, (expiring h).1)))
+
+              goes : (paid used left : ℕ) (g : Going n) → used ≡ g.since + 1 → (h : Going (suc n)) × (h.since ≡ g.since + 1) →
+                  Next n paid used left
+              goes paid used left g q (h, e) = record {
+                paid_next = 0;
+                used_next = h.since + 1;
+                stage = going h refl refl;
+                bound = omega (arith, ap one_if w, product, q, e);
+                repays = omega (arith, silent);
+              }
+
+              back_lost : (paid used left : ℕ) (g : Going n) → paid ≡ 0 → used ≡ g.since + 1 → suc g.slot + r.delay ≡ n →
+                  is_lossy r n ≡ true → Next n paid used left
+              back_lost paid used left g p q at_n lossy = record {
+                paid_next = (L (suc n)).clock - 1;
+                used_next = 0;
+                stage = failed refl refl;
+                bound = omega (
+                  arith,
+                  ap one_if w,
+                  product,
+                  q,
+                  g.time,
+                  g.now,
+                  at_n,
+                  runs,
+                  ticks,
+                  x.3,
+                  ap (λ k. r.t200 * one_if k) lossy,
+                  mul-one r.t200,
+                );
+                repays = omega (arith, silent, ap one_if lossy);
+              }
+
+              loss_there : (g : Going n) → suc g.slot + r.delay ≡ n →
+                  (turn_at r (suc g.slot + r.delay) (other role)).is_lost ≡ true →
+                  is_lossy r n ≡ true
+              loss_there g at_n lost =
+                  let f = i_parts (frame_at r g.slot role) g.sent in
+                  let answer = answered_frame r u g.slot role f.0 f.2 f.3 f.4 f.5 f.6 f.1 f.7 g.arrives
+                  (there (suc g.slot + r.delay) (omega (arith, g.start)) (omega (arith, at_n)))
+                  (λ e. open_closed (sym (ap (λ k. (link_at r (suc k) (other role)).endpoint.state) at_n
+                  ∙ next_there (omega (arith, g.start, at_n))) ∙ e)) in
+                  rw at_n at (lossy_by r (suc g.slot + r.delay) (other role)
+                  (loss_of (turn_at r (suc g.slot + r.delay) (other role)).is_lost (frame_at r (suc g.slot + r.delay) (other role)) answer.0
+                  answer.1 lost))
+
+              going_on : (paid used left : ℕ) (g : Going n) → paid ≡ 0 → used ≡ g.since + 1 → (b : Bool) →
+                  nat_eq (suc g.slot + r.delay) n ≡ b →
+                  (c : Bool) → (turn_at r (suc g.slot + r.delay) (other role)).is_lost ≡ c → Next n paid used left
+              going_on paid used left g p q true e true lost =
+                  let at_n : suc g.slot + r.delay ≡ n = eq_of (suc g.slot + r.delay) n e in
+                  back_lost paid used left g p q at_n (loss_there g at_n lost)
+              going_on paid used left g p q b e false kept =
+                  goes paid used left g q (goes_on g (λ late. kept))
+              going_on paid used left g p q false e true lost =
+                  goes paid used left g q (goes_on g (λ late. g.returns (apart (suc g.slot + r.delay) n late e)))
+
+              ticking : (paid used : ℕ) (s : Stage n paid used) → Next n paid used (pending s)
+              ticking paid used (quiet p q a) = absurd (true-false (sym x.0 ∙ a))
+              ticking paid used (unsent p q s) = absurd (true-false (sym x.1 ∙ s))
+              ticking paid used (failed p q) = record {
+                paid_next = (L (suc n)).clock - 1;
+                used_next = 0;
+                stage = failed refl refl;
+                bound = omega (arith, ap one_if w, product, p, q, runs, ticks, x.3);
+                repays = omega (arith, silent);
+              }
+              ticking paid used (going g p q) = going_on paid used 0 g p q _ refl _ refl
+
+          -- the slot
+          pub next : (paid used : ℕ) (s : Stage n paid used) → Next n paid used (pending s)
+          next paid used s = by_awaits (awaits_answer (M n).endpoint) refl
+            where
+              by_way : awaits_answer (M n).endpoint ≡ true → SlotWay (M n) → Next n paid used (pending s)
+              by_way w (sends d i t c) = starts paid used s d i (ap (λ l. l.is_sent) (link_step r n role) ∙ t)
+                  (ap (λ l. l.clock) (link_step r n role) ∙ c ∙ m_t200) (turn_at r n role).is_lost refl
+              by_way w (blocked x a k d f t c) =
+                  yields paid used s d (goes_it (M n) x a k)
+                  (ap (λ l. l.is_sent) (link_step r n role) ∙ t) (ap (λ l. l.clock) (link_step r n role) ∙ c) (M n).is_sent refl
+              by_way w (counts d t c) = ticking w d (ap (λ l. l.is_sent) (link_step r n role) ∙ t)
+                  (ap (λ l. l.clock) (link_step r n role) ∙ c) paid used s
+
+              by_awaits : (b : Bool) → awaits_answer (M n).endpoint ≡ b → Next n paid used (pending s)
+              by_awaits true w = by_way w (slot_way (M n) m_open out_open)
+              by_awaits false w = rests paid used s w
 
   -- ---- all slots
 
@@ -563,10 +588,17 @@ module _ (r : Run) (u : IsWithoutRelease r) (long : round_trip r.delay ≤ r.t20
   total (suc k) o =
       let e : n0 + suc k ≡ suc (n0 + k) = omega arith in
       let t = total k (λ j h q. o j (omega (arith, h)) q) in
-      rw e (one_more k t (next (n0 + k) (omega arith) (λ j a b q. open_at j a b q) t.paid t.used t.stage))
+      rw e (one_more k t (next (n0 + k) (omega arith) m_open (λ j a b. open_at j a (omega (arith, b)) (other role)) out_open
+      (λ a. open_at (suc (n0 + k)) a (omega arith) (other role)) t.paid t.used t.stage))
     where
       open_at : (j : ℕ) → n0 ≤ j → j ≤ suc (n0 + k) → (q : Role) → (link_at r j q).endpoint.state ≡ Open
       open_at j a b q = let e : n0 + (j - n0) ≡ j = omega (arith, a) in rw e at (o (j - n0) (omega (arith, b)) q)
+
+      out_open : (slot_outcome (M (n0 + k))).link.endpoint.state ≡ Open
+      out_open = ap (λ l. l.endpoint.state) (sym (link_step r (n0 + k) role)) ∙ open_at (suc (n0 + k)) (omega arith) (omega arith) role
+
+      m_open : (M (n0 + k)).endpoint.state ≡ Open
+      m_open = slot_open (M (n0 + k)) out_open
 
   used_at_most : (m paid used : ℕ) → Stage m paid used → used ≤ round_trip r.delay
   used_at_most m paid used (quiet p q w) = omega (arith, q)

@@ -3,7 +3,7 @@ use Rattle.{
   std.specs.Prelude.{◌≡◌, refl, ℕ, zero, suc, true, false, List, [], ◌∷◌, replicate, get_or},
   lapdm_frame.specs.declared.Channel.TheVariants.Sdcch,
   lapdm_end.specs.lapdm_window.{declared.State.TheVariants.{Open, Closed}, Ends.{Mobile, Network}, Calls.{Call, Opens, Sends}},
-  lapdm_datalink.specs.{Channels.{Run, Slot}, Progress.{link_at, waiting_slots, lossy_slots}},
+  lapdm_datalink.specs.{Channels.{Run, Slot}, Progress.{link_at, waiting_slots, lossy_slots, frames_at}},
 }
 
 -- slots without a call: nothing is lost, the mobile's block is lost, or the network's
@@ -53,7 +53,10 @@ early = run_of 2 (mobile_asks (Opens (1 ∷ [])) plain ∷ network_asks (Sends (
 early_waits : waiting_slots early 0 6 Network ≡ 3
 early_waits = refl
 
--- six lost SABMs, and the mobile gives up; after five it does not
+early_frames : frames_at early 6 Network ≡ 1
+early_frames = refl
+
+-- six lost SABMs, and the mobile gives up; after five it does not: five losses are the most that no link is closed for
 abbrev loses : ℕ → List Slot
 loses zero = []
 loses (suc n) = loses_up ∷ plain ∷ loses n
@@ -63,6 +66,9 @@ sabms_lost n = run_of 2 (mobile_asks (Opens (1 ∷ [])) loses_up ∷ plain ∷ l
 
 gives_up : (link_at (sabms_lost 5) 13 Mobile).endpoint.state ≡ Closed
 gives_up = refl
+
+six_losses : lossy_slots (sabms_lost 5) 0 13 ≡ 6
+six_losses = refl
 
 holds_on : (link_at (sabms_lost 4) 13 Mobile).endpoint.state ≡ Open
 holds_on = refl

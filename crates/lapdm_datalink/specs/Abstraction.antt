@@ -1,5 +1,5 @@
 -- How a `Link` and a `DataLink` represent their states.
-use Rattle.std.specs.Prelude.{◌≡◌, ℕ, Bool, true, false, not, List, [], ◌∷◌, Option, IfSome}
+use Rattle.std.specs.Prelude.{◌≡◌, Bool, true, false, not, List, [], ◌∷◌, IfSome}
 use Rattle.std.specs.Option.{option_map}
 use Rattle.lapdm_frame.specs.declared.Channel.{Channel}
 use Rattle.lapdm_frame.specs.Content.{Content, Rr, Rej, Dm, Ua, Frame}

@@ -2,7 +2,6 @@
 use Rattle.std.specs.Prelude.{◌≡◌, ◌≤◌, ◌<◌, ℕ, Bool, List, length, Option, IfSome}
 use Rattle.lapdm_frame.specs.Layout.{largest_n201}
 use Rattle.lapdm_end.specs.lapdm_window.segmenting.Segments.{max_message_octets, max_segments_per_message}
-use Rattle.std.specs.Option.{option_map}
 use Rattle.lapdm_frame.specs.declared.Channel.{Channel}
 use Rattle.lapdm_frame.specs.Content.{Frame}
 use Rattle.lapdm_frame.specs.Frames.{octets_of}

@@ -1,13 +1,14 @@
 -- Progress: how long a link of SAPI 0 waits for answers, and what each expiry of T200 costs the channel. These are this project's own
 -- statements; the standard has none.
-use Rattle.std.specs.Prelude.{◌≡◌, ◌≢◌, ℕ, zero, suc, ◌+◌, ◌*◌, ◌≤◌, Bool, true, false, ◌||◌, ◌⊎◌}
-use Rattle.std.specs.Prelude.{Option, Some, None, All}
+use Rattle.std.specs.Prelude.{◌≡◌, ◌≢◌, ℕ, zero, suc, ◌+◌, ◌*◌, ◌≤◌, Bool, true, false, not, ◌&&◌, ◌||◌}
+use Rattle.std.specs.Prelude.{◌⊎◌, Option, Some, None, All}
 use Rattle.lapdm_frame.specs.Content.{Content, I, Frame}
 use Rattle.lapdm_end.specs.lapdm_window.declared.State.TheVariants.{Open}
 use Rattle.lapdm_end.specs.lapdm_window.Ends.{Role, Mobile, Network, awaits_answer}
 use Rattle.lapdm_link.specs.Events.{other}
 use Rattle.lapdm_end.specs.lapdm_window.Rules.{is_open}
-use Rattle.lapdm_datalink.specs.Links.{LinkState, is_closed, slot_outcome, after_slot, after_frame}
+use Rattle.lapdm_end.specs.lapdm_window.Calls.{is_idle}
+use Rattle.lapdm_datalink.specs.Links.{LinkState, is_closed, is_due, keeps_back, slot_outcome, after_slot, after_frame}
 use Rattle.lapdm_datalink.specs.DataLinks.{DataLinkState, data_link_outcome, after_arrival, with_clocks_moved}
 use Rattle.lapdm_datalink.specs.Channels.{Run, Turn, channel_at, side_at, turn_of, before_sending, arriving, IsUse}
 
@@ -60,9 +61,9 @@ abbrev pub lossy_slots : (run : Run) (first slots : ℕ) → ℕ
 lossy_slots r n zero = 0
 lossy_slots r n (suc k) = lossy_slots r n k + one_if (is_lossy r (n + k))
 
--- layer 3 releases no link in this run
-abbrev pub IsWithoutRelease : Run → Type 0
-IsWithoutRelease r = (n : ℕ) (role : Role) → All (IsUse role) (turn_at r n role).calls
+-- layer 3 releases no link in the slots before this one
+abbrev pub IsWithoutRelease : (run : Run) (slot : ℕ) → Type 0
+IsWithoutRelease r m = (n : ℕ) → suc n ≤ m → (role : Role) → All (IsUse role) (turn_at r n role).calls
 
 -- neither side has given the link up before this slot: without a release, a link is closed only then
 abbrev pub NoneGaveUp : (run : Run) (slot : ℕ) → Type 0
@@ -85,8 +86,9 @@ abbrev pub is_repetition : Option Frame → Bool
 is_repetition None = false
 is_repetition (Some f) = is_repeated_content f.content
 
--- The expiry of T200 in this slot is paid by a loss: the link sent the I frame T200 slots ago or earlier, and no I frame since; and that
--- frame was lost, or the block with its answer, which leaves the other side one delay later, was. (The other side answers if it is open.)
+-- The repetition of an I frame in this slot is paid by a loss: the link sent the I frame T200 slots ago or earlier, and no I frame since;
+-- and that frame was lost, or the block with its answer, which leaves the other side one delay later, was. A mobile that still opens
+-- answers no I frame: then an older loss pays, of its SABM or of the UA (`FromStart`). One lost block may pay for one of each side.
 pub record IsPaid (r : Run) (n : ℕ) (role : Role) : Type 0 where
   pub slot : ℕ
   pub before : slot + r.t200 ≤ n
@@ -95,18 +97,28 @@ pub record IsPaid (r : Run) (n : ℕ) (role : Role) : Type 0 where
   pub lost : is_open (link_at r (suc slot + r.delay) (other role)).endpoint.state ≡ true →
       (is_loss_at r slot role ≡ true) ⊎ (is_loss_at r (suc slot + r.delay) (other role) ≡ true)
 
--- Each expiry of T200 of an open link is paid by a loss of its own: between two of them the link sends the I frame again.
+-- Each repetition of an I frame is paid by a loss of its own: between two of them the link sends the I frame again.
 abbrev pub PaysForExpiries : Run → Type 0
 PaysForExpiries r =
-    IsWithoutRelease r → round_trip r.delay ≤ r.t200 → (n : ℕ) → ((k : ℕ) → k ≤ n → NoneGaveUp r k) → (role : Role) →
-    is_repetition (frame_at r n role) ≡ true → IsPaid r n role
+    round_trip r.delay ≤ r.t200 → (n : ℕ) → IsWithoutRelease r (suc n) → ((k : ℕ) → k ≤ n → NoneGaveUp r k) →
+    (role : Role) → is_repetition (frame_at r n role) ≡ true → IsPaid r n role
 
 -- ---- how long a link waits
 
--- in how many of these slots this link repeats its I frame, because T200 has expired
+-- whether the answer that a link owes, if any, goes out in its slot
+abbrev pub answer_goes : (answer : Option Frame) (link : LinkState) → Bool
+answer_goes None l = false
+answer_goes (Some f) l = not (keeps_back f l)
+
+-- whether T200 expires in the slot of this link: the frame that awaits an answer was sent, it is due, and no answer goes first. It is
+-- repeated then, or the link is given up.
+abbrev pub expires_in : LinkState → Bool
+expires_in l = is_due l && l.is_sent && not (answer_goes l.answer l)
+
+-- in how many of these slots T200 of this link expires
 abbrev pub expiries : (run : Run) (first slots : ℕ) (role : Role) → ℕ
 expiries r n zero role = 0
-expiries r n (suc k) role = expiries r n k role + one_if (is_repetition (frame_at r (n + k) role))
+expiries r n (suc k) role = expiries r n k role + one_if (expires_in (ready_at r (n + k) role))
 
 -- both links are open before each of these slots and after the last
 abbrev pub AreOpen : (run : Run) (first slots : ℕ) → Type 0
@@ -126,7 +138,37 @@ pub record Progress (r : Run) (n k : ℕ) (role : Role) : Type 0 where
 
 abbrev pub Progresses : Run → Type 0
 Progresses r =
-    IsWithoutRelease r → round_trip r.delay ≤ r.t200 → (n k : ℕ) → AreOpen r n k → (role : Role) → Progress r n k role
+    round_trip r.delay ≤ r.t200 → (n k : ℕ) → IsWithoutRelease r (n + k) → AreOpen r n k → (role : Role) → Progress r n k role
+
+-- ---- from the start
+
+-- n: the frames of this link that await answers: the SABM that layer 3 of the mobile asked for, and the segments issued so far
+abbrev pub frames_at : (run : Run) (slot : ℕ) (role : Role) → ℕ
+frames_at r n Mobile = one_if (not (is_idle (link_at r n Mobile).endpoint.state)) + (link_at r n Mobile).endpoint.sent_segments
+frames_at r n Network = (link_at r n Network).endpoint.sent_segments
+
+-- the network's first I frame may wait behind the UA
+abbrev pub behind_ua : Role → ℕ
+behind_ua Mobile = 0
+behind_ua Network = 1
+
+-- Progress from the start. Until one gives up, and without a release, whatever is lost, a link waits at most one round trip for each of its
+-- frames, and T200 and one slot for each slot with a loss; the network one slot more. T200 expires at most once for each slot with a loss.
+-- That holds in each slot, so each expiry of a link has an earlier lossy slot of its own; one lossy slot may pay for one of each side.
+pub record FromStart (r : Run) (k : ℕ) (role : Role) : Type 0 where
+  pub waits : waiting_slots r 0 k role
+      ≤ round_trip r.delay * frames_at r k role + (r.t200 + 1) * lossy_slots r 0 k + behind_ua role
+  pub expires : expiries r 0 k role ≤ lossy_slots r 0 k
+
+abbrev pub ProgressesFromStart : Run → Type 0
+ProgressesFromStart r =
+    round_trip r.delay ≤ r.t200 → (k : ℕ) → IsWithoutRelease r k → ((j : ℕ) → j ≤ k → NoneGaveUp r j) →
+    (role : Role) → FromStart r k role
+
+-- With at most five slots with a loss so far, neither link has been given up: an expiry gives a link up only after N200 others, at least
+-- five, and each has a lossy slot of its own.
+abbrev pub KeepsLinks : Run → Type 0
+KeepsLinks r = round_trip r.delay ≤ r.t200 → (k : ℕ) → IsWithoutRelease r k → lossy_slots r 0 k ≤ 5 → NoneGaveUp r k
 
 -- The link of SAPI 0 of a data link does what it would do alone: in a slot, and when a frame arrives. If it sends a frame, the data link
 -- does; if it sends none, the link of SAPI 3 has the slot.

@@ -12,7 +12,7 @@ ghost use Rattle.lapdm_datalink.specs.Runs.{RunEvent, initial_run, IsRun, run_lo
 ghost use Rattle.lapdm_datalink.specs.Slots.{IsStepOfEndpoint, nr_of, took};
 ghost use Rattle.lapdm_datalink.specs.DataLinks.{DataLinkState};
 ghost use Rattle.lapdm_datalink.specs.Channels.{Run};
-ghost use Rattle.lapdm_datalink.specs.Progress.{GoesFirst, PaysForExpiries, Progresses};
+ghost use Rattle.lapdm_datalink.specs.Progress.{GoesFirst, PaysForExpiries, Progresses, ProgressesFromStart, KeepsLinks};
 ghost use Rattle.lapdm_datalink.specs.Lockstep as Lockstep;
 
 /// Law: in a slot, the endpoint of a link does nothing, repeats the frame that awaits an answer without counting it, or handles the expiry
@@ -61,7 +61,7 @@ pub fn law_sapi_0_goes_first()
     ensures { (s : DataLinkState) → GoesFirst s }
 {}
 
-/// Law: while two links of SAPI 0 on a channel are open, with one T200 of at least the round trip and no release in the whole run, each
+/// Law: while two links of SAPI 0 on a channel are open, with one T200 of at least the round trip and no release so far, each
 /// waits at most a round trip for each segment acknowledged and one more, T200 and one slot for each slot with a loss and one more, and one
 /// delay and one slot.
 pub fn law_data_links_progress()
@@ -71,9 +71,23 @@ pub fn law_data_links_progress()
 /// Law: each repeat of an I frame whose last copy reached an open link has a slot with a loss, that of the copy or that of its answer; two
 /// repeats of one link have different ones. Both links of SAPI 0 have one T200 of at least the round trip; there is no release in the run,
 /// and nobody has given up so far.
-#[tactic(auto, using(crate::proofs::ProgressExpiries::pays_for_expiries))]
+#[tactic(auto, using(crate::proofs::ProgressCut::pays_for_expiries))]
 pub fn law_data_links_pay_for_expiries()
     ensures { (r : Run) → PaysForExpiries r }
+{}
+
+/// Law: from the start of a run, and until one of the two links of SAPI 0 is given up, each waits at most a round trip for each of its
+/// frames (the mobile's SABM and the segments issued) and T200 and one slot for each slot with a loss; the network one slot more. T200 of a
+/// link expires at most once for each slot with a loss. Both have one T200 of at least the round trip, and there is no release so far.
+pub fn law_data_links_progress_from_the_start()
+    ensures { (r : Run) → ProgressesFromStart r }
+{}
+
+/// Law: while at most five slots from the start had a loss, neither of the two links of SAPI 0 has been given up. Both have one T200 of at
+/// least the round trip, and there is no release so far.
+#[tactic(auto, using(crate::proofs::ProgressCut::few_losses_keep_links))]
+pub fn law_few_losses_close_no_link()
+    ensures { (r : Run) → KeepsLinks r }
 {}
 
 /// Law: in a run of two whole data links whose slots come together, the links of SAPI 0 are, slot by slot, those of the run of the two

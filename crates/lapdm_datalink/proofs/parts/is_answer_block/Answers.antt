@@ -1,6 +1,6 @@
-use Rattle.std.proofs.Common.{◌≡◌, sym, ◌∙◌, ap}
+use Rattle.std.proofs.Common.{sym, ◌∙◌, ap}
 use Rattle.std.proofs.lemmas.{Slice.Eq.{slice_eq-Decides}, Bool.Decides.{Decides-eqb}}
-use Rattle.lapdm_frame.specs.{Content.{Frame, frame_of_view}, Frames.{octets_of}}
+use Rattle.lapdm_frame.specs.{Content.{frame_of_view}, Frames.{octets_of}}
 use Rattle.lapdm_datalink.proofs.Lemmas.{read_back}
 use Rattle.lapdm_datalink.proofs.parts.is_answer_block.Goals as goal
 

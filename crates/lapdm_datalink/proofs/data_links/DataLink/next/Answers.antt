@@ -1,4 +1,4 @@
-use Rattle.std.proofs.Common.{◌≡◌, sym, ◌∙◌, refl, subst, Option, Some, None, List, ℕ}
+use Rattle.std.proofs.Common.{◌≡◌, sym, ◌∙◌, refl, subst}
 use Rattle.std.specs.Option.{option_map}
 use Rattle.lapdm_frame.specs.{declared.Channel.{Channel}, Frames.{octets_of}}
 use Rattle.lapdm_datalink.specs.Links.{slot_outcome}

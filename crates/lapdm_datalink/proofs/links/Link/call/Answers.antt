@@ -1,4 +1,4 @@
-use Rattle.std.proofs.Common.{◌≡◌, ◌∙◌, refl}
+use Rattle.std.proofs.Common.{◌∙◌, refl}
 use Rattle.lapdm_end.specs.lapdm_window.Ends.{initial_endpoint}
 use Rattle.lapdm_datalink.specs.Links.{link_with}
 use Rattle.lapdm_datalink.specs.Abstraction.{role_of, sapi_of, channel_of}

@@ -1,4 +1,4 @@
-use Rattle.std.proofs.Common.{◌≡◌, None, arith, refl}
+use Rattle.std.proofs.Common.{◌≡◌, None, arith}
 use Rattle.lapdm_end.specs.lapdm_window.Calls.{IsCallAllowedForEndpoint, endpoint_call_of, call_outcome, refusal_of}
 use Rattle.lapdm_link.proofs.lapdm_window.Lemmas.{keeps-call}
 use Rattle.lapdm_datalink.proofs.Lemmas.{outcome_kept}

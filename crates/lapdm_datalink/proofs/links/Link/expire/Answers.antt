@@ -1,6 +1,5 @@
 use Rattle.lapdm_end.specs.lapdm_window.Calls.{T200Expires, t200_expiry}
 use Rattle.lapdm_link.proofs.lapdm_window.Lemmas.{keeps-call}
-use Rattle.lapdm_datalink.{specs.Links.{LinkState}, specs.declared.links.Link.{Link}, specs.Abstraction.{Represents}}
 use Rattle.lapdm_datalink.proofs.Lemmas.{endpoint_replaced, t200_is_allowed}
 use Rattle.lapdm_datalink.proofs.links.Link.expire.Goals as goal
 

@@ -1,4 +1,4 @@
-use Rattle.{std.proofs.Common.{refl, sym, ap, ◌∙◌}, lapdm_frame.specs.Content.{Frame, frame_of_view}}
+use Rattle.{std.proofs.Common.{sym, ap, ◌∙◌}, lapdm_frame.specs.Content.{Frame}}
 use Rattle.lapdm_datalink.specs.Links.{is_awaiting_kind}
 use Rattle.lapdm_datalink.proofs.Lemmas.{read_back, kept_due, kept_answer}
 use Rattle.lapdm_datalink.proofs.links.Link.keep.Goals as goal

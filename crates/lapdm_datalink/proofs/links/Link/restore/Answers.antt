@@ -1,4 +1,4 @@
-use Rattle.std.proofs.Common.{◌≡◌, sym, ◌∙◌, subst, ap, refl}
+use Rattle.std.proofs.Common.{sym, ◌∙◌, refl}
 use Rattle.std.proofs.lemmas.Bool.{false≢true}
 use Rattle.lapdm_datalink.specs.Parts.{values_of_parts}
 use Rattle.lapdm_datalink.proofs.Lemmas.{some_endpoint, endpoint_values, some_answer, some_link, link_with_values}

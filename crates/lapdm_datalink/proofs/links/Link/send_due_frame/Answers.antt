@@ -1,9 +1,7 @@
-use Rattle.std.proofs.Common.{◌≡◌, refl, sym, ◌∙◌, subst, ap, true, false, Option}
+use Rattle.std.proofs.Common.{◌≡◌, refl, sym, ◌∙◌, subst, true}
 use Rattle.std.specs.Option.{option_map}
 use Rattle.lapdm_frame.specs.{declared.Channel.{Channel}, Frames.{octets_of}}
-use Rattle.lapdm_end.specs.lapdm_window.declared.Notice.{Notice}
-use Rattle.lapdm_datalink.specs.Abstraction.{Represents, notices_if}
-use Rattle.lapdm_datalink.specs.Links.{LinkState, SlotOutcome, is_due, without_needless_answer, expires}
+use Rattle.lapdm_datalink.specs.Links.{is_due, without_needless_answer, expires}
 use Rattle.lapdm_datalink.proofs.Lemmas.{channel_needless, sent_needless, awaits_needless, due_again, due_first}
 use Rattle.lapdm_datalink.proofs.links.Link.send_due_frame.Goals as goal
 

@@ -1,4 +1,3 @@
-use Rattle.std.proofs.Common.{sym, ◌∙◌}
 use Rattle.lapdm_datalink.proofs.Lemmas.{slot_owing_none, slot_keeping_back}
 use Rattle.lapdm_datalink.proofs.links.Link.slot.Goals as goal
 

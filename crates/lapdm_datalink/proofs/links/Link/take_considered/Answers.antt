@@ -1,4 +1,4 @@
-use Rattle.{std.proofs.Common.{◌≡◌, sym}, lapdm_frame.specs.{Content.{Frame, frame_of_view}, Frames.{FrameFits}}}
+use Rattle.{lapdm_frame.specs.{Content.{Frame, frame_of_view}, Frames.{FrameFits}}}
 use Rattle.lapdm_link.proofs.lapdm_window.Lemmas.{keeps-frame}
 use Rattle.lapdm_link.specs.Worlds.{rej_replaced_by_rr}
 use Rattle.lapdm_datalink.{specs.Links.{received_outcome}, proofs.Lemmas.{outcome_kept, rr_fits}}

@@ -1,0 +1,448 @@
+-- The bounds from the start of a run, and why few losses close no link.
+use Rattle.{
+  std.specs.Prelude.{◌≡◌, ◌≢◌, ℕ, zero, suc, ◌+◌, ◌*◌, ◌≤◌, Bool, true, false, ◌⊎◌, nat_le, nat_lt, List},
+  std.{specs.Prelude.{[], ◌∷◌, Option, Some, None, All, ◌&&◌}, proofs.Common.{inl, inr, arith, refl, ap, sym, ◌∙◌}},
+  std.proofs.{lemmas.List.Elements.{All-head, All-tail}, Math.Nat.{add-mul, mul-add, one-mul}},
+  lapdm_frame.specs.Content.{Content, I, Rr, Rej, Frame},
+  lapdm_end.specs.lapdm_window.{
+    declared.{State.TheVariants.{Idle, Opening, Open, Closed}, Sapi.TheVariants.Zero, Refused.Refused},
+    Ends.{Role, Mobile, Network, EndpointState, n200},
+    Tables.{outcome_of_reply, Reply, Nothing, SendsDm, TakesIFrame, TakesRr, is_command},
+    Calls.{Call, Opens, Sends, refusal_of, is_idle, t200_expiry},
+    segmenting.Segments.Segment,
+    Rules.{takes_i_frame, takes_rr},
+  },
+  lapdm_link.specs.Events.other,
+  lapdm_datalink.{
+    specs.{
+      Links.{LinkState, slot_outcome, after_frame, is_due, keeps_back},
+      Channels.{Run, IsUse, after_arriving, after_calls, after_call_unless},
+      Progress.{link_at, turn_at, arriving_at, ready_at, round_trip, lossy_slots, one_if, expires_in, frames_at, FromStart},
+    },
+    proofs.{
+      ProgressSteps.{acked, issued, taken, outcome_endpoint},
+      ProgressLink.{reply_with, frame_taken, kept_back},
+      ProgressRuns.{NeverReleases, sound, link_step},
+      ProgressStart.{is_young, i_reply, rr_reply},
+      ProgressPaid.{le_of, not_le_of},
+      ProgressExpiries.{old_enough, waits_at},
+      ProgressWaiting.{Stage, quiet, unsent, failed, going, pending, answers_first, times_le, ack_one, clock_within, expires_due},
+      ProgressWaiting.{due_clock, no_ack},
+      ProgressKnown.{Known, Unclosed, MobileSlot, NetworkSlot, known},
+      ProgressOpening.{true-false, times_one, idle_not_open, opening_not_open, idle_rests, W, E, B, Lo, expiry_step, loss_step, Calling},
+      ProgressOpening.{Through, must_fail},
+      ProgressEarly.{Early, Alone, late_open, expires_not},
+      ProgressWhole.{Work, Whole, whole, few, IsUnheard, mobile_work},
+      ProgressTotal.{answers_total, idle_opening},
+    },
+  },
+}
+use Rattle.lapdm_datalink.proofs.ProgressWaiting as P
+use Rattle.lapdm_datalink.proofs.ProgressFrames as F
+use Rattle.lapdm_datalink.proofs.ProgressKnown as K
+use Rattle.lapdm_datalink.proofs.ProgressEarly as Y
+use Rattle.lapdm_datalink.proofs.ProgressWhole as Z
+
+-- ---- the bounds
+
+module _ (r : Run) (u : NeverReleases r) (long : round_trip r.delay ≤ r.t200) where
+  work_bound : (role : Role) (more n0 n : ℕ) → Work r u long role more n0 n → W r u long n role
+      ≤ round_trip r.delay * (more + issued (link_at r n role)) + r.t200 * Lo r u long n + B r u long n role
+  work_bound role more n0 n w = by_stage w.paid w.used w.stage w.bound
+    where
+      R : ℕ
+      R = round_trip r.delay
+
+      low : R * acked (link_at r n role) ≤ R * issued (link_at r n role)
+      low = times_le R (acked (link_at r n role)) (issued (link_at r n role)) ((sound r u n).good role).low
+
+      split : R * (more + issued (link_at r n role)) ≡ R * more + R * issued (link_at r n role)
+      split = mul-add R more (issued (link_at r n role))
+
+      by_stage : (paid used : ℕ) → Stage r u long n0 role n paid used →
+          W r u long n role + paid ≤ R * acked (link_at r n role) + R * more + r.t200 * Lo r u long n + B r u long n role + used →
+          W r u long n role ≤ R * (more + issued (link_at r n role)) + r.t200 * Lo r u long n + B r u long n role
+      by_stage paid used (quiet p q a) b = omega (arith, b, q, low, split)
+      by_stage paid used (unsent p q a) b = omega (arith, b, q, low, split)
+      by_stage paid used (failed p q) b = omega (arith, b, q, low, split)
+      by_stage paid used (going g p q) b =
+          let one : issued (link_at r n role) ≡ acked (link_at r n role) + 1 =
+          ack_one (link_at r n role) g.awaits ((sound r u n).good role).low ((sound r u n).good role).window in
+          let product : R * issued (link_at r n role) ≡ R * acked (link_at r n role) + R =
+          ap (λ x. R * x) one ∙ times_one R (acked (link_at r n role)) in
+          omega (arith, b, q, g.early, product, split)
+
+  -- the network while the mobile opens
+  early_bound : (n : ℕ) (x : Calling r u long n) → IsUnheard r u long n x → Early r u long n →
+      (W r u long n Network ≤ r.t200 * Lo r u long n + B r u long n Network) × (E r u long n Network ≤ Lo r u long n)
+  early_bound n x b (Y.idle i w e) = (omega (arith, w), omega (arith, e))
+  early_bound n x b (Y.alone q a some o (Y.unsent w e z)) = (omega (arith, w), omega (arith, e))
+  early_bound n x b (Y.alone q a some o (Y.sent k w e f g s)) =
+      (omega (arith, w, times_le r.t200 k (Lo r u long n) fewer), omega (arith, e, fewer))
+    where
+      fewer : k ≤ Lo r u long n
+      fewer = few r u long n x q k b (late_open r u long n x q some) (omega (arith, f, clock_within r u Network n))
+
+  -- the frames of a link, with its SABM
+  pub record Bounds (n : ℕ) : Type 0 where
+    pub mobile : W r u long n Mobile ≤ round_trip r.delay * frames_at r n Mobile + r.t200 * Lo r u long n + B r u long n Mobile
+    pub network : W r u long n Network ≤ round_trip r.delay * frames_at r n Network + r.t200 * Lo r u long n + B r u long n Network
+    pub mobile_expires : E r u long n Mobile ≤ Lo r u long n
+    pub network_expires : E r u long n Network ≤ Lo r u long n
+
+  asked_one : (n : ℕ) → is_idle (link_at r n Mobile).endpoint.state ≡ false →
+      frames_at r n Mobile ≡ 1 + issued (link_at r n Mobile)
+  asked_one n e = rw e refl
+
+  work_expires : (role : Role) (more n0 n : ℕ) → Work r u long role more n0 n → E r u long n role ≤ Lo r u long n
+  work_expires role more n0 n w = omega (arith, w.repays)
+
+  network_idle : (n : ℕ) → (link_at r n Mobile).endpoint.state ≡ Idle → (link_at r n Network).endpoint.state ≡ Open → ⊥
+  network_idle n i o = true-false (sym ((sound r u n).network_idle (ap is_idle i)) ∙ ap is_idle o)
+
+  calling_expires : (n : ℕ) (x : Calling r u long n) → E r u long n Mobile ≤ Lo r u long n
+  calling_expires n x = by_fate x.fate
+    where
+      by_fate : (Through r u long n x.v × (E r u long n Mobile ≤ Lo r u long n)) ⊎ (E r u long n Mobile + 1 ≤ Lo r u long n) →
+          E r u long n Mobile ≤ Lo r u long n
+      by_fate (inl (t, p)) = p
+      by_fate (inr p) = omega (arith, p)
+
+  calling_waits : (n : ℕ) (x : Calling r u long n) → W r u long n Mobile
+      ≤ round_trip r.delay * frames_at r n Mobile + r.t200 * Lo r u long n + B r u long n Mobile
+  calling_waits n x = rw (asked_one n (ap is_idle x.state)) (work_bound Mobile 1 n n (mobile_work r u long n x))
+
+  network_waits : (n n0 : ℕ) → Work r u long Network 0 n0 n → W r u long n Network
+      ≤ round_trip r.delay * frames_at r n Network + r.t200 * Lo r u long n + B r u long n Network
+  network_waits n n0 w =
+      let e : 0 + issued (link_at r n Network) ≡ issued (link_at r n Network) = omega arith in
+      omega (arith, work_bound Network 0 n0 n w, ap (λ x. round_trip r.delay * x) e)
+
+  bounds : (n : ℕ) → Whole r u long n → Bounds n
+  bounds n (Z.resting x y) = record {
+    mobile = omega (arith, x.mobile.0);
+    network = omega (arith, (by_early y).0);
+    mobile_expires = omega (arith, x.mobile.1);
+    network_expires = omega (arith, (by_early y).1);
+  }
+    where
+      by_early : Early r u long n → (W r u long n Network ≡ 0) × (E r u long n Network ≡ 0)
+      by_early (Y.idle i w e) = (w, e)
+      by_early (Y.alone q a some o z) = absurd (network_idle n x.state o)
+  bounds n (Z.calling x b y) = record {
+    mobile = calling_waits n x;
+    network = omega (arith, (early_bound n x b y).0);
+    mobile_expires = calling_expires n x;
+    network_expires = (early_bound n x b y).1;
+  }
+  bounds n (Z.heard x v e t p late o w) = record {
+    mobile = calling_waits n x;
+    network = network_waits n (suc (suc v + (1 + 2 * r.delay))) w;
+    mobile_expires = calling_expires n x;
+    network_expires = work_expires Network 0 (suc (suc v + (1 + 2 * r.delay))) n w;
+  }
+  bounds n (Z.joined o n0 n1 a there w b here v) = record {
+    mobile = rw (asked_one n (ap is_idle o)) (work_bound Mobile 1 n0 n w);
+    network = network_waits n n1 v;
+    mobile_expires = work_expires Mobile 1 n0 n w;
+    network_expires = work_expires Network 0 n1 n v;
+  }
+
+  times_next : (l : ℕ) → (r.t200 + 1) * l ≡ r.t200 * l + l
+  times_next l = add-mul r.t200 1 l ∙ ap (λ x. r.t200 * l + x) (one-mul l)
+
+  pub from_start : (k : ℕ) → Unclosed r u k → (role : Role) → FromStart r k role
+  from_start k c Mobile =
+      let x = bounds k (whole r u long k c) in
+      record {
+        waits = omega (arith, x.mobile, (answers_total r u long k c).0, x.network_expires, times_next (lossy_slots r 0 k));
+        expires = x.mobile_expires;
+      }
+  from_start k c Network =
+      let x = bounds k (whole r u long k c) in
+      record {
+        waits = omega (arith, x.network, (answers_total r u long k c).1, x.mobile_expires, times_next (lossy_slots r 0 k));
+        expires = x.network_expires;
+      }
+
+-- ---- what a slot does to an endpoint
+
+-- the endpoint changes only if T200 expires
+pub data SlotEnd (m : LinkState) : Type 0 where
+  same : (slot_outcome m).link.endpoint ≡ m.endpoint → SlotEnd m
+  expired : expires_in m ≡ true → (slot_outcome m).link.endpoint ≡ (t200_expiry m.endpoint).new_state → SlotEnd m
+
+module _ (l : LinkState) where
+  end_by : (a : Option Frame) → l.answer ≡ a → (b : Bool) → is_due l ≡ b → (c : Bool) → l.is_sent ≡ c → (k : Bool) →
+      ((f : Frame) → a ≡ Some f → keeps_back f l ≡ k) → SlotEnd l
+  end_by None n false e c g k kept = same (grind (arith, n, e))
+  end_by None n true e false g k kept = same (grind (arith, n, e, g))
+  end_by None n true e true g k kept = expired (rw (n, e, g) refl) (grind (arith, n, e, g))
+  end_by (Some f) n b e c g false kept = same (grind (arith, n, kept f refl))
+  end_by (Some f) n false e c g true kept = same (grind (arith, n, kept f refl, e))
+  end_by (Some f) n true e false g true kept = same (grind (arith, n, kept f refl, e, g))
+  end_by (Some f) n true e true g true kept = expired (grind (arith, n, kept f refl, e, g)) (grind (arith, n, kept f refl, e, g))
+
+  slot_end : SlotEnd l
+  slot_end = let k = kept_back l l.answer in end_by l.answer refl (is_due l) refl l.is_sent refl k.0 k.1
+
+not_less : (a b : ℕ) → nat_lt a b ≡ false → b ≤ a
+not_less a b h = grind (arith, h)
+
+expiry_closes : (e : EndpointState) → (t200_expiry e).new_state.state ≡ Closed → e.state ≢ Closed → 5 ≤ e.retries
+expiry_closes e h o = by_case (nat_lt e.retries (n200 e.channel e.state)) refl
+  where
+    five : 5 ≤ n200 e.channel e.state
+    five = grind arith
+
+    by_case : (b : Bool) → nat_lt e.retries (n200 e.channel e.state) ≡ b → 5 ≤ e.retries
+    by_case true k = absurd (o (sym (grind (arith, k)) ∙ h))
+    by_case false k = omega (arith, five, not_less e.retries (n200 e.channel e.state) k)
+
+expiry_counts : (e : EndpointState) → (t200_expiry e).new_state.retries ≤ e.retries + 1
+expiry_counts e = grind arith
+
+-- a link that is given up in its slot had repeated its frame N200 times
+gives_up : (m : LinkState) → (slot_outcome m).link.endpoint.state ≡ Closed → m.endpoint.state ≢ Closed →
+    (expires_in m ≡ true) × (5 ≤ m.endpoint.retries)
+gives_up m h o = by_end (slot_end m)
+  where
+    by_end : SlotEnd m → (expires_in m ≡ true) × (5 ≤ m.endpoint.retries)
+    by_end (same e) = absurd (o (ap (λ x. x.state) (sym e) ∙ h))
+    by_end (expired x e) = (x, expiry_closes m.endpoint (ap (λ y. y.state) (sym e) ∙ h) o)
+
+slot_retries : (m : LinkState) → (slot_outcome m).link.endpoint.retries ≤ m.endpoint.retries + one_if (expires_in m)
+slot_retries m = by_end (slot_end m)
+  where
+    by_end : SlotEnd m → (slot_outcome m).link.endpoint.retries ≤ m.endpoint.retries + one_if (expires_in m)
+    by_end (same e) = omega (arith, ap (λ x. x.retries) e)
+    by_end (expired x e) = omega (arith, ap (λ y. y.retries) e, expiry_counts m.endpoint, ap one_if x)
+
+i_retries : (ns nr : ℕ) (p : Bool) (s : Segment) (e : EndpointState) → (takes_i_frame ns nr p s e).new_state.retries ≤ e.retries
+i_retries ns nr p s e = grind arith
+
+rr_retries : (nr : ℕ) (p : Bool) (e : EndpointState) → (takes_rr nr p e).new_state.retries ≤ e.retries
+rr_retries nr p e = grind arith
+
+abbrev pub Fewer : LinkState → Reply → Type 0
+Fewer l q = (outcome_of_reply q l.endpoint).new_state.retries ≤ l.endpoint.retries
+
+module _ (s : ℕ) (cr : Bool) (l : LinkState) where
+  same_reply : (q t : Reply) → q ≡ t → Fewer l t → Fewer l q
+  same_reply q t e h = rw e h
+
+  rr_fewer : (nr : ℕ) (p : Bool) → Fewer l (reply_with s cr l (Rr nr p))
+  rr_fewer nr p = by_reply (rr_reply s cr l nr p)
+    where
+      by_reply : ((reply_with s cr l (Rr nr p) ≡
+          TakesRr nr (is_command l.endpoint (record { sapi = s; cr = cr; content = Rr nr p }) && p))
+          × (l.endpoint.state ≡ Open))
+          ⊎ (reply_with s cr l (Rr nr p) ≡ Nothing) ⊎ (reply_with s cr l (Rr nr p) ≡ SendsDm) →
+          Fewer l (reply_with s cr l (Rr nr p))
+      by_reply (inl (e, o)) = same_reply (reply_with s cr l (Rr nr p)) _ e (rr_retries nr _ l.endpoint)
+      by_reply (inr (inl e)) = same_reply (reply_with s cr l (Rr nr p)) Nothing e (omega arith)
+      by_reply (inr (inr e)) = same_reply (reply_with s cr l (Rr nr p)) SendsDm e (omega arith)
+
+  reply_retries : (c : Content) → Fewer l (reply_with s cr l c)
+  reply_retries (I ns nr p more info) = by_reply (i_reply s cr l ns nr p more info)
+    where
+      by_reply : ((reply_with s cr l (I ns nr p more info) ≡ TakesIFrame ns nr p (info, more)) × (l.endpoint.state ≡ Open))
+          ⊎ (reply_with s cr l (I ns nr p more info) ≡ Nothing) ⊎ (reply_with s cr l (I ns nr p more info) ≡ SendsDm) →
+          Fewer l (reply_with s cr l (I ns nr p more info))
+      by_reply (inl (e, o)) = same_reply (reply_with s cr l (I ns nr p more info)) _ e (i_retries ns nr p (info, more) l.endpoint)
+      by_reply (inr (inl e)) = same_reply (reply_with s cr l (I ns nr p more info)) Nothing e (omega arith)
+      by_reply (inr (inr e)) = same_reply (reply_with s cr l (I ns nr p more info)) SendsDm e (omega arith)
+  reply_retries (Rr nr p) = rr_fewer nr p
+  reply_retries (Rej nr p) = rr_fewer nr p
+  reply_retries other = grind arith
+
+arriving_retries : (o : Option Frame) (l : LinkState) → l.endpoint.sapi ≡ Zero →
+    (after_arriving o l).endpoint.retries ≤ l.endpoint.retries
+arriving_retries None l z = omega arith
+arriving_retries (Some f) l z = by_taken (frame_taken f l z)
+  where
+    by_taken : (after_frame f l ≡ l) ⊎ (after_frame f l ≡ taken (reply_with f.sapi f.cr l f.content) l) →
+        (after_frame f l).endpoint.retries ≤ l.endpoint.retries
+    by_taken (inl e) = omega (arith, ap (λ m. m.endpoint.retries) e)
+    by_taken (inr e) = omega (
+      arith,
+      ap (λ m. m.endpoint.retries) e,
+      ap (λ x. x.retries) (outcome_endpoint (outcome_of_reply (reply_with f.sapi f.cr l f.content) l.endpoint) l),
+      reply_retries f.sapi f.cr l f.content,
+    )
+
+call_retries : (role : Role) (c : Call) (l : LinkState) → IsUse role c → (x : Option Refused) →
+    (after_call_unless x c l).endpoint.retries ≤ l.endpoint.retries
+call_retries role c l u (Some why) = omega arith
+call_retries role (Sends m) l u None = grind arith
+call_retries role (Opens info) l u None = grind arith
+call_retries role other l u None = absurd u
+
+calls_retries : (role : Role) (cs : List Call) (l : LinkState) → All (IsUse role) cs →
+    (after_calls cs l).endpoint.retries ≤ l.endpoint.retries
+calls_retries role [] l u = omega arith
+calls_retries role (c ∷ cs) l u =
+    let x = refusal_of c l.endpoint in
+    omega (
+      arith,
+      calls_retries role cs (after_call_unless x c l) (All-tail (IsUse role) c cs u),
+      call_retries role c l (All-head (IsUse role) c cs u) x,
+    )
+
+module _ (r : Run) (u : NeverReleases r) (long : round_trip r.delay ≤ r.t200) where
+  ready_retries : (n : ℕ) (role : Role) → (ready_at r n role).endpoint.retries ≤ (link_at r n role).endpoint.retries
+  ready_retries n role = omega (
+    arith,
+    arriving_retries (arriving_at r n role) (link_at r n role) ((sound r u n).good role).sapi,
+    calls_retries role (turn_at r n role).calls (after_arriving (arriving_at r n role) (link_at r n role)) (u n role),
+  )
+
+  retries_most : (n : ℕ) (role : Role) → (link_at r n role).endpoint.retries ≤ E r u long n role
+  retries_most zero Mobile = omega arith
+  retries_most zero Network = omega arith
+  retries_most (suc n) role = omega (
+    arith,
+    ap (λ l. l.endpoint.retries) (link_step r n role),
+    slot_retries (ready_at r n role),
+    ready_retries n role,
+    retries_most n role,
+    expiry_step r u long n role,
+  )
+
+  -- ---- each expiry, and the one that gives up, has a loss of its own
+
+  no_expiry : (m : LinkState) → expires_in m ≡ true → m.is_sent ≡ false → ⊥
+  no_expiry m h s = true-false (sym (expires_due m h).1 ∙ s)
+
+  module _ (n : ℕ) (h : Known r u n) where
+    work_owes : (role : Role) (more n0 : ℕ) → Work r u long role more n0 n → n0 ≤ suc n + r.delay →
+        (ready_at r n role).endpoint.state ≡ Open →
+        ((k : ℕ) → n0 ≤ k → k ≤ n → (link_at r k (other role)).endpoint.state ≡ Open) →
+        expires_in (ready_at r n role) ≡ true →
+        E r u long n role + 1 ≤ Lo r u long n
+    work_owes role more n0 w first o there x =
+        let y = expires_due (ready_at r n role) x in
+        omega (arith, w.repays, P.was_failed r u long n0 role n first o there w.paid w.used w.stage y.0 y.1)
+
+    network_ready : (link_at r n Network).endpoint.state ≡ Open → (ready_at r n Network).endpoint.state ≡ Open
+    network_ready o = by_slot (K.network_slot r u n h)
+      where
+        by_slot : NetworkSlot r u n → (ready_at r n Network).endpoint.state ≡ Open
+        by_slot (K.rests i e) = absurd (idle_not_open (sym i ∙ o))
+        by_slot (K.joins i p x a q) = p
+        by_slot (K.stays i p x a) = p
+
+    opening_owes : (x : Calling r u long n) → expires_in (ready_at r n Mobile) ≡ true → MobileSlot r u n →
+        E r u long n Mobile + 1 ≤ Lo r u long n
+    opening_owes x y (K.rests i e) = absurd (idle_opening (sym i ∙ x.state))
+    opening_owes x y (K.begins i o q s k a) = absurd (idle_opening (sym i ∙ x.state))
+    opening_owes x y (K.tries o e) = must_fail r u long n x e
+        (omega (arith, (due_clock (ready_at r n Mobile) (expires_due (ready_at r n Mobile) y).0).0, ap (λ l. l.clock) e))
+    opening_owes x y (K.joins o p i a t) =
+        let d = expires_due (ready_at r n Mobile) y in
+        let w = waits_at r u Mobile n (sym (P.open_awaits (ready_at r n Mobile).endpoint p) ∙ (due_clock (ready_at r n Mobile) d.0).1)
+        d.1 in
+        absurd (true-false (sym w.0 ∙ no_ack (link_at r n Mobile) (old_enough r u Mobile n (ap is_young x.state))))
+    opening_owes x y (K.stays o p i a) = absurd (opening_not_open (sym x.state ∙ o))
+
+    mobile_owes : Whole r u long n → expires_in (ready_at r n Mobile) ≡ true → MobileSlot r u n →
+        E r u long n Mobile + 1 ≤ Lo r u long n
+    mobile_owes (Z.resting x y) e (K.rests i q) = absurd (true-false (sym e ∙ (idle_rests (ready_at r n Mobile)
+        (ap (λ l. l.endpoint.state) q ∙ i)).1))
+    mobile_owes (Z.resting x y) e (K.begins i o q s k a) = absurd (no_expiry (ready_at r n Mobile) e s)
+    mobile_owes (Z.resting x y) e (K.tries o q) = absurd (idle_opening (sym x.state ∙ o))
+    mobile_owes (Z.resting x y) e (K.joins o p i a t) = absurd (idle_opening (sym x.state ∙ o))
+    mobile_owes (Z.resting x y) e (K.stays o p i a) = absurd (idle_not_open (sym x.state ∙ o))
+    mobile_owes (Z.calling x b y) e z = opening_owes x e z
+    mobile_owes (Z.heard x v s t p late o w) e z = opening_owes x e z
+    mobile_owes (Z.joined o n0 n1 a there w b here v) e (K.rests i q) = absurd (idle_not_open (sym i ∙ o))
+    mobile_owes (Z.joined o n0 n1 a there w b here v) e (K.begins i p q s k x) = absurd (idle_not_open (sym i ∙ o))
+    mobile_owes (Z.joined o n0 n1 a there w b here v) e (K.tries p q) = absurd (opening_not_open (sym p ∙ o))
+    mobile_owes (Z.joined o n0 n1 a there w b here v) e (K.joins p q i x t) = absurd (opening_not_open (sym p ∙ o))
+    mobile_owes (Z.joined o n0 n1 a there w b here v) e (K.stays p q i x) =
+        work_owes Mobile 1 n0 w (omega (arith, a)) q there e
+
+    idle_owes : (link_at r n Network).endpoint.state ≡ Idle → expires_in (ready_at r n Network) ≡ true → NetworkSlot r u n → ⊥
+    idle_owes i e (K.rests j q) = true-false (sym e ∙ (idle_rests (ready_at r n Network) (ap (λ l. l.endpoint.state) q ∙ i)).1)
+    idle_owes i e (K.joins j p x a q) =
+        let ua = a ∙ ap Some (F.response_is (link_at r n Network) ((sound r u n).good Network).sapi ((sound r u n).roles Network)
+        (link_at r n Mobile).endpoint.sabm_info) in
+        true-false (sym e ∙ expires_not (ready_at r n Network)
+        (F.ua_goes (ready_at r n Network) (link_at r n Mobile).endpoint.sabm_info p ua).1)
+    idle_owes i e (K.stays o p x a) = idle_not_open (sym i ∙ o)
+
+    early_owes : (x : Calling r u long n) → IsUnheard r u long n x → Early r u long n → expires_in (ready_at r n Network) ≡ true →
+        5 ≤ E r u long n Network → E r u long n Network + 1 ≤ Lo r u long n
+    early_owes x b (Y.idle i w e) y five = absurd (idle_owes i y (K.network_slot r u n h))
+    early_owes x b (Y.alone q a some o (Y.unsent w e z)) y five = absurd (omega (arith, e, five))
+    early_owes x b (Y.alone q a some o (Y.sent k w e f g s)) y five = omega (
+      arith,
+      e,
+      few r u long n x q k b (late_open r u long n x q some) (omega (arith, f, clock_within r u Network n)),
+    )
+
+    network_owes : Whole r u long n → expires_in (ready_at r n Network) ≡ true → 5 ≤ E r u long n Network →
+        E r u long n Network + 1 ≤ Lo r u long n
+    network_owes (Z.resting x (Y.idle i w e)) y five = absurd (idle_owes i y (K.network_slot r u n h))
+    network_owes (Z.resting x (Y.alone q a some o z)) y five = absurd (network_idle r u long n x.state o)
+    network_owes (Z.calling x b z) y five = early_owes x b z y five
+    network_owes (Z.heard x v s t p late o w) y five =
+        work_owes Network 0 (suc (suc v + (1 + 2 * r.delay))) w (omega (arith, late)) (network_ready o)
+        (λ k a b. absurd (omega (arith, a, b, t.early))) y
+    network_owes (Z.joined o n0 n1 a there w b here v) y five = work_owes Network 0 n1 v b (network_ready (there n a (omega arith))) here y
+
+    closed_idle : Closed ≡ Idle → ⊥
+    closed_idle q = cc
+
+    closed_opening : Closed ≡ Opening → ⊥
+    closed_opening q = cc
+
+    closed_open : Closed ≡ Open → ⊥
+    closed_open q = cc
+
+    mobile_ready : MobileSlot r u n → (ready_at r n Mobile).endpoint.state ≢ Closed
+    mobile_ready (K.rests i e) q = closed_idle (sym q ∙ ap (λ l. l.endpoint.state) e ∙ i)
+    mobile_ready (K.begins i o x s k a) q = closed_opening (sym q ∙ o)
+    mobile_ready (K.tries o e) q = closed_opening (sym q ∙ ap (λ l. l.endpoint.state) e ∙ o)
+    mobile_ready (K.joins o p i a t) q = closed_open (sym q ∙ p)
+    mobile_ready (K.stays o p i a) q = closed_open (sym q ∙ p)
+
+    network_ready_open : NetworkSlot r u n → (ready_at r n Network).endpoint.state ≢ Closed
+    network_ready_open (K.rests i e) q = closed_idle (sym q ∙ ap (λ l. l.endpoint.state) e ∙ i)
+    network_ready_open (K.joins i p x a b) q = closed_open (sym q ∙ p)
+    network_ready_open (K.stays o p x a) q = closed_open (sym q ∙ p)
+
+    -- a link that is given up has N200 + 1 slots with a loss
+    closes : Whole r u long n → (role : Role) → (link_at r (suc n) role).endpoint.state ≡ Closed → 6 ≤ Lo r u long n
+    closes w Mobile q =
+        let x = gives_up (ready_at r n Mobile) (ap (λ l. l.endpoint.state) (sym (link_step r n Mobile)) ∙ q)
+        (mobile_ready (K.mobile_slot r u n h)) in
+        omega (arith, mobile_owes w x.0 (K.mobile_slot r u n h), x.1, ready_retries n Mobile, retries_most n Mobile)
+    closes w Network q =
+        let x = gives_up (ready_at r n Network) (ap (λ l. l.endpoint.state) (sym (link_step r n Network)) ∙ q)
+        (network_ready_open (K.network_slot r u n h)) in
+        let five : 5 ≤ E r u long n Network = omega (arith, x.1, ready_retries n Network, retries_most n Network) in
+        omega (arith, network_owes w x.0 five, five)
+
+  lo_up : (n : ℕ) → Lo r u long n ≤ Lo r u long (suc n)
+  lo_up n = omega (arith, loss_step r u long n)
+
+  keeps_next : (n : ℕ) → Lo r u long (suc n) ≤ 5 → Unclosed r u n → Unclosed r u (suc n)
+  keeps_next n h before j a role e = by_last (nat_le j n) refl
+    where
+      by_last : (b : Bool) → nat_le j n ≡ b → ⊥
+      by_last true q = before j (le_of j n q) role e
+      by_last false q =
+          let same : j ≡ suc n = omega (arith, not_le_of j n q, a) in
+          omega (arith, closes n (known r u n before) (whole r u long n before) role (rw same at e), h, lo_up n)
+
+  keeps_start : Unclosed r u 0
+  keeps_start j a role e = start_closed role (let same : j ≡ 0 = omega (arith, a) in rw same at e)
+    where
+      start_closed : (role : Role) → (link_at r 0 role).endpoint.state ≡ Closed → ⊥
+      start_closed Mobile e = cc
+      start_closed Network e = cc
+
+  pub keeps : (n : ℕ) → Lo r u long n ≤ 5 → Unclosed r u n
+  keeps zero h = keeps_start
+  keeps (suc n) h = keeps_next n h (keeps n (omega (arith, h, lo_up n)))

@@ -1,0 +1,251 @@
+-- A link lets an answer go before its own frame only after T200 of the other side expired, the network also after the first SABM.
+use Rattle.{
+  std.specs.Prelude.{◌≡◌, ℕ, zero, suc, ◌+◌, ◌-◌, ◌≤◌, Bool, true, false, not, ◌⊎◌, nat_le, None},
+  std.proofs.Common.{inl, inr, arith, refl, ap, sym, ◌∙◌},
+  lapdm_end.specs.lapdm_window.{declared.State.TheVariants.{Idle, Opening, Open}, Ends.{Role, Mobile, Network}, Calls.is_idle},
+  lapdm_link.specs.Events.other,
+  lapdm_datalink.{
+    specs.{Links.{LinkState, after_slot}, Channels.{Run, after_arriving, carried}, Progress.{link_at, turn_at, arriving_at, ready_at}},
+    specs.Progress.{frame_at, round_trip, one_if, expires_in},
+    proofs.{
+      ProgressRuns.{NeverReleases, sound, nothing_arrives},
+      ProgressStart.idle_silent,
+      ProgressPaid.{le_of, not_le_of, arrived_other},
+      ProgressPolls.{goes_first, is_for_poll},
+      ProgressWaiting.answers_first,
+      ProgressKnown.{Known, Unclosed, MobileSlot, NetworkSlot, known},
+      ProgressOpening.{some_none, E, B, expiry_step, answer_step},
+    },
+  },
+}
+use Rattle.lapdm_datalink.proofs.ProgressFrames as F
+use Rattle.lapdm_datalink.proofs.ProgressKnown as K
+
+pub idle_opening : Idle ≡ Opening → ⊥
+idle_opening q = cc
+
+-- ---- an answer goes first only behind a frame of the other side
+
+module _ (r : Run) (u : NeverReleases r) where
+  -- an answer is owed only for a frame that arrives
+  owes_for : (n : ℕ) (role : Role) → arriving_at r n role ≡ None → answers_first r n role ≡ true → ⊥
+  owes_for n role e h =
+      let y = goes_first (ready_at r n role) h in
+      some_none (sym (K.kept r u n role ∙ ap (λ o. (after_arriving o (link_at r n role)).answer) e
+      ∙ ((sound r u n).settled role).owes) ∙ y.1)
+
+  none_owed : (n : ℕ) (role : Role) → (ready_at r n role).answer ≡ None → answers_first r n role ≡ true → ⊥
+  none_owed n role e h = let y = goes_first (ready_at r n role) h in some_none (sym e ∙ y.1)
+
+  network_on : (j k : ℕ) → Unclosed r u (j + k) → (link_at r j Network).endpoint.state ≡ Open →
+      (link_at r (j + k) Network).endpoint.state ≡ Open
+  network_on j zero c o = let e : j + 0 ≡ j = omega arith in rw e o
+  network_on j (suc k) c o =
+      let e : j + suc k ≡ suc (j + k) = omega arith in
+      let c' : Unclosed r u (suc (j + k)) = λ i a q. c i (omega (arith, a)) q in
+      let b : Unclosed r u (j + k) = λ i a q. c i (omega (arith, a)) q in
+      rw e (K.network_stays r u (j + k) (known r u (j + k) b) c' (K.network_slot r u (j + k) (known r u (j + k) b)) (network_on j k b o))
+
+  -- nothing that is not sent arrives
+  silent_then : (q : ℕ) (role : Role) → frame_at r q role ≡ None → answers_first r (suc q + r.delay) (other role) ≡ true → ⊥
+  silent_then q role e h = owes_for (suc q + r.delay) (other role)
+      (arrived_other r q role ∙ carried_nothing (turn_at r q role).is_lost e) h
+    where
+      carried_nothing : (b : Bool) → frame_at r q role ≡ None → carried b (frame_at r q role) ≡ None
+      carried_nothing true x = refl
+      carried_nothing false x = x
+
+  idle_frame : (q : ℕ) (role : Role) → (link_at r q role).endpoint.state ≡ Idle →
+      ready_at r q role ≡ after_slot (link_at r q role) →
+      frame_at r q role ≡ None
+  idle_frame q role i e = idle_silent (ready_at r q role) (ap (λ l. is_idle l.endpoint.state) e ∙ ap is_idle i)
+      (ap (λ l. l.answer) e ∙ ((sound r u q).settled role).owes)
+
+  module _ (q : ℕ) (c : Unclosed r u (suc (suc q + r.delay))) where
+    abbrev pub n : ℕ
+    n = suc q + r.delay
+
+    c_to : (j : ℕ) → j ≤ suc n → Unclosed r u j
+    c_to j a i b role = c i (omega (arith, a, b)) role
+
+    known_q : Known r u q
+    known_q = known r u q (c_to q (omega arith))
+
+    known_n : Known r u n
+    known_n = known r u n (c_to n (omega arith))
+
+    -- a mobile answers a poll of the network
+    mobile_answers : answers_first r n Mobile ≡ true → expires_in (ready_at r q Network) ≡ true
+    mobile_answers h = by_mobile (K.mobile_slot r u n known_n)
+      where
+        by_network : (link_at r n Mobile).endpoint.state ≡ Open → (link_at r (suc n) Mobile).endpoint.state ≡ Open →
+            NetworkSlot r u q → expires_in (ready_at r q Network) ≡ true
+        by_network o p (K.rests i e) = absurd (silent_then q Network (idle_frame q Network i e) h)
+        by_network o p (K.joins i s x a b) =
+            is_for_poll r u q Network (K.state_next r u q (c_to (suc q) (omega arith)) Network ∙ s) o p h
+        by_network o p (K.stays i s x a) =
+            is_for_poll r u q Network (K.state_next r u q (c_to (suc q) (omega arith)) Network ∙ s) o p h
+
+        by_mobile : MobileSlot r u n → expires_in (ready_at r q Network) ≡ true
+        by_mobile (K.rests i e) = absurd (none_owed n Mobile (ap (λ l. l.answer) e ∙ ((sound r u n).settled Mobile).owes) h)
+        by_mobile (K.begins i o x s k a) = absurd (none_owed n Mobile a h)
+        by_mobile (K.tries o e) = absurd (none_owed n Mobile (ap (λ l. l.answer) e ∙ ((sound r u n).settled Mobile).owes) h)
+        by_mobile (K.joins o p i a t) = absurd (none_owed n Mobile a h)
+        by_mobile (K.stays o p i a) = by_network o (K.state_next r u n c Mobile ∙ p) (K.network_slot r u q known_q)
+
+    -- the network answers a poll of the mobile, or its SABM
+    network_answers : answers_first r n Network ≡ true → (expires_in (ready_at r q Mobile) ≡ true)
+        ⊎ (((link_at r q Mobile).endpoint.state ≡ Idle) × ((link_at r (suc q) Mobile).endpoint.state ≡ Opening))
+    network_answers h = by_mobile (K.mobile_slot r u q known_q)
+      where
+        opened : (link_at r (suc q) Mobile).endpoint.state ≡ Open → expires_in (ready_at r q Mobile) ≡ true
+        opened o =
+            let p : (link_at r (suc q) Network).endpoint.state ≡ Open =
+            (known r u (suc q) (c_to (suc q) (omega arith))).later o in
+            let s : (link_at r (suc q + r.delay) Network).endpoint.state ≡ Open =
+            network_on (suc q) r.delay (c_to n (omega arith)) p in
+            is_for_poll r u q Mobile o s (K.network_stays r u n known_n c (K.network_slot r u n known_n) s) h
+
+        by_mobile : MobileSlot r u q → (expires_in (ready_at r q Mobile) ≡ true)
+            ⊎ (((link_at r q Mobile).endpoint.state ≡ Idle) × ((link_at r (suc q) Mobile).endpoint.state ≡ Opening))
+        by_mobile (K.rests i e) = absurd (silent_then q Mobile (idle_frame q Mobile i e) h)
+        by_mobile (K.begins i o x s k a) = inr (i, K.state_next r u q (c_to (suc q) (omega arith)) Mobile ∙ o)
+        by_mobile (K.tries o e) = inl (by_clock (nat_le 1 m.clock) refl)
+          where
+            m : LinkState
+            m = ready_at r q Mobile
+
+            m_opening : m.endpoint.state ≡ Opening
+            m_opening = ap (λ l. l.endpoint.state) e ∙ o
+
+            m_none : m.answer ≡ None
+            m_none = ap (λ l. l.answer) e ∙ ((sound r u q).settled Mobile).owes
+
+            m_sent : m.is_sent ≡ true
+            m_sent = ap (λ l. l.is_sent) e ∙ ((sound r u q).settled Mobile).opening (rw o refl)
+
+            by_clock : (b : Bool) → nat_le 1 m.clock ≡ b → expires_in m ≡ true
+            by_clock true k = absurd (silent_then q Mobile
+                (F.opening_silent m (K.sapi_next r u q Mobile) (K.role_next r u q Mobile) m_opening m_none (le_of 1 m.clock k)) h)
+            by_clock false k = F.opening_expires m (K.sapi_next r u q Mobile) (K.role_next r u q Mobile) m_opening m_none m_sent
+                (omega (arith, not_le_of 1 m.clock k))
+        by_mobile (K.joins o p i a t) = inl (opened (K.state_next r u q (c_to (suc q) (omega arith)) Mobile ∙ p))
+        by_mobile (K.stays o p i a) = inl (opened (K.state_next r u q (c_to (suc q) (omega arith)) Mobile ∙ p))
+
+-- ---- how often
+
+one_at_most : (b c : Bool) → (b ≡ true → c ≡ true) → one_if b ≤ one_if c
+one_at_most true c h = omega (arith, ap one_if (h refl))
+one_at_most false c h = omega arith
+
+not_true : (b : Bool) → (b ≡ true → ⊥) → one_if b ≡ 0
+not_true true h = absurd (h refl)
+not_true false h = refl
+
+one_most : (b : Bool) → one_if b ≤ 1
+one_most true = omega arith
+one_most false = omega arith
+
+module _ (r : Run) (u : NeverReleases r) (long : round_trip r.delay ≤ r.t200) (k : ℕ) (c : Unclosed r u k) where
+  abbrev pub asked : ℕ → ℕ
+  asked n = one_if (not (is_idle (link_at r n Mobile).endpoint.state))
+
+  until : (j : ℕ) → j ≤ k → Unclosed r u j
+  until j a i b role = c i (omega (arith, a, b)) role
+
+  asked_up : (n : ℕ) → suc n ≤ k → asked n ≤ asked (suc n)
+  asked_up n a = by_slot (K.mobile_slot r u n (known r u n (until n (omega (arith, a)))))
+    where
+      next : (link_at r (suc n) Mobile).endpoint.state ≡ (ready_at r n Mobile).endpoint.state
+      next = K.state_next r u n (until (suc n) a) Mobile
+
+      more : (b : Bool) → is_idle (link_at r (suc n) Mobile).endpoint.state ≡ false → asked n ≤ asked (suc n)
+      more b e = omega (arith, one_most (not (is_idle (link_at r n Mobile).endpoint.state)), ap (λ x. one_if (not x)) e)
+
+      by_slot : MobileSlot r u n → asked n ≤ asked (suc n)
+      by_slot (K.rests i e) = omega (arith, ap (λ x. one_if (not (is_idle x))) i)
+      by_slot (K.begins i o x s y z) = more true (ap is_idle (next ∙ o))
+      by_slot (K.tries o e) = more true (ap is_idle (next ∙ ap (λ l. l.endpoint.state) e ∙ o))
+      by_slot (K.joins o p i x t) = more true (ap is_idle (next ∙ p))
+      by_slot (K.stays o p i x) = more true (ap is_idle (next ∙ p))
+
+  e_up : (n : ℕ) (role : Role) → E r u long n role ≤ E r u long (suc n) role
+  e_up n role = omega (arith, expiry_step r u long n role)
+
+  none_early : (n : ℕ) (role : Role) → n ≤ suc r.delay → B r u long n role ≡ 0
+  none_early zero role a = refl
+  none_early (suc n) role a = omega (
+    arith,
+    answer_step r u long n role,
+    none_early n role (omega (arith, a)),
+    not_true (answers_first r n role) (owes_for r u n role (nothing_arrives r n role (omega (arith, a)))),
+  )
+
+  mobile_late : (j : ℕ) → suc j + r.delay ≤ k → B r u long (suc j + r.delay) Mobile ≤ E r u long j Network
+  mobile_late zero a = omega (arith, none_early (suc 0 + r.delay) Mobile (omega arith))
+  mobile_late (suc j) a =
+      let e : suc (suc j) + r.delay ≡ suc (suc j + r.delay) = omega arith in
+      rw e (omega (
+        arith,
+        answer_step r u long (suc j + r.delay) Mobile,
+        mobile_late j (omega (arith, a)),
+        expiry_step r u long j Network,
+        one_at_most (answers_first r (suc j + r.delay) Mobile) (expires_in (ready_at r j Network))
+            (mobile_answers r u j (until (suc (suc j + r.delay)) (omega (arith, a)))),
+      ))
+
+  network_one : (j : ℕ) → suc (suc j + r.delay) ≤ k → one_if (answers_first r (suc j + r.delay) Network) + asked j
+      ≤ one_if (expires_in (ready_at r j Mobile)) + asked (suc j)
+  network_one j a = by_answer (answers_first r (suc j + r.delay) Network) refl
+    where
+      by_answer : (b : Bool) → answers_first r (suc j + r.delay) Network ≡ b →
+          one_if (answers_first r (suc j + r.delay) Network) + asked j ≤ one_if (expires_in (ready_at r j Mobile)) + asked (suc j)
+      by_answer false e = omega (arith, ap one_if e, asked_up j (omega (arith, a)))
+      by_answer true e = by_case (network_answers r u j (until (suc (suc j + r.delay)) a) e)
+        where
+          by_case : (expires_in (ready_at r j Mobile) ≡ true)
+              ⊎ (((link_at r j Mobile).endpoint.state ≡ Idle) × ((link_at r (suc j) Mobile).endpoint.state ≡ Opening)) →
+              one_if (answers_first r (suc j + r.delay) Network) + asked j
+              ≤ one_if (expires_in (ready_at r j Mobile)) + asked (suc j)
+          by_case (inl x) = omega (arith, ap one_if e, ap one_if x, asked_up j (omega (arith, a)))
+          by_case (inr (i, o)) = omega (
+            arith,
+            ap one_if e,
+            ap (λ x. one_if (not (is_idle x))) i,
+            ap (λ x. one_if (not (is_idle x))) o,
+          )
+
+  network_late : (j : ℕ) → suc j + r.delay ≤ k → B r u long (suc j + r.delay) Network ≤ E r u long j Mobile + asked j
+  network_late zero a = omega (arith, none_early (suc 0 + r.delay) Network (omega arith))
+  network_late (suc j) a =
+      let e : suc (suc j) + r.delay ≡ suc (suc j + r.delay) = omega arith in
+      rw e (omega (
+        arith,
+        answer_step r u long (suc j + r.delay) Network,
+        network_late j (omega (arith, a)),
+        expiry_step r u long j Mobile,
+        network_one j (omega (arith, a)),
+      ))
+
+  e_to : (j i : ℕ) (role : Role) → E r u long j role ≤ E r u long (j + i) role
+  e_to j zero role = let e : j + 0 ≡ j = omega arith in rw e (omega arith)
+  e_to j (suc i) role = let e : j + suc i ≡ suc (j + i) = omega arith in rw e (omega (arith, e_to j i role, e_up (j + i) role))
+
+  pub answers_total : (B r u long k Mobile ≤ E r u long k Network) × (B r u long k Network ≤ E r u long k Mobile + 1)
+  answers_total = by_length (nat_le (suc r.delay) k) refl
+    where
+      by_length : (b : Bool) → nat_le (suc r.delay) k ≡ b →
+          (B r u long k Mobile ≤ E r u long k Network) × (B r u long k Network ≤ E r u long k Mobile + 1)
+      by_length false e = (
+        omega (arith, none_early k Mobile (omega (arith, not_le_of (suc r.delay) k e))),
+        omega (arith, none_early k Network (omega (arith, not_le_of (suc r.delay) k e))),
+      )
+      by_length true e =
+          let j : ℕ = k - suc r.delay in
+          let f : suc j + r.delay ≡ k = omega (arith, le_of (suc r.delay) k e) in
+          let g : j + suc r.delay ≡ k = omega (arith, le_of (suc r.delay) k e) in
+          let a : B r u long k Mobile ≤ E r u long j Network = rw f at (mobile_late j (omega (arith, f))) in
+          let b : B r u long k Network ≤ E r u long j Mobile + asked j = rw f at (network_late j (omega (arith, f))) in
+          let s : E r u long j Network ≤ E r u long k Network = rw g at (e_to j (suc r.delay) Network) in
+          let t : E r u long j Mobile ≤ E r u long k Mobile = rw g at (e_to j (suc r.delay) Mobile) in
+          (omega (arith, a, s), omega (arith, b, t, one_most (not (is_idle (link_at r j Mobile).endpoint.state))))
