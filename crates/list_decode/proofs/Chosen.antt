@@ -1,42 +1,215 @@
--- The branches of a `ListDecoder` after it returns a word, and the invariant of `ListDecoder`.
+-- The next word of a ranking is the most likely word of all branches; the branches after it is returned.
 use Rattle.{
   list_decode.{
-    proofs.Choices.{ranking-begins, below_best, branch_deviation, deviation-candidate, ranking-goes_on, one_more_word, returned_words-push},
-    proofs.{Choices.made_by_deviation-more, DeviatingWords.survivor-best, Rankings.{ends_ranked, most_likely_is_ranked}},
-    proofs.Rankings.IsRanked-not_repeated,
+    proofs.{Choices.{branch_deviation, deviation-candidate, deviation-deviates}, Classes.{DeviatesAt-earlier, DeviatesAt-unique, Disjoint}},
+    proofs.Classes.{IsPartWithout, classes-parted, deviations_after_index-index, parts, ranking-begins_with, without_position-free},
+    proofs.{Deviations.{FollowsFrom, LosesAtLeast-in_class, follows-deviation}, Rankings.RanksAfter-trans, Spans.between_from},
+    proofs.Spans.{between_to, is_between},
     specs.{
-      Branches.{IsBranchOfReturnedWord, IsBranch, IsDeviation, IsMostLikelyDeviation, IsSpanOfWord, class_of_branch, deviations_in_span},
+      Branches.{IsBranch, IsBranchOfReturnedWord, IsDeviation, IsMostLikelyDeviation, IsSpanOfWord, class_of_branch, deviations_in_span},
       Branches.word_of_deviation,
-      Choices.{IsFirstRankedBranch, IsNotOutrankedBy, placeholder_branch},
-      Classes.{DeviationClass, IsInClass, PartitionsUnreturnedWords},
-      Words.{IsRanking, IsRankingSoFar, open_branches, ranking_of, returned_words, with_deviating_words},
-      Partitioning.{IsNextRankedWord, NoBranchHasUnreturnedWord, branches_after_word},
-      Passes.{HasSoftBits, IsCompletePass, decision_rows, losses_of_pass, soft_bits_of_pass},
-      Ranking.{IsCandidate, IsRanked, IsRankingDone},
+      Choices.{IsFirstRankedBranch, IsNotOutrankedBy, deviating_word, placeholder_branch},
+      Classes.{DeviatesAt, DeviationClass, IsInClass, PartitionsUnreturnedWords, deviations_after_index, deviations_anywhere},
+      DeviatingWords.{FollowsSurvivors, is_in_range},
+      Partitioning.IsNextRankedWord,
+      Passes.{IsCompletePass, decision_rows, losses_of_pass, soft_bits_of_pass},
+      Ranking.{IsCandidate, IsRanked},
       declared.{branch.{Deviation.Deviation, WordBranch.WordBranch, WordSpan.WordSpan}, choice.BranchChoice.BranchChoice},
-      declared.{words.RankedWords.RankedWords, partitioning.NextWord.NextWord, pass.ViterbiPass.ViterbiPass},
+      declared.{partitioning.NextWord.NextWord, pass.ViterbiPass.ViterbiPass},
     },
   },
   std.{
-    proofs.{
-      Common.{List, None, Option, Some, [], ap, ap₂, arith, drop, get_or, inl, inr, length, map, refl, set, subst, suc, sym, take, zero},
-      Common.{ℕ, ℤ, ◌*◌, ◌++◌, ◌+◌, ◌-◌, ◌<◌, ◌∙◌, ◌∷◌, ◌≡◌, ◌≢◌, ◌≤◌},
-      Math.Seq.take-set-lt,
-      lemmas.{
-        Grind.take-set_at,
-        Option.{get_or_from_slice_get, slice_get_within},
-        List.Elements.{All-push, All-cons, All-contains, All-drop, All-nil, All-set, All-tail, All-take, Contains-push},
-        List.{get_or_append_left, get_or_push, length-append, length-set, length-take, map-append, set-get_or, set_split, take_more_set},
-      },
-    },
-    specs.{List.{All, Contains}, Prelude.{IfSome, MatchOption}},
+    proofs.Common.{List, None, Option, Some, [], ap, append_assoc, ap₂, arith, drop, get_or, inl, inr, length, map, refl, set, subst},
+    proofs.Common.{suc, sym, take, true, zero, ℕ, ℤ, ◌++◌, ◌+◌, ◌<◌, ◌∙◌, ◌∷◌, ◌≡◌, ◌≢◌, ◌≤◌},
+    proofs.lemmas.{Bool.cases_lt, List.{get_or_append_left, get_or_push, length-append, map-append, set-get_or, set_split}},
+    proofs.lemmas.List.Elements.{All-cons, All-drop, All-from_recursion, All-nil, All-push, All-set, All-tail, All-take},
+    proofs.lemmas.Option.{get_or_from_slice_get, slice_get_within},
+    specs.List.{All, Contains},
   },
-  trellis_decode.{proofs.Lemmas.{IsMostLikely-best, length-traceback}, specs.Trellis.traceback},
-  weight_bound.{
-    proofs.conv_code.Lemmas.IsMostLikely-only,
-    specs.conv_code.{Code.{IsEncoderInput, encoding}, Likelihood.{IsMostLikely, RanksAfter, likelihood}},
-  },
+  weight_bound.{proofs.conv_code.Lemmas.same_list, specs.conv_code.Likelihood.{IsMostLikely, RanksAfter}},
 }
+
+-- ## NextLists: The next word of a ranking is the most likely word of all branches.
+
+pub below_best : (pass : ViterbiPass) (us : List (List ℕ)) (span : WordSpan) (x : Deviation) (w : List ℕ) (best : Option Deviation) →
+    IsMostLikelyDeviation pass (get_or us span.word_index []) span best → IsNotOutrankedBy pass us x best →
+    IsCandidate (soft_bits_of_pass pass) w →
+    IsInClass (deviations_in_span (get_or us span.word_index []) span) w → w ≢ deviating_word pass us x →
+    RanksAfter (soft_bits_of_pass pass) w (deviating_word pass us x)
+below_best pass us span x w None none most is at ne = absurd (none w is at)
+below_best pass us span x w (Some y) best most is at ne =
+    let s = soft_bits_of_pass pass in
+    let here =
+    ap (λ i. word_of_deviation pass (get_or us i []) y) (sym best.1) in
+    elim (same_list w (deviating_word pass us y)) [
+      | inl same ↦ elim most [
+        | inl equal ↦ absurd (ne (same ∙ equal))
+        | inr after ↦ rw same after
+      ]
+      | inr other ↦
+          let after = subst (RanksAfter s w) here (best.4 w is at (λ e. other (e ∙ here))) in
+          elim most [
+            | inl equal ↦ subst (RanksAfter s w) equal after
+            | inr most' ↦ RanksAfter-trans s w (deviating_word pass us y) (deviating_word pass us x) after most'
+          ]
+    ]
+
+-- no candidate deviates from another candidate in the last four positions, since tail bits are 0
+before_the_last : (pass : ViterbiPass) (c : DeviationClass) (from : ℕ) (w : List ℕ) → IsCompletePass pass →
+    IsCandidate (soft_bits_of_pass pass) c.word →
+    FollowsSurvivors from c.word (decision_rows pass) 0 → ((k : ℕ) → c.may_deviate_at k ≡ true → from ≤ k) →
+    IsCandidate (soft_bits_of_pass pass) w →
+    (at : IsInClass c w) → at.index + 4 < pass.bits
+before_the_last pass c from w is candidate follows later is_w at =
+    let indices = is.row_count in
+    let followed : FollowsFrom _ _ _ c _ =
+    record {
+      decisions = is.decisions;
+      pairs = omega arith;
+      candidate = candidate;
+      follows = follows;
+      later =
+          later;
+    } in
+    let short = (LosesAtLeast-in_class (soft_bits_of_pass pass) (decision_rows pass) (losses_of_pass pass) c from followed w is_w
+    at).in_range in
+    omega arith
+
+pub ranking-begins : (pass : ViterbiPass) (u : List ℕ) (span : WordSpan) → IsCompletePass pass →
+    IsMostLikely (soft_bits_of_pass pass) u →
+    FollowsSurvivors 0 u (decision_rows pass) 0 → span.from ≡ 0 → span.to + 4 ≡ pass.bits →
+    IsRanked (soft_bits_of_pass pass) (u ∷ []) ×
+    PartitionsUnreturnedWords (soft_bits_of_pass pass) (u ∷ []) (deviations_in_span u span ∷ [])
+ranking-begins pass u span is best follows from to =
+    ranking-begins_with (soft_bits_of_pass pass) u (is_in_range span.from span.to) best (λ w index is_w at.
+    let candidate : IsCandidate (soft_bits_of_pass pass) u = record { information = best.information; count = best.count } in
+    let short = before_the_last pass (deviations_anywhere u) 0 w is candidate follows (λ k free. omega arith) is_w
+    (record { index = index; deviates = at; allowed = refl }) in
+    is_between span.from span.to index (omega arith) (omega arith))
+
+module _ (pass : ViterbiPass) (us : List (List ℕ)) (u : List ℕ) (span : WordSpan) (x : Deviation) (is : IsCompletePass pass)
+    (candidate : IsCandidate (soft_bits_of_pass pass) u)
+    (is_x : IsDeviation pass u x) (v_is : IsCandidate (soft_bits_of_pass pass) (word_of_deviation pass u x))
+    (from : span.from ≤ x.point.index) (to : x.point.index < span.to) where
+  abbrev index : ℕ
+  index = x.point.index
+
+  abbrev v : List ℕ
+  v = word_of_deviation pass u x
+
+  left : DeviatesAt u v index
+  left = deviation-deviates pass u x is candidate is_x
+
+  module _ (before after : List DeviationClass) (first behind_v rest : WordSpan) (ranked : IsRanked (soft_bits_of_pass pass) us)
+      (covers : PartitionsUnreturnedWords (soft_bits_of_pass pass) us (before ++ deviations_in_span u span ∷ after))
+      (best : (e : DeviationClass) (w : List ℕ) → Contains (before ++ deviations_in_span u span ∷ after) e →
+      IsCandidate (soft_bits_of_pass pass) w → IsInClass e w →
+      w ≢ word_of_deviation pass u x → RanksAfter (soft_bits_of_pass pass) w (word_of_deviation pass u x))
+      (first_from : first.from ≡ span.from) (first_to : first.to ≡ x.point.index) (behind_from : behind_v.from ≡
+      x.point.index + 1)
+      (behind_to : behind_v.to + 4 ≡ pass.bits) (rest_from : rest.from ≡ x.point.index + 1) (rest_to : rest.to ≡ span.to) where
+    abbrev s : List ℤ
+    s = soft_bits_of_pass pass
+
+    abbrev c : DeviationClass
+    c = deviations_in_span u span
+
+    abbrev a : DeviationClass
+    a = deviations_in_span u first
+
+    abbrev new_class : DeviationClass
+    new_class = deviations_in_span v behind_v
+
+    abbrev r : DeviationClass
+    r = deviations_in_span u rest
+
+    in_span : (t : List ℕ) (part : WordSpan) (w : List ℕ) (k : ℕ) → DeviatesAt t w k → part.from ≤ k → k < part.to →
+        IsInClass (deviations_in_span t part) w
+    in_span t part w k at f l = record { index = k; deviates = at; allowed = is_between part.from part.to k f l }
+
+    -- the words of the three parts deviate from u before the position where v deviates, after it, or at it
+    in_first : (w : List ℕ) → IsInClass a w → (k : ℕ) × DeviatesAt u w k × (span.from ≤ k) × (k < index)
+    in_first w at =
+        let f = between_from _ _ at.index at.allowed in
+        let t = between_to _ _ at.index at.allowed in
+        (at.index, at.deviates, omega arith, omega arith)
+
+    in_rest : (w : List ℕ) → IsInClass r w → (k : ℕ) × DeviatesAt u w k × (index < k) × (k < span.to)
+    in_rest w at =
+        let f = between_from _ _ at.index at.allowed in
+        let t = between_to _ _ at.index at.allowed in
+        (at.index, at.deviates, omega arith, omega arith)
+
+    in_behind : (w : List ℕ) → IsInClass new_class w → DeviatesAt u w index
+    in_behind w at =
+        let f = between_from _ _ at.index at.allowed in
+        DeviatesAt-earlier u v w index at.index (let n = v_is.count in let m = candidate.count in omega arith) left at.deviates
+        (omega arith)
+
+    is_first : IsPartWithout s c v a
+    is_first = record {
+      candidate = candidate;
+      part = λ w at. let h = in_first w at in in_span u span w h.0 h.1 h.2 (omega arith);
+      without = λ at. let h = in_first v at in let same = DeviatesAt-unique u v _ _ h.1 left in omega arith;
+    }
+
+    is_rest : IsPartWithout s c v r
+    is_rest = record {
+      candidate = candidate;
+      part = λ w at. let h = in_rest w at in in_span u span w h.0 h.1 (omega arith) h.3;
+      without = λ at. let h = in_rest v at in let same = DeviatesAt-unique u v _ _ h.1 left in omega arith;
+    }
+
+    is_behind : IsPartWithout s c v new_class
+    is_behind = record {
+      candidate = v_is;
+      part = λ w at. in_span u span w index (in_behind w at) from to;
+      without = λ at. at.deviates.differs refl;
+    }
+
+    first_behind : Disjoint a new_class
+    first_behind w at at' = let h = in_first w at in let same = DeviatesAt-unique u w _ _ h.1 (in_behind w at') in omega arith
+
+    first_rest : Disjoint a r
+    first_rest w at at' =
+        let h = in_first w at in
+        let g = in_rest w at' in
+        let same = DeviatesAt-unique u w _ _ h.1 g.1 in omega arith
+
+    behind_rest : Disjoint new_class r
+    behind_rest w at at' = let g = in_rest w at' in let same = DeviatesAt-unique u w _ _ (in_behind w at) g.1 in omega arith
+
+    in_one : (w : List ℕ) → IsCandidate s w → IsInClass c w → w ≢ v
+        → (p : DeviationClass) × Contains (a ∷ new_class ∷ r ∷ []) p × IsInClass p w
+    in_one w is_w at ne = elim (parts s c v index candidate v_is left (is_between span.from span.to index from to) w is_w at ne) [
+      | inl still ↦
+          let open_at = without_position-free c index still.index still.allowed in
+          let other = open_at.0 in
+          let f = between_from span.from span.to still.index open_at.1 in
+          let t = between_to span.from span.to still.index open_at.1 in
+          elim (cases_lt still.index index) [
+            | inl early ↦ (a, (0, omega arith, refl), in_span u first w still.index still.deviates (omega arith) (omega arith))
+            | inr late ↦ (r, (2, omega arith, refl), in_span u rest w still.index still.deviates (omega arith) (omega arith))
+          ]
+      | inr now ↦
+          let later = deviations_after_index-index v index now.index now.allowed in
+          let follows : FollowsSurvivors (index + 1) v (decision_rows pass) 0 = follows-deviation u _ 0 _ (omega arith) (omega arith) in
+          let short = before_the_last pass (deviations_after_index v index) (index + 1) w is v_is follows
+          (λ k free. let l = deviations_after_index-index v index k free in omega arith) is_w now in
+          (new_class, (1, omega arith, refl), in_span v behind_v w now.index now.deviates (omega arith) (omega arith))
+    ]
+
+    -- three spans replace the span: the positions of u before and after the deviation, and those of the new word after it
+    pub ranking-goes_on : IsRanked (soft_bits_of_pass pass) (us ++ word_of_deviation pass u x ∷ []) ×
+        PartitionsUnreturnedWords (soft_bits_of_pass pass) (us ++ word_of_deviation pass u x ∷ [])
+        (((before ++ deviations_in_span u first ∷ after) ++ deviations_in_span
+        (word_of_deviation pass u x) behind_v ∷ []) ++ deviations_in_span u rest ∷ [])
+    ranking-goes_on = rw append_assoc (classes-parted s us before after c v ranked covers v_is (in_span u span v index left from to) best a
+        (new_class ∷ r ∷ [])
+        (All-from_recursion (IsPartWithout s c v) (a ∷ new_class ∷ r ∷ []) (is_first, (is_behind, (is_rest, tt)))) (
+          All-from_recursion (Disjoint a) (new_class ∷ r ∷ []) (first_behind, (first_rest, tt)),
+          (All-cons (Disjoint new_class) r [] behind_rest (All-nil _), (All-nil _, tt)),
+        ) in_one)
 
 -- ## Chosen: The branch whose most likely word is the next word, and the branches after this word is returned.
 
@@ -95,7 +268,7 @@ classes-push pass us u (b ∷ bs) all =
     ap₂ (λ c cs. c ∷ cs) (ap (λ chosen_word. deviations_in_span chosen_word b.span) (get_or-push us u _ (all 0 b
     (omega arith)).in_range)) (classes-push pass us u bs (All-tail (IsBranchOfReturnedWord pass us) b bs all))
 
-Contains-class : (us : List (List ℕ)) (bs : List WordBranch) (P : WordBranch → Type 0) (e : DeviationClass) → All P bs →
+pub Contains-class : (us : List (List ℕ)) (bs : List WordBranch) (P : WordBranch → Type 0) (e : DeviationClass) → All P bs →
     Contains (map (class_of_branch us) bs) e → (b : WordBranch) × P b × (class_of_branch us b ≡ e)
 Contains-class us [] P e all found = absurd (omega arith)
 Contains-class us (b ∷ bs) P e all (zero, lt, is) = (b, all 0 b (omega arith), is)
@@ -248,220 +421,3 @@ module _ (pass : ViterbiPass) (us : List (List ℕ)) (branches : List WordBranch
 
     pub is_next : (written : List ℕ) → written ≡ chosen_word → IsNextRankedWord pass us branches written next
     is_next written same = rw same is_next_deviation
-
--- The invariant of `ListDecoder` holds after one more word is returned.
-
--- ---- lemmas about the invariant after the first word is returned
-
-most_likely-traceback : (pass : ViterbiPass) (u : List ℕ) → IsCompletePass pass → IsMostLikely (soft_bits_of_pass pass) u →
-    u ≡ traceback (decision_rows pass) 0
-most_likely-traceback pass u is best =
-    let n = length-traceback (decision_rows pass) 0 in
-    let p = is.row_count in
-    let five = is.at_least in
-    let m = is.soft_bit_count in
-    IsMostLikely-only (soft_bits_of_pass pass) (traceback (decision_rows pass) 0) u
-    (IsMostLikely-best (soft_bits_of_pass pass) (traceback (decision_rows pass) 0) _ (omega arith) (omega arith)
-    (survivor-best (decision_rows pass) (losses_of_pass pass) (soft_bits_of_pass pass) is.decisions (omega arith) 0 (omega arith))) best
-
-pub IsSpanOfWord-first : (pass : ViterbiPass) (u : List ℕ) (span : WordSpan) → IsCompletePass pass →
-    IsMostLikely (soft_bits_of_pass pass) u → span.metric ≡ likelihood (soft_bits_of_pass pass) (encoding u) → span.from ≡ 0 →
-    span.to + 4 ≡ pass.bits → span.state ≡ 0 →
-    IsSpanOfWord pass u span
-IsSpanOfWord-first pass u span is best value from to state =
-    record {
-      follows = rw from (most_likely-traceback pass u is best);
-      value = value;
-      order = omega arith;
-      span_ends_before_tail = omega arith;
-      state_in_range = omega arith;
-      state = rw from state;
-    }
-
-pub returned_words-one : (words : RankedWords) → words.count ≡ 1 →
-    returned_words words ≡ take words.pass.bits words.first_word ∷ []
-returned_words-one words one = ap (λ n. with_deviating_words words.pass (take n (take words.pass.bits words.first_word ∷ [])) (take
-    (n - 1) words.deviations)) one
-
--- the backward pass leaves the soft bits, so the first word remains the most likely one
-module _ (words : RankedWords) (pass : ViterbiPass) (sound : IsRankingSoFar words) (one : words.count ≡ 1)
-    (soft : soft_bits_of_pass pass ≡ soft_bits_of_pass words.pass) (bits : pass.bits ≡ words.pass.bits) where
-  pub first_word-most_likely : IsMostLikely (soft_bits_of_pass pass) (take pass.bits words.first_word)
-  first_word-most_likely = subst (λ s. IsMostLikely s (take pass.bits words.first_word)) (sym soft)
-      (subst (λ n. IsMostLikely (soft_bits_of_pass words.pass) (take n words.first_word)) (sym bits)
-      ((most_likely_is_ranked _ _).1 (subst (IsRanked (soft_bits_of_pass words.pass)) (returned_words-one words one) sound.ranked)))
-
-  pub first_word-metric : words.first_metric ≡ likelihood (soft_bits_of_pass pass) (encoding (take pass.bits words.first_word))
-  first_word-metric = sound.first_metric one
-      ∙ ap₂ (λ s n. likelihood s (encoding (take n words.first_word))) (sym soft) (sym bits)
-
-module _ (words : RankedWords) (b : WordBranch) (one : words.count ≡ 1) (is_open : open_branches words ≡ b ∷ [])
-    (pass : IsCompletePass words.pass) (best : IsMostLikely (soft_bits_of_pass words.pass) (take words.pass.bits words.first_word)) where
-  abbrev first : List ℕ
-  first = take words.pass.bits words.first_word
-
-  pub IsRanking-first : IsBranch words.pass first b → b.span.word_index ≡ 0 → b.span.from ≡ 0 →
-      b.span.to + 4 ≡ words.pass.bits → IsRanking words
-  IsRanking-first is_b index from to =
-      let begun = ranking-begins words.pass first b.span pass best (most_likely-traceback words.pass first pass best) from to in
-      let returned = returned_words-one words one in
-      let read : get_or (first ∷ []) b.span.word_index [] ≡ first = ap (λ k. get_or (first ∷ []) k []) index in
-      record {
-        pass = pass;
-        some = omega arith;
-        at_most = omega arith;
-        count = ap length returned ∙ sym one;
-        ranked = subst (IsRanked (soft_bits_of_pass words.pass)) (sym returned) begun.0;
-        made_by_deviation = (λ k within. absurd (omega arith));
-        all_branches = subst (λ us. All (IsBranchOfReturnedWord words.pass us) (open_branches words)) (sym returned)
-            (subst (All (IsBranchOfReturnedWord words.pass (first ∷ []))) (sym is_open)
-            (All-cons (IsBranchOfReturnedWord words.pass (first ∷ [])) b []
-            (record { in_range = omega arith; is_branch = subst (λ u. IsBranch words.pass u b) (sym read) is_b })
-            (All-nil (IsBranchOfReturnedWord words.pass (first ∷ [])))));
-        partition = subst (λ us. PartitionsUnreturnedWords (soft_bits_of_pass words.pass) us (map (class_of_branch us)
-            (open_branches words))) (sym returned)
-            (subst (λ bs. PartitionsUnreturnedWords (soft_bits_of_pass words.pass) (first ∷ [])
-            (map (class_of_branch (first ∷ [])) bs)) (sym is_open)
-            (subst (λ u'. PartitionsUnreturnedWords (soft_bits_of_pass words.pass) (first ∷ []) (deviations_in_span u' b.span ∷ []))
-            (sym read) begun.1));
-      }
-
-pub IsRankingSoFar-from : (words : RankedWords) → IsRanking words →
-    (words.count ≡ 1 → words.first_metric ≡ likelihood (soft_bits_of_pass words.pass) (encoding
-    (take words.pass.bits words.first_word))) →
-    IsRankingSoFar words
-IsRankingSoFar-from words ranking value = record {
-  has_soft_bits = record {
-    at_least = ranking.pass.at_least;
-    at_most = ranking.pass.at_most;
-    soft_bit_count = ranking.pass.soft_bit_count;
-    row_count = ranking.pass.row_count;
-    soft = ranking.pass.soft;
-  };
-  at_most = ranking.at_most;
-  count = ranking.count;
-  ranked = ranking.ranked;
-  first_metric = value;
-  later = λ more. ranking;
-}
-
-pub IsRankingSoFar-first : (words : RankedWords) (u : List ℕ) → HasSoftBits words.pass → words.count ≡ 1 →
-    take words.pass.bits words.first_word ≡ u → IsMostLikely (soft_bits_of_pass words.pass) u →
-    words.first_metric ≡ likelihood (soft_bits_of_pass words.pass) (encoding u) → IsRankingSoFar words
-IsRankingSoFar-first words u has one reads best value =
-    let returned = returned_words-one words one ∙ ap (λ u. u ∷ []) reads in
-    record {
-      has_soft_bits = has;
-      at_most = omega arith;
-      count = ap length returned ∙ sym one;
-      ranked = rw returned ((most_likely_is_ranked _ u).0 best);
-      first_metric = λ one. rw reads value;
-      later = λ more. absurd (omega arith);
-    }
-
--- ---- lemmas about the words after one more is returned
-
-module _ (words : RankedWords) (old : IsRanking words) (few : words.count < 64) (many : length words.deviations ≡ 63)
-    (room : length words.branches ≡ 127) (u : List ℕ) (next : NextWord)
-    (is : IsNextRankedWord words.pass (returned_words words) (open_branches words) u next) where
-  -- the branch of the next word is replaced, and two are added
-  abbrev branches : List WordBranch
-  branches = set (set (set words.branches next.branch next.parts.branch_before) (2 * words.count - 1) next.parts.branch_of_new_word)
-      (2 * words.count - 1 + 1) next.parts.branch_after
-
-  abbrev more : RankedWords
-  more = one_more_word words next.deviation branches
-
-  pub returned_words-next : returned_words (one_more_word words next.deviation (set
-      (set (set words.branches next.branch next.parts.branch_before) (2 * words.count - 1) next.parts.branch_of_new_word)
-      (2 * words.count - 1 + 1) next.parts.branch_after)) ≡ returned_words words ++ u ∷ []
-  returned_words-next = returned_words-push words many old.some next.deviation branches few
-      ∙ ap (λ u. returned_words words ++ u ∷ []) (sym is.word_is)
-
-  next_branches : open_branches more ≡ branches_after_word (open_branches words) next
-  next_branches =
-      let n = 2 * words.count - 1 in
-      let some = old.some in
-      let one = set _ _ next.parts.branch_before in
-      let within : next.branch < n = omega (arith, is.in_range, length-take n words.branches) in
-      let long : length one ≡ 127 = length-set words.branches next.branch next.parts.branch_before ∙ room in
-      take-set_at (set one n next.parts.branch_of_new_word) (n + 1) (2 * (words.count + 1) - 1) next.parts.branch_after (omega arith)
-      (omega (arith, length-set one n next.parts.branch_of_new_word))
-      ∙ ap (λ bs. bs ++ next.parts.branch_after ∷ []) (
-      take_more_set one n next.parts.branch_of_new_word (omega arith)
-      ∙ ap (λ bs. bs ++ next.parts.branch_of_new_word ∷ []) (take-set-lt n words.branches next.branch next.parts.branch_before within))
-
-  pub IsRanking-next : IsRanking (one_more_word words next.deviation (set
-      (set (set words.branches next.branch next.parts.branch_before) (2 * words.count - 1) next.parts.branch_of_new_word)
-      (2 * words.count - 1 + 1) next.parts.branch_after))
-  IsRanking-next = record {
-    pass = old.pass;
-    some = omega arith;
-    at_most = omega arith;
-    count = ap length returned_words-next ∙ length-append (returned_words words) (u ∷ []) ∙ ap (λ n. n + 1) old.count;
-    ranked = subst (IsRanked (soft_bits_of_pass words.pass)) (sym returned_words-next) is.ranked;
-    made_by_deviation = made_by_deviation-more words next.deviation branches many old few is.deviation;
-    all_branches = subst (λ us. All (IsBranchOfReturnedWord words.pass us) (open_branches more)) (sym returned_words-next)
-        (subst (All (IsBranchOfReturnedWord words.pass (returned_words words ++ u ∷ []))) (sym next_branches) is.all_branches);
-    partition = subst (λ us. PartitionsUnreturnedWords (soft_bits_of_pass words.pass) us (map (class_of_branch us)
-        (open_branches more))) (sym returned_words-next)
-        (subst (λ bs. PartitionsUnreturnedWords (soft_bits_of_pass words.pass) (returned_words words ++ u ∷ []) (map (class_of_branch
-        (returned_words words ++ u ∷ [])) bs)) (sym next_branches) is.partition);
-  }
-
--- ---- lemmas about the case that no branch has a word left
-
-pub every_word_returned : (words : RankedWords) → IsRanking words → NoBranchHasUnreturnedWord (open_branches words) →
-    (w : List ℕ) → IsCandidate (soft_bits_of_pass words.pass) w → Contains (returned_words words) w
-every_word_returned words has none w is_w =
-    ends_ranked (soft_bits_of_pass words.pass) _ (map _ _) has.partition
-    (λ e w member is_w in_class.
-    let found = Contains-class (returned_words words) (open_branches words)
-    (λ b. IsBranchOfReturnedWord words.pass (returned_words words) b × (b.best ≡ None)) e
-    (λ k d lt. (has.all_branches k d lt, none k d lt)) member in
-    let u = get_or (returned_words words) found.0.span.word_index [] in
-    subst (IsMostLikelyDeviation words.pass u found.0.span) found.1.1 found.1.0.is_branch.best w is_w
-    (subst (λ e. IsInClass e w) (sym found.2) in_class))
-    w is_w
-
-pub take-same_length : (bits : ℕ) (row u : List ℕ) → take (length u) row ≡ u → length u ≡ bits → take bits row ≡ u
-take-same_length bits row u reads same = rw (← same) reads
-
--- ---- lemmas about the result of `next`
-
-Some-not_none : {X : Type 0} {x : X} → Some x ≡ None → ⊥
-Some-not_none e = cc
-
-pub push-empty : (us : List (List ℕ)) (u : List ℕ) → length us ≡ 0 → us ++ u ∷ [] ≡ u ∷ []
-push-empty [] u none = refl
-push-empty (v ∷ us) u none = absurd (omega arith)
-
--- `new` has one word more than `old`, or no word is left
-module _ (old new : RankedWords) (u : List ℕ) (sound : IsRankingSoFar new)
-    (soft : soft_bits_of_pass new.pass ≡ soft_bits_of_pass old.pass) where
-  ranked : returned_words new ≡ returned_words old ++ u ∷ [] → IsRanked (soft_bits_of_pass new.pass) (returned_words old ++ u ∷ [])
-  ranked returned = subst (IsRanked (soft_bits_of_pass new.pass)) returned sound.ranked
-
-  candidate : returned_words new ≡ returned_words old ++ u ∷ [] → IsCandidate (soft_bits_of_pass new.pass) u
-  candidate returned = All-contains (IsCandidate (soft_bits_of_pass new.pass)) (returned_words old ++ u ∷ []) u
-      (ranked returned).ranked_words_are_candidates (Contains-push (returned_words old) u)
-
-  not_done : length (returned_words old) < 64 → returned_words new ≡ returned_words old ++ u ∷ [] →
-      IsRankingDone (ranking_of old) → ⊥
-  not_done few returned (inl full) = omega arith
-  not_done few returned (inr all) =
-      IsRanked-not_repeated (soft_bits_of_pass new.pass) (returned_words old) u (ranked returned)
-      (all u (subst (λ s. IsCandidate s u) soft (candidate returned)))
-
-  pub information : (P : Type 0) (R : ℤ → Type 0) (result : Option ℤ) →
-      MatchOption result P (λ value. (returned_words new ≡ returned_words old ++ u ∷ []) × R value) →
-      IfSome result (λ value. IsEncoderInput u)
-  information P R None none = tt
-  information P R (Some value) some = (candidate some.0).information
-
-  pub IsRankingDone-none : (P Q : Type 0) (R : ℤ → Type 0) (result : Option ℤ) → length (returned_words old) < 64 →
-      MatchOption result (P × Q × IsRankingDone (ranking_of old))
-      (λ value. (returned_words new ≡ returned_words old ++ u ∷ []) × R value) →
-      (result ≡ None → IsRankingDone (ranking_of old)) × (IsRankingDone (ranking_of old) → result ≡ None)
-  IsRankingDone-none P Q R None few none = ((λ e. none.2), (λ done. refl))
-  IsRankingDone-none P Q R (Some value) few some = ((λ e. absurd (Some-not_none e)), (λ done. absurd (not_done few some.0 done)))

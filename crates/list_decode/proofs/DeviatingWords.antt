@@ -8,7 +8,7 @@ use Rattle.{
       declared.deviation.{PartialTraceback.PartialTraceback, PossibleDeviation.PossibleDeviation},
       Choices.DecidesLexicographicOrder,
     },
-    proofs.Rankings.{DeviatesAt-tail, deviates, lex_before-deviates, lex_behind-deviates},
+    proofs.Classes.{DeviatesAt-tail, deviates, lex_before-deviates, lex_behind-deviates},
   },
   std.proofs.Common.{Bool, List, [], ap, ap₂, arith, below_more, cond, drop, eq-eqb, eqb, false, get_or, inl, inr, length, ltb, ne_eqb},
   std.proofs.Common.{pos, refl, slice_set, suc, sym, take, true, zero, ℕ, ℤ, ◌%◌, ◌++◌, ◌+ℤ◌, ◌+◌, ◌-ℤ◌},

@@ -18,10 +18,8 @@ use Rattle.{
       DeviatingWords.{state_after_bits, deviation_loss, FollowsSurvivors, word_deviating_at, IsLeastLossFreePosition, IsLeastLossPosition},
       Ranking.{IsCandidate, IsSecondMostLikely},
     },
-    proofs.{
-      DeviatingWords.{metric_from_state-more, length-follows, survivor-best, IsNoBetterPath-more},
-      Rankings.{deviates, DeviatesAt-cons, DeviatesAt-tail, lex_before-fork, lex_behind-fork},
-    },
+    proofs.{DeviatingWords.{metric_from_state-more, length-follows, survivor-best, IsNoBetterPath-more}, Classes.deviates},
+    proofs.Classes.{DeviatesAt-cons, DeviatesAt-tail, lex_before-fork, lex_behind-fork},
   },
 }
 

@@ -2,7 +2,7 @@ use Rattle.{
   std.proofs.Common.arith,
   list_decode.{
     specs.Words.{returned_words, word_made_by},
-    proofs.Choices.{deviating_word-candidate, same_position-itself, order-earlier, order-later},
+    proofs.{Choices.deviating_word-candidate, ReturnedWords.{same_position-itself, order-earlier, order-later}},
   },
 }
 use Rattle.list_decode.proofs.choice.compare_deviation_chains.Goals as goal

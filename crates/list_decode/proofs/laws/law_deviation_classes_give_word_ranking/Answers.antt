@@ -1,4 +1,4 @@
-use Rattle.list_decode.proofs.Rankings.{begins_ranked, goes_on_ranked, ends_ranked}
+use Rattle.list_decode.proofs.Classes.{begins_ranked, goes_on_ranked, ends_ranked}
 use Rattle.list_decode.proofs.laws.law_deviation_classes_give_word_ranking.Goals as goal
 
 pub returns-clause-begins : goal.returns-clause-begins

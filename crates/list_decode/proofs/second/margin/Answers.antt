@@ -5,7 +5,7 @@ use Rattle.{
   list_decode.proofs.{
     DeviatingWords.{AllBits-traceback, traceback-drop_next, state_after-below},
     Deviations.{AreFirstTwo, first_two},
-    Rankings.{IsLikelihoodMargin-second, HasTiedWord-margin, margin-hard_bits, both_unique},
+    Margins.{IsLikelihoodMargin-second, HasTiedWord-margin, margin-hard_bits, both_unique},
     second.margin.Goals.After-write_deviating_word,
   },
 }

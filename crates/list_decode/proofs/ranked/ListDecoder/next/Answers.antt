@@ -2,7 +2,7 @@ use Rattle.{
   std.proofs.Common.{arith, ◌≡◌, ◌<◌, ◌++◌, ◌∷◌, [], Some, None, ap, length, of_z, subst, sym, to_z, w32, ◌∙◌},
   list_decode.{
     proofs.{
-      Chosen.{IsRankingDone-none, information, push-empty},
+      ReturnedWords.{IsRankingDone-none, information, push-empty},
       ranked.ListDecoder.next.Goals.{After-write_first_word, After-write_next_word},
     },
     specs.{Ranking.{IsRankingDone, Ranking}, Words.returned_words},

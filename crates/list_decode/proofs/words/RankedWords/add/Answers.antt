@@ -1,4 +1,4 @@
-use Rattle.{std.proofs.Common.{rules, ◌≡◌, length}, list_decode.proofs.Chosen.{IsRanking-next, returned_words-next}}
+use Rattle.{std.proofs.Common.{rules, ◌≡◌, length}, list_decode.proofs.ReturnedWords.{IsRanking-next, returned_words-next}}
 use Rattle.list_decode.proofs.words.RankedWords.add.Goals as goal
 
 pub returns-clause-ranking : goal.returns-clause-ranking

@@ -1,6 +1,6 @@
 use Rattle.{
   std.proofs.{Common.{arith, ◌≡◌, ◌+◌, ◌-◌, drop, get_or, set, subst, sym, ◌∙◌}, lemmas.List.length-set},
-  list_decode.{specs.Words.{IsChainOfDeviations, placeholder_deviation}, proofs.Choices.chain-more},
+  list_decode.{specs.Words.{IsChainOfDeviations, placeholder_deviation}, proofs.ReturnedWords.chain-more},
 }
 use Rattle.list_decode.proofs.words.RankedWords.chain_to_word.Goals as goal
 

@@ -1,7 +1,8 @@
 use Rattle.{
-  std.proofs.{Common.{arith, rules, ◌≡◌, ◌∷◌, [], List, ℤ, ap, length, refl, subst, sym, take, ◌∙◌, w32, FitsSigned}, lemmas.Int.to_z-of_z},
+  std.proofs.Common.{arith, rules, ◌≡◌, ◌∷◌, [], List, ℤ, ap, length, refl, subst, sym, take, ◌∙◌, w32, FitsSigned},
+  std.proofs.lemmas.Int.to_z-of_z,
   weight_bound.specs.conv_code.{Code.encoding, Likelihood.{IsMostLikely, likelihood}},
-  list_decode.proofs.{Chosen.{IsRankingSoFar-first, take-same_length}, words.RankedWords.first_word.Goals.After-pad_with_zeros},
+  list_decode.proofs.{ReturnedWords.{IsRankingSoFar-first, take-same_length}, words.RankedWords.first_word.Goals.After-pad_with_zeros},
 }
 use Rattle.list_decode.proofs.words.RankedWords.first_word.Goals as goal
 
@@ -16,7 +17,8 @@ returns-clause-sound c =
     let fits : FitsSigned w32 c.args.metric = search rules in
     let soft = sym c.new.ensures.soft in
     IsRankingSoFar-first _ c.args.u.now c.new.ensures.has_soft_bits refl
-    (reads (goal.at.returns-clause-sound c).After-pad_with_zeros) (subst (λ (s : List ℤ). IsMostLikely s c.args.u.now) soft c.requires.best)
+    (reads (goal.at.returns-clause-sound c).After-pad_with_zeros)
+    (subst (λ (s : List ℤ). IsMostLikely s c.args.u.now) soft c.requires.best)
     (to_z-of_z w32 c.args.metric fits ∙ c.requires.metric ∙ ap (λ (s : List ℤ). likelihood s (encoding c.args.u.now)) soft)
 
 pub returns-clause-returned : goal.returns-clause-returned

@@ -1,6 +1,6 @@
 use Rattle.{
   std.proofs.Common.{arith, ◌-◌, get_or, subst},
-  list_decode.{specs.Words.{IsMadeByDeviation, returned_words, placeholder_deviation}, proofs.Choices.same_position-parent},
+  list_decode.{specs.Words.{IsMadeByDeviation, returned_words, placeholder_deviation}, proofs.ReturnedWords.same_position-parent},
 }
 use Rattle.list_decode.proofs.words.RankedWords.parent_deviation.Goals as goal
 

@@ -4,7 +4,7 @@ use Rattle.{
   weight_bound.specs.conv_code.Likelihood.IsMostLikely,
   list_decode.{
     specs.{Passes.soft_bits_of_pass, declared.branch.WordSpan.WordSpan},
-    proofs.Chosen.{IsRanking-first, IsRankingSoFar-from, IsSpanOfWord-first, first_word-metric, first_word-most_likely},
+    proofs.ReturnedWords.{IsRanking-first, IsRankingSoFar-from, IsSpanOfWord-first, first_word-metric, first_word-most_likely},
     proofs.words.RankedWords.prepare.Goals.After-run_backward_pass,
   },
 }

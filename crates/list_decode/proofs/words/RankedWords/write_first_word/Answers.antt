@@ -1,6 +1,9 @@
 use Rattle.{
-  std.proofs.{Common.{arith, rules, ◌≡◌, ◌∷◌, [], ap, length, refl, take, ◌∙◌, w32, FitsSigned}, lemmas.Int.to_z-of_z},
-  list_decode.proofs.{Chosen.{IsRankingSoFar-first, take-same_length}, words.RankedWords.write_first_word.Goals.After-pad_with_zeros-self},
+  std.proofs.{Common.{rules, ◌≡◌, ◌∷◌, [], ap, refl, take, ◌∙◌, w32, FitsSigned}, lemmas.Int.to_z-of_z},
+  list_decode.proofs.{
+    ReturnedWords.{IsRankingSoFar-first, take-same_length},
+    words.RankedWords.write_first_word.Goals.After-pad_with_zeros-self,
+  },
 }
 use Rattle.list_decode.proofs.words.RankedWords.write_first_word.Goals as goal
 

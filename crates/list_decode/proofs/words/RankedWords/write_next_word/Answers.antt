@@ -1,6 +1,6 @@
 use Rattle.{
   std.proofs.Common.{arith, ◌≡◌, inr, ap₂, subst},
-  list_decode.{proofs.Chosen.{every_word_returned, IsRankingSoFar-from}, specs.{Ranking.IsRankingDone, Words.ranking_of}},
+  list_decode.{proofs.ReturnedWords.{every_word_returned, IsRankingSoFar-from}, specs.{Ranking.IsRankingDone, Words.ranking_of}},
 }
 use Rattle.list_decode.proofs.words.RankedWords.write_next_word.Goals as goal
 

@@ -1,4 +1,4 @@
-use Rattle.{std.proofs.Common.{arith, rules, ◌≡◌, length, sym, ◌∙◌}, list_decode.proofs.Choices.returned_words-first}
+use Rattle.{std.proofs.Common.{arith, rules, ◌≡◌, length, sym, ◌∙◌}, list_decode.proofs.ReturnedWords.returned_words-first}
 use Rattle.list_decode.proofs.words.RankedWords.write_word.Goals as goal
 
 pub loop-k-init : goal.loop-k-init

@@ -1,4 +1,4 @@
-use Rattle.{std.proofs.Common.drop, list_decode.proofs.Choices.IsOnChain}
+use Rattle.{std.proofs.Common.drop, list_decode.proofs.ReturnedWords.IsOnChain}
 use Rattle.list_decode.proofs.words.RankedWords.write_word.Given as goal
 
 abbrev pub invariant-loop-k : goal.invariant-loop-k
