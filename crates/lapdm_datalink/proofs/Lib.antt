@@ -22,3 +22,4 @@ mod RunsQueues
 mod RunsLinks
 mod Runs
 mod Lockstep
+mod LockstepRuns
