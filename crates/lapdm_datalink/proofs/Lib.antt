@@ -30,3 +30,4 @@ mod RunsQueues
 mod RunsLinks
 mod Runs
 mod Lockstep
+mod LockstepRuns

@@ -9,7 +9,7 @@ use Rattle.{
     segmenting.Segments.Message,
     declared.{Sapi.Sapi, Sapi.TheVariants.{Zero, Three}, State.State, Refused.Refused},
     Ends.{Role, Mobile, Network, EndpointState, Outcome, sapi_number, awaits_answer},
-    Calls.{Call, OpensWithoutInfo, IsCallAllowedFor, refusal_of, awaited_frame, t200_expiry},
+    Calls.{Call, OpensWithoutInfo, IsCallAllowedFor, refusal_of, awaited_frame, t200_expiry, is_idle},
   },
   lapdm_link.specs.Events.other,
   lapdm_datalink.{
@@ -27,13 +27,14 @@ use Rattle.{
       Returned.{IsReturned, Returns, returns-call, returns-frame},
       RunsLinks.{IsSlot, sabm_first, idles, answering, repeating, expiring, is_slot},
       ProgressAlone.sapi_0_goes_first,
-      ProgressPolls.progresses,
+      ProgressCut.{progress_from_start, few_losses_keep_links},
     },
   },
 }
 use Rattle.lapdm_datalink.specs.Lockstep.{Part, Run, after_call_of, after_calls, frame_or_unit, side_at, link0_at}
 use Rattle.lapdm_datalink.specs.Lockstep.{arriving_at, ready_at, outcome_at, IsCallOf, HasCalls, frame_of_link0, call_of_link0, turn_of}
-use Rattle.lapdm_datalink.specs.Lockstep.{sapi_0_of, IsAsAlone, AreAsAlone, slots_with, awaits, is_loss_at, is_lossy, repeats, Progresses}
+use Rattle.lapdm_datalink.specs.Lockstep.{sapi_0_of, IsAsAlone, AreAsAlone, slots_with, awaits, is_loss_at, is_lossy, expires, frames_at}
+use Rattle.lapdm_datalink.specs.Lockstep.{Progresses, KeepsLinks}
 use Rattle.lapdm_datalink.specs.Channels as C
 use Rattle.lapdm_datalink.specs.Progress as P
 
@@ -383,11 +384,15 @@ are_as_alone r calls n role = as_alone r calls n (joined r calls n) role
 
 -- ---- progress
 
-slots-same : (f g : ℕ → Bool) (n k : ℕ) → ((m : ℕ) → f m ≡ g m) → (count : (k : ℕ) → ℕ) → count 0 ≡ 0 →
-    ((k : ℕ) → count (suc k) ≡ count k + one_if (g (n + k))) → slots_with f n k ≡ count k
-slots-same f g n zero same count first next = sym first
-slots-same f g n (suc k) same count first next =
-    rw (slots-same f g n k same count first next, same (n + k)) (sym (next k))
+after_none : (k : ℕ) → 0 + k ≡ k
+after_none k = omega arith
+
+slots-same : (f g : ℕ → Bool) (k : ℕ) → ((m : ℕ) → f m ≡ g m) → (count : (k : ℕ) → ℕ) → count 0 ≡ 0 →
+    ((k : ℕ) → count (suc k) ≡ count k + one_if (g (0 + k))) → slots_with f k ≡ count k
+slots-same f g zero same count first next = sym first
+slots-same f g (suc k) same count first next =
+    rw (slots-same f g k same count first next, same k)
+    (sym (next k ∙ ap (λ m. count k + one_if (g m)) (after_none k)))
 
 module _ (r : Run) (calls : HasCalls r) where
   abbrev at : (n : ℕ) (role : Role) → IsAsAlone r n role
@@ -411,32 +416,35 @@ module _ (r : Run) (calls : HasCalls r) where
   awaits-same : (role : Role) (n : ℕ) → awaits r role n ≡ awaits_answer (P.ready_at (sapi_0_of r) n role).endpoint
   awaits-same role n = ap (λ (l : LinkState). awaits_answer l.endpoint) (at n role).ready
 
-  repeats-same : (role : Role) (n : ℕ) → repeats r role n ≡ P.is_repetition (P.frame_at (sapi_0_of r) n role)
-  repeats-same role n = ap P.is_repetition (at n role).frame
+  expires-same : (role : Role) (n : ℕ) → expires r role n ≡ P.expires_in (P.ready_at (sapi_0_of r) n role)
+  expires-same role n = ap P.expires_in (at n role).ready
 
-  waits-count : (role : Role) (n k : ℕ) → slots_with (awaits r role) n k ≡ P.waiting_slots (sapi_0_of r) n k role
-  waits-count role n k =
-      slots-same _ _ n k (awaits-same role) (λ j. P.waiting_slots (sapi_0_of r) n j role) refl (λ j. refl)
+  waits-count : (role : Role) (k : ℕ) → slots_with (awaits r role) k ≡ P.waiting_slots (sapi_0_of r) 0 k role
+  waits-count role k = slots-same _ _ k (awaits-same role) (λ j. P.waiting_slots (sapi_0_of r) 0 j role) refl (λ j. refl)
 
-  lossy-count : (n k : ℕ) → slots_with (is_lossy r) n k ≡ P.lossy_slots (sapi_0_of r) n k
-  lossy-count n k = slots-same _ _ n k lossy-same (λ j. P.lossy_slots (sapi_0_of r) n j) refl (λ j. refl)
+  lossy-count : (k : ℕ) → slots_with (is_lossy r) k ≡ P.lossy_slots (sapi_0_of r) 0 k
+  lossy-count k = slots-same _ _ k lossy-same (λ j. P.lossy_slots (sapi_0_of r) 0 j) refl (λ j. refl)
 
-  repeats-count : (role : Role) (n k : ℕ) → slots_with (repeats r role) n k ≡ P.expiries (sapi_0_of r) n k role
-  repeats-count role n k = slots-same _ _ n k (repeats-same role) (λ j. P.expiries (sapi_0_of r) n j role) refl (λ j. refl)
+  expires-count : (role : Role) (k : ℕ) → slots_with (expires r role) k ≡ P.expiries (sapi_0_of r) 0 k role
+  expires-count role k = slots-same _ _ k (expires-same role) (λ j. P.expiries (sapi_0_of r) 0 j role) refl (λ j. refl)
 
-  acked-same : (n : ℕ) (role : Role) → (link0_at r n role).endpoint.acked_segments ≡ P.acked_at (sapi_0_of r) n role
-  acked-same n role = ap (λ (l : LinkState). l.endpoint.acked_segments) (at n role).link
+  frames-same : (k : ℕ) (role : Role) → frames_at r k role ≡ P.frames_at (sapi_0_of r) k role
+  frames-same k Mobile = ap (λ (l : LinkState). one_if (not (is_idle l.endpoint.state)) + l.endpoint.sent_segments) (at k Mobile).link
+  frames-same k Network = ap (λ (l : LinkState). l.endpoint.sent_segments) (at k Network).link
+
+  closed-same : (k : ℕ) (role : Role) →
+      is_closed (link0_at r k role).endpoint.state ≡ is_closed (P.link_at (sapi_0_of r) k role).endpoint.state
+  closed-same k role = ap (λ (l : LinkState). is_closed l.endpoint.state) (at k role).link
 
 pub data_links_progress : (r : Run) → Progresses r
-data_links_progress r calls kept low n k are_open role =
-    let h = progresses (sapi_0_of r) (λ m q. rw (← turn-calls r calls m q) (kept m q)) low n k
-    (λ j few q. rw (← (are_as_alone r calls (n + j) q).link) (are_open j few q)) role in
+data_links_progress r calls long k kept none role =
+    let h = progress_from_start (sapi_0_of r) long k (λ n few q. rw (← turn-calls r calls n q) (kept n few q))
+    (λ j few q. sym (closed-same r calls j q) ∙ none j few q) role in
     record {
-      waits = rw (
-        waits-count r calls role n k,
-        lossy-count r calls n k,
-        acked-same r calls n role,
-        acked-same r calls (n + k) role,
-      ) h.waits;
-      expires = rw (repeats-count r calls role n k, lossy-count r calls n k) h.expires;
+      waits = rw (waits-count r calls role k, lossy-count r calls k, frames-same r calls k role) h.waits;
+      expires = rw (expires-count r calls role k, lossy-count r calls k) h.expires;
     }
+
+pub data_links_keep : (r : Run) → KeepsLinks r
+data_links_keep r calls long k kept few role = closed-same r calls k role ∙ few_losses_keep_links (sapi_0_of r) long k
+    (λ n early q. rw (← turn-calls r calls n q) (kept n early q)) (rw (← lossy-count r calls k) few) role

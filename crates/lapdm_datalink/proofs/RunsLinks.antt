@@ -21,11 +21,11 @@ use Rattle.lapdm_end.specs.lapdm_window.Tables.{ReportsUiInformation, TakesIFram
 use Rattle.lapdm_end.specs.lapdm_window.Tables.{TakesRej}
 use Rattle.lapdm_end.specs.lapdm_window.declared.State.TheVariants.{Open, Opening}
 use Rattle.lapdm_end.specs.lapdm_window.Calls.{sabm, t200_expiry}
+use Rattle.lapdm_datalink.specs.Links.{IsLinkCall}
 use Rattle.lapdm_datalink.specs.Links.{LinkState, SlotOutcome, sabm_goes_first, is_opening, is_awaiting_kind, with_frame, with_frames}
 use Rattle.lapdm_datalink.specs.Links.{with_outcome, first_frame, after_call, after_frame, frame_notices, received_outcome}
 use Rattle.lapdm_datalink.specs.Links.{is_reopened_by_call, is_reopened_by_frame, ignores, after_slot, slot_outcome, slot_outcome_owing}
 use Rattle.lapdm_datalink.specs.Links.{is_due, keeps_back, sends_due_frame, sends_nothing, sends_answer, sends_awaited, expires, ui_frame}
-use Rattle.lapdm_datalink.specs.Runs.{IsLayer3Call}
 use Rattle.lapdm_datalink.proofs.Lemmas.{endpoint_with_frames}
 use Rattle.lapdm_datalink.proofs.RunsClaims.{seen}
 use Rattle.lapdm_datalink.proofs.RunsWorlds.{Reaches, calls, takes, loses, silent}
@@ -99,7 +99,7 @@ notices-seen : (r : Role) (s : Sapi) (ns : List Notice) → seen (map (Notified 
 notices-seen r s [] = refl
 notices-seen r s (n ∷ ns) = ap (λ ls. Notified r s n ∷ ls) (notices-seen r s ns)
 
-seen-asked : (r : Role) (s : Sapi) (call : Call) {ns : List Notice} → IsLayer3Call call → ns ≡ [] →
+seen-asked : (r : Role) (s : Sapi) (call : Call) {ns : List Notice} → IsLinkCall call → ns ≡ [] →
     seen (Asked r s call ∷ map (Notified r s) ns) ≡ Asked r s call ∷ []
 seen-asked r s (Opens info) own e = rw e refl
 seen-asked r s OpensWithoutInfo own e = rw e refl
@@ -327,7 +327,7 @@ module _ (l : LinkState) where
       by_state Closed e call ok = refl
       by_state st e call ok = refl
 
-  call-silent : (call : Call) → IsLayer3Call call → (call_outcome call l.endpoint).notices ≡ []
+  call-silent : (call : Call) → IsLinkCall call → (call_outcome call l.endpoint).notices ≡ []
   call-silent (Opens info) own = refl
   call-silent OpensWithoutInfo own = refl
   call-silent (Sends m) own = by_may (may_send_next_segment (with_queued_message m l.endpoint))
@@ -340,7 +340,7 @@ module _ (l : LinkState) where
   call-silent call own = absurd own
 
   -- layer 3 sends a message or releases the link only in Open
-  send-open : (call : Call) → IsLayer3Call call → refusal_of call l.endpoint ≡ None →
+  send-open : (call : Call) → IsLinkCall call → refusal_of call l.endpoint ≡ None →
       (is_opening (call_outcome call l.endpoint).new_state.state ≡ false) ⊎ (l.endpoint.state ≡ Idle)
   send-open (Opens info) own ok = inr (is_idle-is l.endpoint.state (not_false _ (passes _ _ (single_frame_refusal_checks info l.endpoint)
       ok).not_refused))
@@ -349,15 +349,15 @@ module _ (l : LinkState) where
   send-open Closes own ok = inl refl
   send-open call own ok = absurd own
 
-  layer3-no_ui : (call : Call) → IsLayer3Call call → (info : List ℕ) → Some call ≡ Some (SendsUi info) → ⊥
+  layer3-no_ui : (call : Call) → IsLinkCall call → (info : List ℕ) → Some call ≡ Some (SendsUi info) → ⊥
   layer3-no_ui (SendsUi m) own info h = own
   layer3-no_ui call own info h = cc h
 
-  layer3-no_fill : (call : Call) → IsLayer3Call call → Some call ≡ Some SendsFillFrame → ⊥
+  layer3-no_fill : (call : Call) → IsLinkCall call → Some call ≡ Some SendsFillFrame → ⊥
   layer3-no_fill SendsFillFrame own h = own
   layer3-no_fill call own h = cc h
 
-  layer3-no_idle : (call : Call) → IsLayer3Call call → refusal_of call l.endpoint ≡ None →
+  layer3-no_idle : (call : Call) → IsLinkCall call → refusal_of call l.endpoint ≡ None →
       (call_outcome call l.endpoint).new_state.state ≡ Idle → ⊥
   layer3-no_idle (Sends m) own ok h = grind arith
   layer3-no_idle (Opens info) own ok h = cc h
@@ -439,12 +439,12 @@ in_front r w f xs (y ∷ ys) h e (dropped g) =
 
 module _ (l : LinkState) (air : List Frame) where
   -- what the endpoint returns for a call waits
-  waits-call : (q : List Frame) (call : Call) → IsLayer3Call call → refusal_of call l.endpoint ≡ None →
+  waits-call : (q : List Frame) (call : Call) → IsLinkCall call → refusal_of call l.endpoint ≡ None →
       (l.endpoint.state ≡ Idle → l.answer ≡ None) → IsSub (air ++ pending l) q →
       IsSub (air ++ pending (with_outcome (call_outcome call l.endpoint) l)) (q ++ (call_outcome call l.endpoint).frames)
   waits-call q call own ok idle h = by_state call own (send-open l call own ok)
     where
-      by_state : (call : Call) → IsLayer3Call call →
+      by_state : (call : Call) → IsLinkCall call →
           (is_opening (call_outcome call l.endpoint).new_state.state ≡ false) ⊎ (l.endpoint.state ≡ Idle) →
           IsSub (air ++ pending (with_outcome (call_outcome call l.endpoint) l)) (q ++ (call_outcome call l.endpoint).frames)
       by_state call own (inl e) = pending-outcome air (call_outcome call l.endpoint) l q (elsewhere e) h
@@ -457,7 +457,7 @@ module _ (l : LinkState) (air : List Frame) where
 module _ {channel : Channel} {s : Sapi} {r : Role} {air air' : List Frame} {l l' : LinkState} {log : List LogLine}
     (k : LinkAt channel s r air l air' l' log)
   where
-    call_with : (call : Call) → IsLayer3Call call → IsPlaced r s call → refusal_of call l.endpoint ≡ None →
+    call_with : (call : Call) → IsLinkCall call → IsPlaced r s call → refusal_of call l.endpoint ≡ None →
         LinkAt channel s r air (with_outcome (call_outcome call l.endpoint) l) air' l' (log ++ Asked r s call ∷ [])
     call_with call own placed ok =
         let o = call_outcome call l.endpoint in
@@ -471,7 +471,7 @@ module _ {channel : Channel} {s : Sapi} {r : Role} {air air' : List Frame} {l l'
         (record { clock = k.here.sound.clock; answer = k.here.sound.answer; idle = λ e. absurd (layer3-no_idle l call own ok e) }))
 
     -- layer 3 calls the link
-    pub call_step : (call : Call) → IsLayer3Call call → IsPlaced r s call → refusal_of call l.endpoint ≡ None →
+    pub call_step : (call : Call) → IsLinkCall call → IsPlaced r s call → refusal_of call l.endpoint ≡ None →
         LinkAt channel s r air (after_call call l) air' l' (log ++ Asked r s call ∷ [])
     call_step call own placed ok =
         let e : after_call call l ≡ with_outcome (call_outcome call l.endpoint) l =

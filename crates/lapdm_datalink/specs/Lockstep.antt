@@ -1,24 +1,25 @@
 -- Two whole data links, a mobile and a network, whose slots come together. In each slot each side takes what arrives, layer 3 makes its
 -- calls, and the side sends one block, which arrives `delay` slots later, before the slot after that, or is lost.
 use Rattle.std.specs.Prelude.{◌≡◌, ◌≤◌, ◌+◌, ◌*◌, ℕ, zero, suc, Bool, ◌||◌, List, [], ◌∷◌, All}
-use Rattle.std.specs.Prelude.{if◌then◌else◌, get_or, Option, Some, None}
+use Rattle.std.specs.Prelude.{◌++◌, false, not, map, if◌then◌else◌, get_or, Option, Some, None}
 use Rattle.std.specs.List.{filter_map}
 use Rattle.lapdm_frame.specs.declared.Channel.{Channel}
 use Rattle.lapdm_frame.specs.Content.{Frame}
 use Rattle.lapdm_end.specs.lapdm_window.segmenting.Segments.{Message}
 use Rattle.lapdm_end.specs.lapdm_window.declared.Sapi.{Sapi}
 use Rattle.lapdm_end.specs.lapdm_window.declared.Sapi.TheVariants.{Zero, Three}
-use Rattle.lapdm_end.specs.lapdm_window.declared.State.TheVariants.{Open}
 use Rattle.lapdm_end.specs.lapdm_window.Ends.{Role, Mobile, Network, awaits_answer}
-use Rattle.lapdm_end.specs.lapdm_window.Calls.{Call, IsCallAllowedFor, refusal_of}
+use Rattle.lapdm_end.specs.lapdm_window.declared.Refused.{Refused}
+use Rattle.lapdm_end.specs.lapdm_window.Calls.{Call, SendsUi, IsCallAllowedFor, refusal_of, is_idle}
 use Rattle.lapdm_link.specs.Events.{other}
-use Rattle.lapdm_datalink.specs.Links.{LinkState, IsLinkCall, for_call, ui_frame, after_slot, slot_outcome}
+use Rattle.lapdm_link.specs.Claims.{LogLine, Asked, Notified}
+use Rattle.lapdm_datalink.specs.Links.{LinkState, IsLinkCall, is_closed, for_call, is_reopened_by_call, ui_frame, after_slot, slot_outcome}
 use Rattle.lapdm_datalink.specs.DataLinks.{DataLinkState, initial_data_link, link_with_sapi, with_link, having_main, holds_up_sapi3}
 use Rattle.lapdm_datalink.specs.DataLinks.{DataLinkOutcome, data_link_outcome}
 use Rattle.lapdm_datalink.specs.Channels.{after_call_unless, carried}
 use Rattle.lapdm_datalink.specs.Channels as C
-use Rattle.lapdm_datalink.specs.Runs.{after_arrival_if_any}
-use Rattle.lapdm_datalink.specs.Progress.{round_trip, one_if, is_loss, is_repetition}
+use Rattle.lapdm_datalink.specs.Runs.{after_arrival_if_any, arrival_lines, OpensNoClosedLink}
+use Rattle.lapdm_datalink.specs.Progress.{round_trip, one_if, is_loss, expires_in, behind_ua}
 use Rattle.lapdm_datalink.specs.Progress as P
 
 -- one side's part of a slot
@@ -46,11 +47,16 @@ pub record Side : Type 0 where
   pub data_link : DataLinkState
   pub sent : List (Option Frame)
 
+-- why the link refuses the call, or `None`
+abbrev pub refusal : Sapi × Call → DataLinkState → Option Refused
+refusal (sapi, call) s = refusal_of call (for_call call (link_with_sapi sapi s)).endpoint
+
 -- the data link after a call of layer 3; a refused call changes nothing
+abbrev pub after_call_if : (refused : Option Refused) (call : Sapi × Call) (data_link : DataLinkState) → DataLinkState
+after_call_if refused (sapi, call) s = with_link sapi (after_call_unless refused call (link_with_sapi sapi s)) s
+
 abbrev pub after_call_of : Sapi × Call → DataLinkState → DataLinkState
-after_call_of (sapi, call) s =
-    let l = link_with_sapi sapi s in
-    with_link sapi (after_call_unless (refusal_of call (for_call call l).endpoint) call l) s
+after_call_of call s = after_call_if (refusal call s) call s
 
 abbrev pub after_calls : List (Sapi × Call) → DataLinkState → DataLinkState
 after_calls [] s = s
@@ -98,6 +104,61 @@ IsCallOf role (sapi, call) = IsCallAllowedFor role sapi call × IsLinkCall call
 abbrev pub HasCalls : Run → Type 0
 HasCalls r = (n : ℕ) (role : Role) → All (IsCallOf role) (r.part n role).calls
 
+-- ---- the log
+
+-- the lines of a call: a refused call has none
+abbrev pub call_lines_unless : (refused : Option Refused) (role : Role) (call : Sapi × Call) → List LogLine
+call_lines_unless None role (sapi, call) = Asked role sapi call ∷ []
+call_lines_unless (Some why) role call = []
+
+abbrev pub calls_lines : Role → List (Sapi × Call) → DataLinkState → List LogLine
+calls_lines role [] s = []
+calls_lines role (call ∷ calls) s = call_lines_unless (refusal call s) role call ++ calls_lines role calls (after_call_of call s)
+
+-- the line of the UI frame, if it goes out
+abbrev pub unit_lines : Role → (frame : Option Frame) (unit : Option (Sapi × Message)) → List LogLine
+unit_lines role None (Some (sapi, m)) = Asked role sapi (SendsUi m) ∷ []
+unit_lines role frame unit = []
+
+abbrev pub outcome_lines : Role → DataLinkOutcome → List LogLine
+outcome_lines role o = map (Notified role Zero) o.notices0 ++ map (Notified role Three) o.notices3
+
+-- the data link in the slot before it takes what arrives, and after
+abbrev pub before_at : (run : Run) (slot : ℕ) (role : Role) → DataLinkState
+before_at r n role = having_main (r.part n role).is_main_established (side_at r n role).data_link
+
+abbrev pub taken_at : (run : Run) (slot : ℕ) (role : Role) → DataLinkState
+taken_at r n role = after_arrival_if_any (arriving_at r n role) (before_at r n role)
+
+-- the lines of this side in the slot
+abbrev pub lines_at : (run : Run) (slot : ℕ) (role : Role) → List LogLine
+lines_at r n role =
+    arrival_lines role (arriving_at r n role) (before_at r n role)
+    ++ (calls_lines role (r.part n role).calls (taken_at r n role)
+    ++ (outcome_lines role (outcome_at r n role) ++ unit_lines role (outcome_at r n role).frame (r.part n role).unit))
+
+-- the log before the slot: what layer 3 asked for and what the links reported, in order
+abbrev pub log_before : (run : Run) (slot : ℕ) → List LogLine
+log_before r zero = []
+log_before r (suc n) = log_before r n ++ (lines_at r n Mobile ++ lines_at r n Network)
+
+-- none of these calls opens a closed link again
+abbrev pub CallsOpenNoClosedLink : List (Sapi × Call) → DataLinkState → Type 0
+CallsOpenNoClosedLink [] s = Unit {0}
+CallsOpenNoClosedLink ((sapi, call) ∷ calls) s =
+    (is_reopened_by_call call (link_with_sapi sapi s) ≡ false) × CallsOpenNoClosedLink calls (after_call_of (sapi, call) s)
+
+-- the UI frame of a free slot fits in a block
+abbrev pub UnitIsAccepted : (unit : Option (Sapi × Message)) (state : DataLinkState) → Type 0
+UnitIsAccepted None s = Unit {0}
+UnitIsAccepted (Some (sapi, m)) s = refusal_of (SendsUi m) (link_with_sapi sapi s).endpoint ≡ None
+
+-- in this slot, this side opens no closed link again, by a frame or by a call, and its UI frame is accepted
+pub record IsRegular (r : Run) (n : ℕ) (role : Role) : Type 0 where
+  pub arrival : OpensNoClosedLink (arriving_at r n role) (before_at r n role)
+  pub calls : CallsOpenNoClosedLink (r.part n role).calls (taken_at r n role)
+  pub unit : UnitIsAccepted (r.part n role).unit (outcome_at r n role).new_state
+
 -- ---- the links of SAPI 0 alone
 
 -- the frame, if the link of SAPI 0 sent it: no UI frame
@@ -135,14 +196,17 @@ AreAsAlone r = HasCalls r → (n : ℕ) (role : Role) → IsAsAlone r n role
 
 -- ---- progress
 
--- in how many of these slots this is so
-abbrev pub slots_with : (is_so : ℕ → Bool) (first slots : ℕ) → ℕ
-slots_with is_so n zero = 0
-slots_with is_so n (suc k) = slots_with is_so n k + one_if (is_so (n + k))
+-- in how many slots before this one this is so
+abbrev pub slots_with : (is_so : ℕ → Bool) (slot : ℕ) → ℕ
+slots_with is_so zero = 0
+slots_with is_so (suc k) = slots_with is_so k + one_if (is_so k)
 
--- in the slot, the link of SAPI 0 awaits an answer, a frame of it is lost, or it repeats its I frame
+-- in the slot, the link of SAPI 0 awaits an answer, its T200 expires, or a frame of it is lost
 abbrev pub awaits : (run : Run) (role : Role) (slot : ℕ) → Bool
 awaits r role n = awaits_answer (ready_at r n role).link0.endpoint
+
+abbrev pub expires : (run : Run) (role : Role) (slot : ℕ) → Bool
+expires r role n = expires_in (after_slot (ready_at r n role).link0)
 
 abbrev pub is_loss_at : (run : Run) (slot : ℕ) (role : Role) → Bool
 is_loss_at r n role = is_loss (r.part n role).is_lost (frame_of_link0 (outcome_at r n role).frame)
@@ -150,24 +214,29 @@ is_loss_at r n role = is_loss (r.part n role).is_lost (frame_of_link0 (outcome_a
 abbrev pub is_lossy : (run : Run) (slot : ℕ) → Bool
 is_lossy r n = is_loss_at r n Mobile || is_loss_at r n Network
 
-abbrev pub repeats : (run : Run) (role : Role) (slot : ℕ) → Bool
-repeats r role n = is_repetition (frame_of_link0 (outcome_at r n role).frame)
+-- the frames of the link of SAPI 0 that await answers: `frames_at` of specs/Progress
+abbrev pub frames_at : (run : Run) (slot : ℕ) (role : Role) → ℕ
+frames_at r n Mobile = one_if (not (is_idle (link0_at r n Mobile).endpoint.state)) + (link0_at r n Mobile).endpoint.sent_segments
+frames_at r n Network = (link0_at r n Network).endpoint.sent_segments
 
--- the links of SAPI 0 of both sides are open before each of these slots and after the last
-abbrev pub AreOpen : (run : Run) (first slots : ℕ) → Type 0
-AreOpen r n k = (j : ℕ) → j ≤ k → (role : Role) → (link0_at r (n + j) role).endpoint.state ≡ Open
+-- before this slot, layer 3 establishes SAPI 0 and sends messages over it, but does not release it
+abbrev pub IsWithoutRelease : (run : Run) (slot : ℕ) → Type 0
+IsWithoutRelease r m = (n : ℕ) → suc n ≤ m → (role : Role) → All (C.IsUse role) (turn_of (r.part n role)).calls
 
--- layer 3 establishes SAPI 0 and sends messages over it, but does not release it
-abbrev pub IsWithoutRelease : Run → Type 0
-IsWithoutRelease r = (n : ℕ) (role : Role) → All (C.IsUse role) (turn_of (r.part n role)).calls
+-- neither side has given SAPI 0 up before this slot
+abbrev pub NoneGaveUp : (run : Run) (slot : ℕ) → Type 0
+NoneGaveUp r n = (role : Role) → is_closed (link0_at r n role).endpoint.state ≡ false
 
--- `Progress` of specs/Progress, of the link of SAPI 0 of a data link
-pub record Progress (r : Run) (n k : ℕ) (role : Role) : Type 0 where
-  pub waits : slots_with (awaits r role) n k + round_trip r.delay * (link0_at r n role).endpoint.acked_segments
-      ≤ round_trip r.delay * ((link0_at r (n + k) role).endpoint.acked_segments + 1)
-      + (r.t200 + 1) * (slots_with (is_lossy r) n k + 1) + (r.delay + 1)
-  pub expires : slots_with (repeats r role) n k ≤ slots_with (is_lossy r) n k + 1
+-- `FromStart` and `KeepsLinks` of specs/Progress, of the links of SAPI 0 of data links
+pub record Progress (r : Run) (k : ℕ) (role : Role) : Type 0 where
+  pub waits : slots_with (awaits r role) k
+      ≤ round_trip r.delay * frames_at r k role + (r.t200 + 1) * slots_with (is_lossy r) k + behind_ua role
+  pub expires : slots_with (expires r role) k ≤ slots_with (is_lossy r) k
 
 abbrev pub Progresses : Run → Type 0
-Progresses r = HasCalls r → IsWithoutRelease r → round_trip r.delay ≤ r.t200 → (n k : ℕ) → AreOpen r n k → (role : Role) →
-    Progress r n k role
+Progresses r = HasCalls r → round_trip r.delay ≤ r.t200 → (k : ℕ) → IsWithoutRelease r k →
+    ((j : ℕ) → j ≤ k → NoneGaveUp r j) → (role : Role) → Progress r k role
+
+abbrev pub KeepsLinks : Run → Type 0
+KeepsLinks r = HasCalls r → round_trip r.delay ≤ r.t200 → (k : ℕ) → IsWithoutRelease r k → slots_with (is_lossy r) k ≤ 5 →
+    NoneGaveUp r k

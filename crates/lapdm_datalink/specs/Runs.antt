@@ -8,11 +8,11 @@ use Rattle.lapdm_end.specs.lapdm_window.segmenting.Segments.{Message}
 use Rattle.lapdm_end.specs.lapdm_window.declared.Sapi.{Sapi}
 use Rattle.lapdm_end.specs.lapdm_window.declared.Sapi.TheVariants.{Zero, Three}
 use Rattle.lapdm_end.specs.lapdm_window.Ends.{Role, Mobile, Network}
-use Rattle.lapdm_end.specs.lapdm_window.Calls.{Call, Opens, OpensWithoutInfo, Sends, SendsUi, Closes, IsCallAllowedFor, refusal_of}
+use Rattle.lapdm_end.specs.lapdm_window.Calls.{Call, SendsUi, IsCallAllowedFor, refusal_of}
 use Rattle.lapdm_link.specs.Queues.{Queues, empty_queues, queue_of, with_items_appended, without_oldest_item, IsOldestSentOrNone}
 use Rattle.lapdm_link.specs.Events.{other}
 use Rattle.lapdm_link.specs.Claims.{LogLine, Asked, Notified}
-use Rattle.lapdm_datalink.specs.Links.{LinkState, after_call, ui_frame, is_reopened_by_frame}
+use Rattle.lapdm_datalink.specs.Links.{LinkState, IsLinkCall, after_call, ui_frame, is_reopened_by_frame}
 use Rattle.lapdm_datalink.specs.DataLinks.{DataLinkState, initial_data_link, link_with_sapi, with_link, sapi_for_frame, after_arrival}
 use Rattle.lapdm_datalink.specs.DataLinks.{notices_of_taking, data_link_outcome, having_main}
 
@@ -57,14 +57,6 @@ pub data RunEvent : Type 0 where
   -- layer 3 says whether the link of SAPI 0 on the main channel is established
   HasMain : Role → Bool → RunEvent
 
--- layer 3 establishes a link, sends a message in I frames, or releases a link
-abbrev pub IsLayer3Call : Call → Type 0
-IsLayer3Call (Opens info) = Unit {0}
-IsLayer3Call OpensWithoutInfo = Unit {0}
-IsLayer3Call (Sends m) = Unit {0}
-IsLayer3Call Closes = Unit {0}
-IsLayer3Call call = ⊥
-
 -- the frame that arrives, if any, does not open a closed link again
 abbrev pub OpensNoClosedLink : (arrived : Option Frame) (state : DataLinkState) → Type 0
 OpensNoClosedLink None s = Unit {0}
@@ -74,7 +66,7 @@ OpensNoClosedLink (Some f) s = IfSome (sapi_for_frame f s) (λ sapi. is_reopened
 -- Each link is opened once, by a call (an endpoint in Closed refuses it) or by a frame. The events before a second opening are a run.
 abbrev pub IsPossible : RunEvent → RunState → Type 0
 IsPossible (Calls role sapi call) r =
-    IsLayer3Call call × IsCallAllowedFor role sapi call × (refusal_of call (link_at role sapi r).endpoint ≡ None)
+    IsLinkCall call × IsCallAllowedFor role sapi call × (refusal_of call (link_at role sapi r).endpoint ≡ None)
 IsPossible (Slot role) r = Unit {0}
 IsPossible (UnitSlot role sapi m) r =
     let o = data_link_outcome (data_link_of role r) in

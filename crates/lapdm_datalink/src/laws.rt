@@ -1,6 +1,6 @@
 //! Laws of one link, slot by slot, and of runs of two data links. The body of a law is empty: call it to use its contract in a proof.
 
-ghost use Rattle.std.specs.Prelude.{◌≡◌, ◌⊎◌, ◌||◌, ℕ, Bool, List, true, false, nat_eq, Some, None};
+ghost use Rattle.std.specs.Prelude.{◌≡◌, ◌<◌, ◌⊎◌, ◌||◌, ℕ, Bool, List, true, false, nat_eq, Some, None};
 ghost use Rattle.lapdm_frame.specs.declared.Channel.{Channel};
 ghost use Rattle.lapdm_end.specs.lapdm_window.declared.State.TheVariants.{Open, Closed};
 ghost use Rattle.lapdm_end.specs.lapdm_window.segmenting.Segments.{Segment};
@@ -96,7 +96,19 @@ pub fn law_sapi_0_of_data_links_is_a_channel()
     ensures { (r : Lockstep.Run) → Lockstep.AreAsAlone r }
 {}
 
-/// Law: so progress holds of the links of SAPI 0 of two whole data links.
+/// Law: so the links of SAPI 0 of two whole data links wait as `law_data_links_progress_from_the_start` says, and are kept as
+/// `law_few_losses_close_no_link` says.
 pub fn law_whole_data_links_progress()
-    ensures { (r : Lockstep.Run) → Lockstep.Progresses r }
+    ensures progress { (r : Lockstep.Run) → Lockstep.Progresses r }
+    ensures kept { (r : Lockstep.Run) → Lockstep.KeepsLinks r }
+{}
+
+/// Law: so two whole data links deliver in order up to any slot before which no closed link is opened again, by a call or by a late SABM.
+pub fn law_whole_data_links_deliver_in_order()
+    ensures delivery { (r : Lockstep.Run) → Lockstep.HasCalls r → (n : ℕ)
+        → ((k : ℕ) → k < n → (role : Role) → Lockstep.IsRegular r k role) → Claims (Lockstep.log_before r n) }
+    ensures acked_at_most_delivered { (r : Lockstep.Run) → Lockstep.HasCalls r → (n : ℕ)
+        → ((k : ℕ) → k < n → (role : Role) → Lockstep.IsRegular r k role) → AckedAtMostDelivered (Lockstep.log_before r n) }
+    ensures order { (r : Lockstep.Run) → Lockstep.HasCalls r → (n : ℕ)
+        → ((k : ℕ) → k < n → (role : Role) → Lockstep.IsRegular r k role) → HasNoticesInOrder (Lockstep.log_before r n) }
 {}
