@@ -12,21 +12,24 @@ use Rattle.{
     specs.{Int.{cast_signed, cast_unsigned}, List.All},
   },
   lanes.{
-    specs.Lanes.{AreSigned, DifferencesFit, lane, lane_of_two},
+    specs.Lanes.{AreSigned, DifferencesFit, lane, lane_of_two, greater},
     proofs.Lanes.{AreSigned-between, between_of_two, by_two, each, if_map, lane_of_two-first, lane_of_two-second, lanewise_of_two},
     proofs.Lanes.{same_below, shuffled, taken, wrapped_difference, wrapped_sum},
   },
-  trellis_decode.specs.{
-    AcsLanes.{AbsFit16Bits, AreBranchMetrics, AreDecisionLanes, DifferByAtMost4096, HasBranchMetrics, three_bits_reversed},
-    AcsLanes.{interleaved_lanes, lane_decisions, lane_decision, path_metric_of_lane, lane_of_state, in_state_order, lanes_in_state_order},
-    AcsLanes.metrics_of_lanes,
-    Candidates.AreAcsCandidates,
-    Hard.{AreInt8, HaveMagnitudeAtMostOne, HasHardBranchMetrics, HaveHeadroom8, IsHardBit, hard_lane_metrics, lane_after_bit_0},
-    Hard.{lane_after_bit_1, metric_of_hard_lane, sign_bit_of},
-    Lanes.{AreSignedOctets, IsSignedOctet},
-    SurvivorPaths.AreMetricsWithin,
-    Trellis.{IsDecision, branch_metric, candidate_metric, next_trellis_state, first_coded_bit, second_coded_bit},
-    declared.acs_step.Candidates.Candidates,
+  trellis_decode.{
+    proofs.HardLanes.IsHardStep,
+    specs.{
+      AcsLanes.{AbsFit16Bits, AreBranchMetrics, AreDecisionLanes, DifferByAtMost4096, HasBranchMetrics, three_bits_reversed},
+      AcsLanes.{interleaved_lanes, lane_decisions, lane_decision, path_metric_of_lane, lane_of_state, in_state_order, lanes_in_state_order},
+      AcsLanes.metrics_of_lanes,
+      Candidates.AreAcsCandidates,
+      Hard.{AreInt8, HaveMagnitudeAtMostOne, HasHardBranchMetrics, HaveHeadroom8, IsHardBit, hard_lane_metrics, lane_after_bit_0},
+      Hard.{lane_after_bit_1, metric_of_hard_lane, sign_bit_of},
+      Lanes.{AreSignedOctets, IsSignedOctet},
+      SurvivorPaths.AreMetricsWithin,
+      Trellis.{IsDecision, branch_metric, candidate_metric, next_trellis_state, first_coded_bit, second_coded_bit},
+      declared.acs_step.Candidates.Candidates,
+    },
   },
 }
 use lib.Lanes.{Each1}
@@ -185,7 +188,7 @@ module _ (metric : ℤ → ℤ) (same_order : (x y : ℤ) →
     int_lt (metric x) (metric y) ≡ int_lt x y) (after pair : List ℤ) (zeros ones values : ℕ → ℤ)
     (zero_is : (s : ℕ) → s < 16 → metric (zeros (lane_of_state s)) ≡ candidate_metric after pair s 0)
     (one_is : (s : ℕ) → s < 16 → metric (ones (lane_of_state s)) ≡ candidate_metric after pair s 1)
-    (best : (k : ℕ) → k < 16 → values k ≡ (if int_lt (zeros k) (ones k) then ones k else zeros k)) where
+    (best : (k : ℕ) → k < 16 → values k ≡ greater (zeros k) (ones k)) where
   pub IsDecision-lanes : (s : ℕ) → s < 16 → IsDecision after pair s (metric (values (lane_of_state s)))
       (if int_lt (zeros (lane_of_state s)) (ones (lane_of_state s)) then 1 else 0)
   IsDecision-lanes s lt = rw (best _ (lane_of_state-inside s lt)) (by _ (same_order (zeros (lane_of_state s)) (ones (lane_of_state s))))
@@ -293,15 +296,15 @@ module _ (even odd branch_metrics pair : List ℤ) (has : HasBranchMetrics branc
 
   pub zeros-are : (s : ℕ) → s < 16 →
       path_metric_of_lane (zeros (lane_of_state s)) ≡ candidate_metric (metrics_of_lanes even odd) pair s 0
-  zeros-are = candidates_of_bit_0 even odd branch_metrics pair has _ _ are.low_states_bit_0_sums are.high_states_bit_0_differences
+  zeros-are = candidates_of_bit_0 even odd branch_metrics pair has _ _ are.low_states_bit_0.each are.high_states_bit_0.each
 
   pub ones-are : (s : ℕ) → s < 16 →
       path_metric_of_lane (ones (lane_of_state s)) ≡ candidate_metric (metrics_of_lanes even odd) pair s 1
-  ones-are = candidates_of_bit_1 even odd branch_metrics pair has _ _ are.low_states_bit_1_differences are.high_states_bit_1_sums
+  ones-are = candidates_of_bit_1 even odd branch_metrics pair has _ _ are.low_states_bit_1.each are.high_states_bit_1.each
 
   -- `low` and `high` are the greater candidates, and `low_decisions` and `high_decisions` tell which they are
   pub IsDecision-candidates : (low high low_decisions high_decisions : List ℤ) →
-      ((k : ℕ) → k < 16 → lane_of_two 8 low high k ≡ (if int_lt (zeros k) (ones k) then ones k else zeros k)) →
+      ((k : ℕ) → k < 16 → lane_of_two 8 low high k ≡ greater (zeros k) (ones k)) →
       ((k : ℕ) → k < 16 → lane_of_two 8 low_decisions high_decisions k
       ≡ (if int_lt (zeros k) (ones k) then negsuc 0 else pos 0)) →
       (s : ℕ) → s < 16 → IsDecision (metrics_of_lanes even odd) pair s
@@ -352,8 +355,8 @@ module _ (even odd branch_metrics : List ℤ) (candidates : Candidates) (is : Ar
   low_fits k lt = omega (
     arith,
     ints,
-    is.low_states_bit_0_sums k lt,
-    is.low_states_bit_1_differences k lt,
+    is.low_states_bit_0.each k lt,
+    is.low_states_bit_1.each k lt,
     close.lower_bound k,
     close.upper_bound k,
     bounded.lower_bound k,
@@ -364,8 +367,8 @@ module _ (even odd branch_metrics : List ℤ) (candidates : Candidates) (is : Ar
   high_fits k lt = omega (
     arith,
     ints,
-    is.high_states_bit_0_differences k lt,
-    is.high_states_bit_1_sums k lt,
+    is.high_states_bit_0.each k lt,
+    is.high_states_bit_1.each k lt,
     close.lower_bound k,
     close.upper_bound k,
     bounded.lower_bound k,
@@ -496,16 +499,12 @@ module _ (after branch_metrics pair : List ℤ) (has : HasHardBranchMetrics bran
             has.count s,
       )
 
-  pub IsDecision-hard : (zeros ones values : List ℤ) →
-      ((k : ℕ) → k < 16 → lane zeros k ≡ lane after (lane_after_bit_0 k) +ℤ lane branch_metrics k) →
-      ((k : ℕ) → k < 16 → lane ones k ≡ lane after (lane_after_bit_1 k) -ℤ lane branch_metrics k) →
-      ((k : ℕ) → k < 16 → lane values k ≡ (if int_lt (lane zeros k) (lane ones k) then lane ones k else lane zeros k)) →
-      (s : ℕ) → s < 16 → IsDecision (hard_lane_metrics after) pair s (lane (hard_lane_metrics values) s)
+  pub IsDecision-hard : (zeros ones values : List ℤ) → IsHardStep after branch_metrics zeros ones values → (s : ℕ) → s < 16 →
+      IsDecision (hard_lane_metrics after) pair s (lane (hard_lane_metrics values) s)
       (if int_lt (lane zeros (lane_of_state s)) (lane ones (lane_of_state s)) then 1 else 0)
-  IsDecision-hard zeros ones values zeros-candidates ones-candidates better s lt =
+  IsDecision-hard zeros ones values step s lt =
       rw (hard_metric-at values s lt) (IsDecision-lanes metric_of_hard_lane metric_of_hard_lane-order (hard_lane_metrics after) pair
-      (lane zeros) (lane ones) (lane values) (bit_0_candidate-metric zeros zeros-candidates)
-      (one_candidate ones ones-candidates) better s lt)
+      (lane zeros) (lane ones) (lane values) (bit_0_candidate-metric zeros step.zero) (one_candidate ones step.one) step.best s lt)
 
 pub next_lane-state : (s : ℕ) → s < 16 → (t : Bool) →
     (if t then lane_after_bit_1 (lane_of_state s) else lane_after_bit_0 (lane_of_state s))
