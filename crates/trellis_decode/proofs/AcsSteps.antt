@@ -106,25 +106,18 @@ negated-cast_signed x small low =
 abbrev metrics_of_pair : ℤ → ℤ → List ℤ
 metrics_of_pair p q = metrics_of_bits (cast_unsigned w16 p) (cast_unsigned w16 q)
 
-metrics_of_pair-are : (p q : ℤ) → IsSignedOctet p → IsSignedOctet q →
-    HasBranchMetrics (metrics_of_pair p q) (p ∷ q ∷ []) × AreBranchMetrics (metrics_of_pair p q)
+metrics_of_pair-are : (p q : ℤ) → IsSignedOctet p → IsSignedOctet q → HasBranchMetrics (metrics_of_pair p q) (p ∷ q ∷ [])
 unfolding branch_metric
 metrics_of_pair-are p q hp hq =
     let a = wrapped_sum w16 p q (omega (arith, ints)) (omega (arith, ints)) (omega (arith, ints)) in
     let b = wrapped_difference w16 p q (omega (arith, ints)) (omega (arith, ints)) (omega (arith, ints)) in
     let c = negated-cast_signed ((cast_unsigned w16 p + cast_unsigned w16 q) % 65536) (omega arith) (omega (arith, ints)) in
-    let d = negated-cast_signed ((cast_unsigned w16 p + (65536 - cast_unsigned w16 q)) % 65536) (omega arith) (omega (arith, ints)) in (
-      record {
-        count = refl;
-        each_lane = each (λ k. lane (metrics_of_pair p q) k ≡ branch_metric (three_bits_reversed k) 0 (p ∷ q ∷ [])) 8
-            (omega (arith, ints));
-      },
-      record {
-        count = refl;
-        lower_bound = each (λ k. negsuc 255 ≤ℤ lane (metrics_of_pair p q) k) 8 (omega (arith, ints));
-        upper_bound = each (λ k. lane (metrics_of_pair p q) k ≤ℤ pos 256) 8 (omega (arith, ints));
-      },
-    )
+    let d = negated-cast_signed ((cast_unsigned w16 p + (65536 - cast_unsigned w16 q)) % 65536) (omega arith) (omega (arith, ints)) in
+    record {
+      size = refl;
+      count = refl;
+      each_lane = each (λ k. lane (metrics_of_pair p q) k ≡ branch_metric (three_bits_reversed k) 0 (p ∷ q ∷ [])) 8 (omega (arith, ints));
+    }
 
 -- ---- lemmas about the branch metrics of four positions
 
@@ -135,12 +128,11 @@ branch_metrics_at soft i =
     metrics_of_bits (bits i) (bits (i + 1))
 
 pub four_pairs : (soft : List ℤ) → AreSignedOctets soft → length soft ≡ 8 → (k : ℕ) → k < 4 →
-    HasBranchMetrics (branch_metrics_at soft (2 * k)) (take 2 (drop (2 * k) soft)) × AreBranchMetrics (branch_metrics_at soft (2 * k))
+    HasBranchMetrics (branch_metrics_at soft (2 * k)) (take 2 (drop (2 * k) soft))
 four_pairs (p ∷ q ∷ r ∷ s ∷ t ∷ u ∷ v ∷ w ∷ []) octets count =
     let soft : List ℤ = p ∷ q ∷ r ∷ s ∷ t ∷ u ∷ v ∷ w ∷ [] in
     let octet = λ (k : ℕ) (lt : k < 8). octets k (pos 0) lt in
-    each (λ k. HasBranchMetrics (branch_metrics_at soft (2 * k)) (take 2 (drop (2 * k) soft))
-    × AreBranchMetrics (branch_metrics_at soft (2 * k))) 4 (
+    each (λ k. HasBranchMetrics (branch_metrics_at soft (2 * k)) (take 2 (drop (2 * k) soft))) 4 (
       (
         (
           (tt, metrics_of_pair-are p q (octet 0 (lit≤ tt)) (octet 1 (lit≤ tt))),
@@ -561,10 +553,10 @@ pub HasHardBranchMetrics-row : (d : List ℤ) (n : ℕ) (p q : ℤ) → IsHardBi
     → n ≡ sign_bit_of p + 2 * sign_bit_of q →
     HasHardBranchMetrics (hard_row n d) (p ∷ q ∷ [])
 unfolding branch_metric
-HasHardBranchMetrics-row d n p q (inl hp) (inl hq) is = rw (is, hp, hq) (record { count = refl; at_state = same_below _ _ refl })
-HasHardBranchMetrics-row d n p q (inr hp) (inl hq) is = rw (is, hp, hq) (record { count = refl; at_state = same_below _ _ refl })
-HasHardBranchMetrics-row d n p q (inl hp) (inr hq) is = rw (is, hp, hq) (record { count = refl; at_state = same_below _ _ refl })
-HasHardBranchMetrics-row d n p q (inr hp) (inr hq) is = rw (is, hp, hq) (record { count = refl; at_state = same_below _ _ refl })
+HasHardBranchMetrics-row d n p q (inl hp) (inl hq) is = rw (is, hp, hq) (record { size = refl; count = refl; at_state = same_below _ _ refl })
+HasHardBranchMetrics-row d n p q (inr hp) (inl hq) is = rw (is, hp, hq) (record { size = refl; count = refl; at_state = same_below _ _ refl })
+HasHardBranchMetrics-row d n p q (inl hp) (inr hq) is = rw (is, hp, hq) (record { size = refl; count = refl; at_state = same_below _ _ refl })
+HasHardBranchMetrics-row d n p q (inr hp) (inr hq) is = rw (is, hp, hq) (record { size = refl; count = refl; at_state = same_below _ _ refl })
 
 -- row n of a table of branch metrics, converted to octets and back; there is a table for the first pair of soft bits and one for the second
 abbrev pub row_of : List (List ℤ) → ℕ → List ℤ → List ℤ
@@ -583,37 +575,3 @@ first_row d = same_below (λ n. row_of first_table n d) (λ n. hard_row (n % 4) 
 
 pub second_row : (d : List ℤ) (n : ℕ) → n < 16 → row_of second_table n d ≡ hard_row (n / 4) d
 second_row d = same_below (λ n. row_of second_table n d) (λ n. hard_row (n / 4) d) refl
-
--- whether a number is -1, 0 or 1, as every branch metric in the table is
-abbrev is_unit : ℤ → Bool
-is_unit (pos zero) = true
-is_unit (pos (suc zero)) = true
-is_unit (pos (suc (suc n))) = false
-is_unit (negsuc zero) = true
-is_unit (negsuc (suc n)) = false
-
-unit_bounds : (z : ℤ) → is_unit z ≡ true → (negsuc 0 ≤ℤ z) × (z ≤ℤ pos 1)
-unit_bounds (pos zero) e = (omega (arith, ints), omega (arith, ints))
-unit_bounds (pos (suc zero)) e = (omega (arith, ints), omega (arith, ints))
-unit_bounds (pos (suc (suc n))) e = absurd cc
-unit_bounds (negsuc zero) e = (omega (arith, ints), omega (arith, ints))
-unit_bounds (negsuc (suc n)) e = absurd cc
-
-pub hard_row-units : (d : List ℤ) (n : ℕ) → n < 4 → HaveMagnitudeAtMostOne (hard_row n d)
-hard_row-units d n lt =
-    let unit : (k : ℕ) → k < 16 → is_unit (lane (hard_row n d) k) ≡ true =
-    each (λ n. (k : ℕ) → k < 16 → is_unit (lane (hard_row n d) k) ≡ true) 4 (
-      (
-        (
-          (tt, same_below (λ k. is_unit (lane (hard_row 0 d) k)) (λ k. true) refl),
-          same_below (λ k. is_unit (lane (hard_row 1 d) k)) (λ k. true) refl,
-        ),
-        same_below (λ k. is_unit (lane (hard_row 2 d) k)) (λ k. true) refl,
-      ),
-      same_below (λ k. is_unit (lane (hard_row 3 d) k)) (λ k. true) refl,
-    ) n lt in
-    record {
-      count = each (λ n. length (hard_row n d) ≡ 16) 4 ((((tt, refl), refl), refl), refl) n lt;
-      lower_bound = λ k lt. (unit_bounds _ (unit k lt)).0;
-      upper_bound = λ k lt. (unit_bounds _ (unit k lt)).1;
-    }

@@ -7,7 +7,7 @@ use Rattle.{
       lemmas.{List.{drop_all, length-take, take-append-drop}, Int.ints},
       Common.{List, [], append_assoc, ap, ap₂, arith, drop, get_or, inl, inr, length, lit≤, negsuc, pos, refl, replicate, subst, suc},
       Common.{sym, take, zero, ℕ, ℤ, ◌%◌, ◌*◌, ◌++◌, ◌+ℤ◌, ◌+◌, ◌-ℤ◌, ◌-◌, ◌/◌, ◌<◌, ◌^◌},
-      Common.{◌∙◌, ◌∷◌, ◌≡◌, ◌≤ℤ◌, ◌≤◌},
+      Common.{◌∙◌, ◌∷◌, ◌≡◌, ◌≤ℤ◌, ◌≤◌, ◌*ℤ◌},
       Math.{ListN.set, Seq.drop-length},
     },
     specs.List.All,
@@ -20,9 +20,9 @@ use Rattle.{
     proofs.Viterbi.{IsSurvivor-tail_bit, IsSurvivor-more, IsSurvivor-same, candidate-survivor, traceback-tail_rows, length-traceback},
     proofs.Viterbi.{length-to_binary, likelihood_bound, metric_from_state-cons, traceback-zeros},
     specs.{
-      AcsLanes.{DifferByAtMost4096, HaveHeadroom16, three_bits_reversed, path_metric_of_lane, lane_of_state, metrics_of_lanes},
+      AcsLanes.{AreBranchMetrics, HasBranchMetrics, DifferByAtMost4096, HaveHeadroom16, three_bits_reversed, path_metric_of_lane, lane_of_state, metrics_of_lanes},
       Decisions.HasDecisionsAndMetrics,
-      Hard.{DifferByAtMost, hard_lane_metrics, metric_of_hard_lane},
+      Hard.{DifferByAtMost, HasHardBranchMetrics, HaveMagnitudeAtMostOne, hard_lane_metrics, metric_of_hard_lane},
       Lanes.{AreSignedOctets, IsSignedOctet, lane},
       SurvivorPaths.{AreMetricsWithin, AreSurvivors, HoldLaneNumbersFromIndex, state_after_bits, survivor_traceback},
       Trellis.{AreDecisions, EqualMetricButLater, HasTailBits, IsDecision, IsSurvivor, LessMetric, branch_metric, candidate_metric},
@@ -92,6 +92,25 @@ branch_metric_bound pair s bit two octets =
     let bits : AllBits (first_coded_bit s bit ∷ second_coded_bit s bit ∷ []) =
     All-cons IsBit (first_coded_bit s bit) (second_coded_bit s bit ∷ []) (omega arith) (All-cons _ _ [] (omega arith) (All-nil IsBit)) in
     omega (arith, ints, likelihood_bound pair (first_coded_bit s bit ∷ second_coded_bit s bit ∷ []) octets bits)
+
+pub AreBranchMetrics-from_HasBranchMetrics : (lanes pair : List ℤ) → AreSignedOctets pair → HasBranchMetrics lanes pair →
+    AreBranchMetrics lanes
+AreBranchMetrics-from_HasBranchMetrics lanes pair octets has = record {
+  count = has.size;
+  lower_bound = λ k lt. rw (has.each_lane k lt) (branch_metric_bound pair _ 0 has.count octets).0;
+  upper_bound = λ k lt. rw (has.each_lane k lt) (branch_metric_bound pair _ 0 has.count octets).1;
+}
+
+pub HaveMagnitudeAtMostOne-from_HasHardBranchMetrics : (lanes pair : List ℤ) → AreSignedOctets pair → HasHardBranchMetrics lanes pair →
+    HaveMagnitudeAtMostOne lanes
+HaveMagnitudeAtMostOne-from_HasHardBranchMetrics lanes pair octets has =
+    record { count = has.size; lower_bound = λ k lt. (unit k lt).0; upper_bound = λ k lt. (unit k lt).1 }
+  where
+    unit : (k : ℕ) → k < 16 → (negsuc 0 ≤ℤ lane lanes k) × (lane lanes k ≤ℤ pos 1)
+    unit k lt =
+        let is = has.at_state (lane_of_state k) (lane_of_state-inside k lt)
+        ∙ ap (λ j. pos 254 *ℤ lane lanes j) (lane_of_state-twice k lt) in
+        omega (arith, ints, branch_metric_bound pair (lane_of_state k) 0 has.count octets)
 
 IsDecision-upper_bound : (after pair : List ℤ) (s bit most : ℕ) (value : ℤ) → length pair ≡ 2 → AreSignedOctets pair →
     lane after (next_trellis_state s 0) ≤ℤ pos most → lane after (next_trellis_state s 1) ≤ℤ pos most

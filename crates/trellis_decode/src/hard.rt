@@ -355,9 +355,8 @@ fn sign_bits_of_soft_bits(soft: &[i8]) -> u64
 #[inline(always)]
 fn first_bit_branch_metrics(signs: u64) -> StateMetrics
     requires { signs < 16 }
-    ensures has { (p q : ℤ) → IsHardBit p → IsHardBit q → signs % 4 ≡ sign_bit_of p + 2 * sign_bit_of q →
+    ensures { (p q : ℤ) → IsHardBit p → IsHardBit q → signs % 4 ≡ sign_bit_of p + 2 * sign_bit_of q →
         HasHardBranchMetrics result.lanes (p ∷ q ∷ []) }
-    ensures within_one { HaveMagnitudeAtMostOne result.lanes }
 {
     StateMetrics {
         lanes: i8x16::from_array(FIRST_BIT_BRANCH_METRICS[signs as usize]),
@@ -368,9 +367,8 @@ fn first_bit_branch_metrics(signs: u64) -> StateMetrics
 #[inline(always)]
 fn second_bit_branch_metrics(signs: u64) -> StateMetrics
     requires { signs < 16 }
-    ensures has { (p q : ℤ) → IsHardBit p → IsHardBit q → signs / 4 ≡ sign_bit_of p + 2 * sign_bit_of q →
+    ensures { (p q : ℤ) → IsHardBit p → IsHardBit q → signs / 4 ≡ sign_bit_of p + 2 * sign_bit_of q →
         HasHardBranchMetrics result.lanes (p ∷ q ∷ []) }
-    ensures within_one { HaveMagnitudeAtMostOne result.lanes }
 {
     StateMetrics {
         lanes: i8x16::from_array(SECOND_BIT_BRANCH_METRICS[signs as usize]),
