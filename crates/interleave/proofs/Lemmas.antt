@@ -463,41 +463,24 @@ get_or-append_pair p n x y long s h =
     ap₂ (λ a b. a + p * b) (get_or_append_left x y 0 s (omega arith))
     (get_or-append_right x y n _ 0 long (omega arith) ∙ ap (λ k. get_or y k 0) (omega arith))
 
--- the indexes of lanes `from` to `from + n - 1` of two vectors of m lanes, alternately of the first and of the second
-abbrev pub alternately : (m n from : ℕ) → List ℕ
-alternately m zero from = []
-alternately m (suc n) from = from ∷ m + from ∷ alternately m n (suc from)
-
-alternately-at : (m n from j : ℕ) → j < n →
-    (get_or (alternately m n from) (2 * j) 0 ≡ from + j) × (get_or (alternately m n from) (suc (2 * j)) 0 ≡ m + (from + j))
-alternately-at m zero from j h = absurd (omega arith)
-alternately-at m (suc n) from zero h = (omega arith, omega arith)
-alternately-at m (suc n) from (suc j) h =
-    let more = alternately-at m n (suc from) j (omega arith) in
-    let even : 2 * suc j ≡ suc (suc (2 * j)) = omega arith in
-    rw even (more.0 ∙ omega arith, more.1 ∙ omega arith)
-
-length-alternately : (m n from : ℕ) → length (alternately m n from) ≡ 2 * n
-length-alternately m zero from = refl
-length-alternately m (suc n) from = omega (arith, length-alternately m n (suc from))
-
--- lanes of x and of y, moved next to each other and read as lanes of twice the width: each has the lane of x as its lower half
-pub joined_lanes : (w : Width) (q n m from : ℕ) (x y : List ℕ) → q ≡ (2 ^ bits w) ^ 2 → (2 ^ bits w) ^ (2 * n) ≡ 256 ^ 16 →
-    from + n ≤ m → length x ≡ m → Each1 (Fits w) x → Each1 (Fits w) y → (j : ℕ) → j < n →
-    get_or (digits_l q n (number_l 256 (digits_l 256 16 (number_l (2 ^ bits w) (pick_l 0 (x ++ y) (alternately m n from)))))) j 0
-    ≡ get_or x (from + j) 0 + 2 ^ bits w * get_or y (from + j) 0
-joined_lanes w q n m from x y square whole within long fits_x fits_y j h =
+-- if lane s of x and lane s of y are moved next to each other and read as one lane of twice the width, lane s of x is the lower half
+pub paired_lane : (w : Width) (q n m : ℕ) (x y : List ℕ) → q ≡ (2 ^ bits w) ^ 2 → length x ≡ m → Each1 (Fits w) x →
+    Each1 (Fits w) y → (order : List ℕ) (j s : ℕ) → (2 ^ bits w) ^ length order ≡ 256 ^ 16 → j < n
+    → suc (2 * j) < length order →
+    s < m → get_or order (2 * j) 0 ≡ s → get_or order (suc (2 * j)) 0 ≡ m + s →
+    get_or (digits_l q n (number_l 256 (digits_l 256 16 (number_l (2 ^ bits w) (pick_l 0 (x ++ y) order))))) j 0
+    ≡ get_or x s 0 + 2 ^ bits w * get_or y s 0
+paired_lane w q n m x y square long fits_x fits_y order j s whole h within hs first second =
     let p : ℕ = 2 ^ bits w in
-    let order : List ℕ = alternately m n from in
-    let lanes : List ℕ = pick_l 0 (x ++ y) order in
-    let count : length lanes ≡ 2 * n = length-map order (λ k. get_or (x ++ y) k 0) ∙ length-alternately m n from in
-    let small = below-picked p (pow_pos _) (x ++ y)
-    (below-append p (pow_pos _) x y (below_from_Fits w x fits_x) (below_from_Fits w y fits_y)) order in
-    let at = λ (i : ℕ) (hi : i < 2 * n). get_or-map (λ k. get_or (x ++ y) k 0) order i 0 0 (omega (arith, length-alternately m n from)) in
+    let some : 0 < p = pow_pos _ in
+    let lanes : List ℕ = pick_l 0 _ _ in
+    let count : length lanes ≡ length order = length-map _ _ in
+    let small = below-picked p some _ (below-append p some x y (below_from_Fits w x fits_x) (below_from_Fits w y fits_y)) _ in
+    let at = λ (i : ℕ) (hi : i < length order). get_or-map (λ k. get_or (x ++ y) k 0) order i 0 0 hi in
     lane_of_two_lanes p q n lanes square (ap (λ k. p ^ k) count ∙ whole) small j h (omega arith)
-    ∙ ap₂ (λ a b. a + p * b) (at (2 * j) (omega arith) ∙ ap (λ k. get_or (x ++ y) k 0) (alternately-at m n from j h).0)
-    (at (suc (2 * j)) (omega arith) ∙ ap (λ k. get_or (x ++ y) k 0) (alternately-at m n from j h).1)
-    ∙ get_or-append_pair p m x y long (from + j) (omega arith)
+    ∙ ap₂ (λ a b. a + p * b) (at (2 * j) (omega arith) ∙ ap (λ k. get_or (x ++ y) k 0) first)
+    (at (suc (2 * j)) within ∙ ap (λ k. get_or (x ++ y) k 0) second)
+    ∙ get_or-append_pair p m x y long s hs
 
 -- a splat combined with each of two vectors, and both results added
 abbrev sum_of_splats : (f g : ℕ → ℕ → ℕ) (m n : ℕ) → ℕ → List ℕ → List ℕ → List ℕ

@@ -18,18 +18,12 @@ use Rattle.{
   },
   trellis_decode.{
     proofs.HardLanes.IsHardStep,
-    specs.{
-      AcsLanes.{AbsFit16Bits, AreBranchMetrics, AreDecisionLanes, DifferByAtMost4096, HasBranchMetrics, three_bits_reversed},
-      AcsLanes.{interleaved_lanes, lane_decisions, lane_decision, path_metric_of_lane, lane_of_state, in_state_order, lanes_in_state_order},
-      AcsLanes.metrics_of_lanes,
-      Candidates.AreAcsCandidates,
-      Hard.{AreInt8, HaveMagnitudeAtMostOne, HasHardBranchMetrics, HaveHeadroom8, IsHardBit, hard_lane_metrics, lane_after_bit_0},
-      Hard.{lane_after_bit_1, metric_of_hard_lane, sign_bit_of},
-      Lanes.{AreSignedOctets, IsSignedOctet},
-      SurvivorPaths.AreMetricsWithin,
-      Trellis.{IsDecision, branch_metric, candidate_metric, next_trellis_state, first_coded_bit, second_coded_bit},
-      declared.acs_step.Candidates.Candidates,
-    },
+    specs.AcsLanes.{AbsFit16Bits, AreBranchMetrics, AreDecisionLanes, DifferByAtMost4096, HasBranchMetrics, three_bits_reversed},
+    specs.AcsLanes.{interleaved_lanes, lane_decisions, lane_decision, path_metric_of_lane, lane_of_state, in_state_order},
+    specs.{AcsLanes.{lanes_in_state_order, metrics_of_lanes}, Candidates.AreAcsCandidates, Hard.{AreInt8, HasHardBranchMetrics}},
+    specs.Hard.{HaveHeadroom8, IsHardBit, hard_lane_metrics, lane_after_bit_0, lane_after_bit_1, metric_of_hard_lane, sign_bit_of},
+    specs.{Lanes.{AreSignedOctets, IsSignedOctet}, SurvivorPaths.AreMetricsWithin, Trellis.{IsDecision, branch_metric, candidate_metric}},
+    specs.{Trellis.{next_trellis_state, first_coded_bit, second_coded_bit}, declared.acs_step.Candidates.Candidates},
   },
 }
 use lib.Lanes.{Each1}
@@ -116,7 +110,8 @@ metrics_of_pair-are p q hp hq =
     record {
       size = refl;
       count = refl;
-      each_lane = each (λ k. lane (metrics_of_pair p q) k ≡ branch_metric (three_bits_reversed k) 0 (p ∷ q ∷ [])) 8 (omega (arith, ints));
+      each_lane = each (λ k. lane (metrics_of_pair p q) k ≡ branch_metric (three_bits_reversed k) 0 (p ∷ q ∷ [])) 8
+          (omega (arith, ints));
     }
 
 -- ---- lemmas about the branch metrics of four positions
@@ -553,10 +548,14 @@ pub HasHardBranchMetrics-row : (d : List ℤ) (n : ℕ) (p q : ℤ) → IsHardBi
     → n ≡ sign_bit_of p + 2 * sign_bit_of q →
     HasHardBranchMetrics (hard_row n d) (p ∷ q ∷ [])
 unfolding branch_metric
-HasHardBranchMetrics-row d n p q (inl hp) (inl hq) is = rw (is, hp, hq) (record { size = refl; count = refl; at_state = same_below _ _ refl })
-HasHardBranchMetrics-row d n p q (inr hp) (inl hq) is = rw (is, hp, hq) (record { size = refl; count = refl; at_state = same_below _ _ refl })
-HasHardBranchMetrics-row d n p q (inl hp) (inr hq) is = rw (is, hp, hq) (record { size = refl; count = refl; at_state = same_below _ _ refl })
-HasHardBranchMetrics-row d n p q (inr hp) (inr hq) is = rw (is, hp, hq) (record { size = refl; count = refl; at_state = same_below _ _ refl })
+HasHardBranchMetrics-row d n p q (inl hp) (inl hq) is =
+    rw (is, hp, hq) (record { size = refl; count = refl; at_state = same_below _ _ refl })
+HasHardBranchMetrics-row d n p q (inr hp) (inl hq) is =
+    rw (is, hp, hq) (record { size = refl; count = refl; at_state = same_below _ _ refl })
+HasHardBranchMetrics-row d n p q (inl hp) (inr hq) is =
+    rw (is, hp, hq) (record { size = refl; count = refl; at_state = same_below _ _ refl })
+HasHardBranchMetrics-row d n p q (inr hp) (inr hq) is =
+    rw (is, hp, hq) (record { size = refl; count = refl; at_state = same_below _ _ refl })
 
 -- row n of a table of branch metrics, converted to octets and back; there is a table for the first pair of soft bits and one for the second
 abbrev pub row_of : List (List ℤ) → ℕ → List ℤ → List ℤ

@@ -19,16 +19,12 @@ use Rattle.{
     proofs.Viterbi.{AllBits-encoding_from_state, IsSurvivor-none, IsSurvivor-to_end, lex_not_after-refl, IsSurvivor-bit},
     proofs.Viterbi.{IsSurvivor-tail_bit, IsSurvivor-more, IsSurvivor-same, candidate-survivor, traceback-tail_rows, length-traceback},
     proofs.Viterbi.{length-to_binary, likelihood_bound, metric_from_state-cons, traceback-zeros},
-    specs.{
-      AcsLanes.{AreBranchMetrics, HasBranchMetrics, DifferByAtMost4096, HaveHeadroom16, three_bits_reversed, path_metric_of_lane, lane_of_state, metrics_of_lanes},
-      Decisions.HasDecisionsAndMetrics,
-      Hard.{DifferByAtMost, HasHardBranchMetrics, HaveMagnitudeAtMostOne, hard_lane_metrics, metric_of_hard_lane},
-      Lanes.{AreSignedOctets, IsSignedOctet, lane},
-      SurvivorPaths.{AreMetricsWithin, AreSurvivors, HoldLaneNumbersFromIndex, state_after_bits, survivor_traceback},
-      Trellis.{AreDecisions, EqualMetricButLater, HasTailBits, IsDecision, IsSurvivor, LessMetric, branch_metric, candidate_metric},
-      Trellis.{first_coded_bit, metric_from_state, next_trellis_state, second_coded_bit, traceback},
-      Words.to_binary,
-    },
+    specs.AcsLanes.{AreBranchMetrics, HasBranchMetrics, DifferByAtMost4096, HaveHeadroom16, three_bits_reversed, path_metric_of_lane},
+    specs.{AcsLanes.{lane_of_state, metrics_of_lanes}, Decisions.HasDecisionsAndMetrics, Hard.{DifferByAtMost, HasHardBranchMetrics}},
+    specs.{Hard.{HaveMagnitudeAtMostOne, hard_lane_metrics, metric_of_hard_lane}, Lanes.{AreSignedOctets, IsSignedOctet, lane}},
+    specs.SurvivorPaths.{AreMetricsWithin, AreSurvivors, HoldLaneNumbersFromIndex, state_after_bits, survivor_traceback},
+    specs.Trellis.{AreDecisions, EqualMetricButLater, HasTailBits, IsDecision, IsSurvivor, LessMetric, branch_metric, candidate_metric},
+    specs.{Trellis.{first_coded_bit, metric_from_state, next_trellis_state, second_coded_bit, traceback}, Words.to_binary},
   },
 }
 
@@ -101,7 +97,8 @@ AreBranchMetrics-from_HasBranchMetrics lanes pair octets has = record {
   upper_bound = λ k lt. rw (has.each_lane k lt) (branch_metric_bound pair _ 0 has.count octets).1;
 }
 
-pub HaveMagnitudeAtMostOne-from_HasHardBranchMetrics : (lanes pair : List ℤ) → AreSignedOctets pair → HasHardBranchMetrics lanes pair →
+pub HaveMagnitudeAtMostOne-from_HasHardBranchMetrics : (lanes pair : List ℤ) → AreSignedOctets pair →
+    HasHardBranchMetrics lanes pair →
     HaveMagnitudeAtMostOne lanes
 HaveMagnitudeAtMostOne-from_HasHardBranchMetrics lanes pair octets has =
     record { count = has.size; lower_bound = λ k lt. (unit k lt).0; upper_bound = λ k lt. (unit k lt).1 }

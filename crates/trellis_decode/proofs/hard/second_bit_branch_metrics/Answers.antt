@@ -1,9 +1,6 @@
 use Rattle.{
-  std.proofs.Common.{◌∷◌, [], ◌/◌, sym, subst, arith},
-  trellis_decode.{
-    specs.Hard.HasHardBranchMetrics,
-    proofs.AcsSteps.{HasHardBranchMetrics-row, second_row},
-  },
+  std.proofs.Common.{◌∷◌, [], sym, subst},
+  trellis_decode.{specs.Hard.HasHardBranchMetrics, proofs.AcsSteps.{HasHardBranchMetrics-row, second_row}},
 }
 use Rattle.trellis_decode.proofs.hard.second_bit_branch_metrics.Goals as goal
 
