@@ -22,8 +22,8 @@ use Rattle.{
     specs.AcsLanes.{interleaved_lanes, lane_decisions, lane_decision, path_metric_of_lane, lane_of_state, in_state_order},
     specs.{AcsLanes.{lanes_in_state_order, metrics_of_lanes}, Candidates.AreAcsCandidates, Hard.{AreInt8, HasHardBranchMetrics}},
     specs.Hard.{HaveHeadroom8, IsHardBit, hard_lane_metrics, lane_after_bit_0, lane_after_bit_1, metric_of_hard_lane, sign_bit_of},
-    specs.{Lanes.{AreSignedOctets, IsSignedOctet}, SurvivorPaths.AreMetricsWithin, Trellis.{IsDecision, branch_metric, candidate_metric}},
-    specs.{Trellis.{next_trellis_state, first_coded_bit, second_coded_bit}, declared.acs_step.Candidates.Candidates},
+    specs.{SurvivorPaths.AreMetricsWithin, Trellis.{IsDecision, branch_metric, candidate_metric, next_trellis_state, first_coded_bit}},
+    specs.{Trellis.second_coded_bit, declared.acs_step.Candidates.Candidates, SignedOctets.{AreSignedOctets, IsSignedOctet}},
   },
 }
 use lib.Lanes.{Each1}

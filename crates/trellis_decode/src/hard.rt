@@ -17,7 +17,7 @@ ghost use Rattle.trellis_decode.specs.Hard.{lane_after_bit_1};
 ghost use Rattle.trellis_decode.specs.Hard.{sign_bit_of};
 ghost use Rattle.trellis_decode.specs.Hard.{lane_after_bit_0};
 ghost use Rattle.lanes.specs.Lanes.{DifferencesFit, IsLanewise, greater, lane};
-ghost use Rattle.trellis_decode.specs.Lanes.{AreSignedOctets};
+ghost use Rattle.trellis_decode.specs.SignedOctets.{AreSignedOctets};
 ghost use Rattle.trellis_decode.specs.Trellis.{IsSurvivor};
 ghost use Rattle.trellis_decode.specs.AcsLanes.{lane_of_state};
 ghost use Rattle.trellis_decode.specs.SurvivorPaths.{AreMetricsWithin, AreSurvivors, HoldLaneNumbersFromIndex, survivor_traceback};

@@ -2,10 +2,10 @@ use Rattle.{
   std.proofs.Common.{◌≡◌, ℕ, ◌+◌, ◌*◌, ◌<◌, ◌≤◌, ◌∷◌, [], List, ℤ, pos, lit≤, get_or, take, drop},
   std.proofs.Common.arith,
   trellis_decode.{
-    specs.{Lanes.lane, Hard.{HasHardBranchMetrics, IsHardBit, sign_bit_of}},
+    specs.Hard.{HasHardBranchMetrics, IsHardBit, sign_bit_of},
     proofs.{AcsSteps.{AreSignedOctets-pair, hard_octets, pair_lanes}, SurvivorLists.HaveMagnitudeAtMostOne-from_HasHardBranchMetrics},
   },
-  lanes.proofs.Lanes.each,
+  lanes.{proofs.Lanes.each, specs.Lanes.lane},
 }
 use Rattle.trellis_decode.proofs.hard.hard_branch_metrics.Goals as goal
 
