@@ -10,7 +10,7 @@ use Rattle.{
     },
     specs.Int.{cast_signed, cast_unsigned},
   },
-  lanes.specs.Lanes.{AreBetween, AreSigned, DifferencesFit, lane, lane_of_two},
+  lanes.specs.Lanes.{AreBetween, AreSigned, DifferencesFit, IsLanewise, greater, lane, lane_of_two},
 }
 use mir.{Syntax.Width, Val.{hbits, bits as width}}
 use lib.Lanes.{zip2, sel_l, pick_l, mask_l, top}
@@ -91,21 +91,23 @@ AreSigned-between w l h between = record {
 abbrev pub bits_of : Width → List ℤ → List ℕ
 bits_of w = map (cast_unsigned w)
 
--- c has n lanes of the given width; each is h of the lanes of a and b at the same index
-abbrev pub Lanewise : Width → ℕ → (ℤ → ℤ → ℤ) → List ℤ → List ℤ → List ℤ → Type 0
-Lanewise w n h a b c = ((k : ℕ) → k < n → lane c k ≡ h (lane a k) (lane b k)) × AreSigned w n c
-
-pub Lanewise-by_lane : (w : Width) (n : ℕ) (F : ℕ → List ℤ → List ℤ → List ℤ) (g h : ℤ → ℤ → ℤ) →
+pub IsLanewise-by_lane : (w : Width) (n : ℕ) (F : ℕ → List ℤ → List ℤ → List ℤ) (g h : ℤ → ℤ → ℤ) →
     F 0 [] [] ≡ [] →
     ((n : ℕ) (x y : ℤ) (xs ys : List ℤ) → F (suc n) (x ∷ xs) (y ∷ ys) ≡ g x y ∷ F n xs ys) →
     ((x y : ℤ) → FitsSigned w x → FitsSigned w y → FitsSigned w (h x y) → g x y ≡ h x y) → (a b : List ℤ) →
     AreSigned w n a → AreSigned w n b → ((k : ℕ) → k < n → FitsSigned w (h (lane a k) (lane b k))) →
-    Lanewise w n h a b (F n a b)
-Lanewise-by_lane w n F g h none more is a b sa sb fit =
+    IsLanewise w n h a b (F n a b)
+IsLanewise-by_lane w n F g h none more is a b sa sb fit =
     let each : (k : ℕ) → k < n → lane (F n a b) k ≡ h (lane a k) (lane b k) =
     λ k lt. lanewise-at F g none more n a b sa.count sb.count k lt (pos 0) (pos 0) (pos 0)
     ∙ is _ _ (sa.fits k lt) (sb.fits k lt) (fit k lt) in
-    (each, record { count = length-lanewise F g none more n a b sa.count sb.count; fits = λ k lt. rw (each k lt) (fit k lt) })
+    record {
+      each = each;
+      lanes = record {
+        count = length-lanewise F g none more n a b sa.count sb.count;
+        fits = λ k lt. rw (each k lt) (fit k lt);
+      };
+    }
 
 pub wrapped_sum : (w : Width) (x y : ℤ) → FitsSigned w x → FitsSigned w y → FitsSigned w (x +ℤ y) →
     cast_signed w ((cast_unsigned w x + cast_unsigned w y) % 2 ^ width w) ≡ x +ℤ y
@@ -117,15 +119,15 @@ wrapped_difference w x y hx hy h = wrapping_sub_is w x y hx hy ∙ int_wrap_fits
 
 module _ (w : Width) (n : ℕ) (a b : List ℤ) (sa : AreSigned w n a) (sb : AreSigned w n b) where
   pub sums : ((k : ℕ) → k < n → FitsSigned w (lane a k +ℤ lane b k)) →
-      Lanewise w n ◌+ℤ◌ a b (map (cast_signed w) (zip2 (λ x y. (x + y) % 2 ^ width w) (bits_of w a) (bits_of w b)))
-  sums = Lanewise-by_lane w n (λ _ a b. map (cast_signed w) (zip2 (λ x y. (x + y) % 2 ^ width w) (bits_of w a)
+      IsLanewise w n ◌+ℤ◌ a b (map (cast_signed w) (zip2 (λ x y. (x + y) % 2 ^ width w) (bits_of w a) (bits_of w b)))
+  sums = IsLanewise-by_lane w n (λ _ a b. map (cast_signed w) (zip2 (λ x y. (x + y) % 2 ^ width w) (bits_of w a)
       (bits_of w b))) _ ◌+ℤ◌
       refl (λ n x y xs ys. refl) (wrapped_sum w) a b sa sb
 
   pub differences : DifferencesFit w n a b →
-      Lanewise w n ◌-ℤ◌ a b (map (cast_signed w) (zip2 (λ x y. (x + (2 ^ width w - y)) % 2 ^ width w) (bits_of w a) (bits_of w b)))
+      IsLanewise w n ◌-ℤ◌ a b (map (cast_signed w) (zip2 (λ x y. (x + (2 ^ width w - y)) % 2 ^ width w) (bits_of w a) (bits_of w b)))
   differences =
-      Lanewise-by_lane w n
+      IsLanewise-by_lane w n
       (λ _ a b. map (cast_signed w) (zip2 (λ x y. (x + (2 ^ width w - y)) % 2 ^ width w) (bits_of w a) (bits_of w b))) _ ◌-ℤ◌
       refl (λ n x y xs ys. refl) (wrapped_difference w) a b sa sb
 
@@ -155,11 +157,11 @@ module _ (w : Width) (x y : ℤ) (hx : FitsSigned w x) (hy : FitsSigned w y) whe
       ∙ if_map (cast_signed w) (int_lt x y) (to_z-of_z w y hy) (to_z-of_z w x hx)
 
 module _ (w : Width) (n : ℕ) (a b : List ℤ) (sa : AreSigned w n a) (sb : AreSigned w n b) where
-  pub maxima : Lanewise w n (λ x y. if int_lt x y then y else x) a b
+  pub maxima : IsLanewise w n greater a b
       (map (cast_signed w) (sel_l (less_lanes w n a b) (bits_of w b) (bits_of w a)))
   maxima =
-      Lanewise-by_lane w n (λ n a b. map (cast_signed w) (sel_l (less_lanes w n a b) (bits_of w b) (bits_of w a))) _
-      (λ x y. if int_lt x y then y else x) refl (λ n x y xs ys. refl) (larger w) a b sa sb
+      IsLanewise-by_lane w n (λ n a b. map (cast_signed w) (sel_l (less_lanes w n a b) (bits_of w b) (bits_of w a))) _
+      greater refl (λ n x y xs ys. refl) (larger w) a b sa sb
       (λ k lt. if_either (FitsSigned w) _ (sb.fits k lt) (sa.fits k lt))
 
   pub length-less_lanes : length (less_lanes w n a b) ≡ n

@@ -12,21 +12,18 @@ use Rattle.{
     specs.{Int.{cast_signed, cast_unsigned}, List.All},
   },
   lanes.{
-    specs.Lanes.{AreSigned, DifferencesFit, lane, lane_of_two},
+    specs.Lanes.{AreSigned, DifferencesFit, lane, lane_of_two, greater},
     proofs.Lanes.{AreSigned-between, between_of_two, by_two, each, if_map, lane_of_two-first, lane_of_two-second, lanewise_of_two},
     proofs.Lanes.{same_below, shuffled, taken, wrapped_difference, wrapped_sum},
   },
-  trellis_decode.specs.{
-    AcsLanes.{AbsFit16Bits, AreBranchMetrics, AreDecisionLanes, DifferByAtMost4096, HasBranchMetrics, three_bits_reversed},
-    AcsLanes.{interleaved_lanes, lane_decisions, lane_decision, path_metric_of_lane, lane_of_state, in_state_order, lanes_in_state_order},
-    AcsLanes.metrics_of_lanes,
-    Candidates.AreAcsCandidates,
-    Hard.{AreInt8, HaveMagnitudeAtMostOne, HasHardBranchMetrics, HaveHeadroom8, IsHardBit, hard_lane_metrics, lane_after_bit_0},
-    Hard.{lane_after_bit_1, metric_of_hard_lane, sign_bit_of},
-    Lanes.{AreSignedOctets, IsSignedOctet},
-    SurvivorPaths.AreMetricsWithin,
-    Trellis.{IsDecision, branch_metric, candidate_metric, next_trellis_state, first_coded_bit, second_coded_bit},
-    declared.acs_step.Candidates.Candidates,
+  trellis_decode.{
+    proofs.HardLanes.IsHardStep,
+    specs.AcsLanes.{AbsFit16Bits, AreBranchMetrics, AreDecisionLanes, DifferByAtMost4096, HasBranchMetrics, three_bits_reversed},
+    specs.AcsLanes.{interleaved_lanes, lane_decisions, lane_decision, path_metric_of_lane, lane_of_state, in_state_order},
+    specs.{AcsLanes.{lanes_in_state_order, metrics_of_lanes}, Candidates.AreAcsCandidates, Hard.{AreInt8, HasHardBranchMetrics}},
+    specs.Hard.{HaveHeadroom8, IsHardBit, hard_lane_metrics, lane_after_bit_0, lane_after_bit_1, metric_of_hard_lane, sign_bit_of},
+    specs.{SurvivorPaths.AreMetricsWithin, Trellis.{IsDecision, branch_metric, candidate_metric, next_trellis_state, first_coded_bit}},
+    specs.{Trellis.second_coded_bit, declared.acs_step.Candidates.Candidates, SignedOctets.{AreSignedOctets, IsSignedOctet}},
   },
 }
 use lib.Lanes.{Each1}
@@ -103,25 +100,19 @@ negated-cast_signed x small low =
 abbrev metrics_of_pair : ℤ → ℤ → List ℤ
 metrics_of_pair p q = metrics_of_bits (cast_unsigned w16 p) (cast_unsigned w16 q)
 
-metrics_of_pair-are : (p q : ℤ) → IsSignedOctet p → IsSignedOctet q →
-    HasBranchMetrics (metrics_of_pair p q) (p ∷ q ∷ []) × AreBranchMetrics (metrics_of_pair p q)
+metrics_of_pair-are : (p q : ℤ) → IsSignedOctet p → IsSignedOctet q → HasBranchMetrics (metrics_of_pair p q) (p ∷ q ∷ [])
 unfolding branch_metric
 metrics_of_pair-are p q hp hq =
     let a = wrapped_sum w16 p q (omega (arith, ints)) (omega (arith, ints)) (omega (arith, ints)) in
     let b = wrapped_difference w16 p q (omega (arith, ints)) (omega (arith, ints)) (omega (arith, ints)) in
     let c = negated-cast_signed ((cast_unsigned w16 p + cast_unsigned w16 q) % 65536) (omega arith) (omega (arith, ints)) in
-    let d = negated-cast_signed ((cast_unsigned w16 p + (65536 - cast_unsigned w16 q)) % 65536) (omega arith) (omega (arith, ints)) in (
-      record {
-        count = refl;
-        each_lane = each (λ k. lane (metrics_of_pair p q) k ≡ branch_metric (three_bits_reversed k) 0 (p ∷ q ∷ [])) 8
-            (omega (arith, ints));
-      },
-      record {
-        count = refl;
-        lower_bound = each (λ k. negsuc 255 ≤ℤ lane (metrics_of_pair p q) k) 8 (omega (arith, ints));
-        upper_bound = each (λ k. lane (metrics_of_pair p q) k ≤ℤ pos 256) 8 (omega (arith, ints));
-      },
-    )
+    let d = negated-cast_signed ((cast_unsigned w16 p + (65536 - cast_unsigned w16 q)) % 65536) (omega arith) (omega (arith, ints)) in
+    record {
+      size = refl;
+      count = refl;
+      each_lane = each (λ k. lane (metrics_of_pair p q) k ≡ branch_metric (three_bits_reversed k) 0 (p ∷ q ∷ [])) 8
+          (omega (arith, ints));
+    }
 
 -- ---- lemmas about the branch metrics of four positions
 
@@ -132,12 +123,11 @@ branch_metrics_at soft i =
     metrics_of_bits (bits i) (bits (i + 1))
 
 pub four_pairs : (soft : List ℤ) → AreSignedOctets soft → length soft ≡ 8 → (k : ℕ) → k < 4 →
-    HasBranchMetrics (branch_metrics_at soft (2 * k)) (take 2 (drop (2 * k) soft)) × AreBranchMetrics (branch_metrics_at soft (2 * k))
+    HasBranchMetrics (branch_metrics_at soft (2 * k)) (take 2 (drop (2 * k) soft))
 four_pairs (p ∷ q ∷ r ∷ s ∷ t ∷ u ∷ v ∷ w ∷ []) octets count =
     let soft : List ℤ = p ∷ q ∷ r ∷ s ∷ t ∷ u ∷ v ∷ w ∷ [] in
     let octet = λ (k : ℕ) (lt : k < 8). octets k (pos 0) lt in
-    each (λ k. HasBranchMetrics (branch_metrics_at soft (2 * k)) (take 2 (drop (2 * k) soft))
-    × AreBranchMetrics (branch_metrics_at soft (2 * k))) 4 (
+    each (λ k. HasBranchMetrics (branch_metrics_at soft (2 * k)) (take 2 (drop (2 * k) soft))) 4 (
       (
         (
           (tt, metrics_of_pair-are p q (octet 0 (lit≤ tt)) (octet 1 (lit≤ tt))),
@@ -185,7 +175,7 @@ module _ (metric : ℤ → ℤ) (same_order : (x y : ℤ) →
     int_lt (metric x) (metric y) ≡ int_lt x y) (after pair : List ℤ) (zeros ones values : ℕ → ℤ)
     (zero_is : (s : ℕ) → s < 16 → metric (zeros (lane_of_state s)) ≡ candidate_metric after pair s 0)
     (one_is : (s : ℕ) → s < 16 → metric (ones (lane_of_state s)) ≡ candidate_metric after pair s 1)
-    (best : (k : ℕ) → k < 16 → values k ≡ (if int_lt (zeros k) (ones k) then ones k else zeros k)) where
+    (best : (k : ℕ) → k < 16 → values k ≡ greater (zeros k) (ones k)) where
   pub IsDecision-lanes : (s : ℕ) → s < 16 → IsDecision after pair s (metric (values (lane_of_state s)))
       (if int_lt (zeros (lane_of_state s)) (ones (lane_of_state s)) then 1 else 0)
   IsDecision-lanes s lt = rw (best _ (lane_of_state-inside s lt)) (by _ (same_order (zeros (lane_of_state s)) (ones (lane_of_state s))))
@@ -293,15 +283,15 @@ module _ (even odd branch_metrics pair : List ℤ) (has : HasBranchMetrics branc
 
   pub zeros-are : (s : ℕ) → s < 16 →
       path_metric_of_lane (zeros (lane_of_state s)) ≡ candidate_metric (metrics_of_lanes even odd) pair s 0
-  zeros-are = candidates_of_bit_0 even odd branch_metrics pair has _ _ are.low_states_bit_0_sums are.high_states_bit_0_differences
+  zeros-are = candidates_of_bit_0 even odd branch_metrics pair has _ _ are.low_states_bit_0.each are.high_states_bit_0.each
 
   pub ones-are : (s : ℕ) → s < 16 →
       path_metric_of_lane (ones (lane_of_state s)) ≡ candidate_metric (metrics_of_lanes even odd) pair s 1
-  ones-are = candidates_of_bit_1 even odd branch_metrics pair has _ _ are.low_states_bit_1_differences are.high_states_bit_1_sums
+  ones-are = candidates_of_bit_1 even odd branch_metrics pair has _ _ are.low_states_bit_1.each are.high_states_bit_1.each
 
   -- `low` and `high` are the greater candidates, and `low_decisions` and `high_decisions` tell which they are
   pub IsDecision-candidates : (low high low_decisions high_decisions : List ℤ) →
-      ((k : ℕ) → k < 16 → lane_of_two 8 low high k ≡ (if int_lt (zeros k) (ones k) then ones k else zeros k)) →
+      ((k : ℕ) → k < 16 → lane_of_two 8 low high k ≡ greater (zeros k) (ones k)) →
       ((k : ℕ) → k < 16 → lane_of_two 8 low_decisions high_decisions k
       ≡ (if int_lt (zeros k) (ones k) then negsuc 0 else pos 0)) →
       (s : ℕ) → s < 16 → IsDecision (metrics_of_lanes even odd) pair s
@@ -352,8 +342,8 @@ module _ (even odd branch_metrics : List ℤ) (candidates : Candidates) (is : Ar
   low_fits k lt = omega (
     arith,
     ints,
-    is.low_states_bit_0_sums k lt,
-    is.low_states_bit_1_differences k lt,
+    is.low_states_bit_0.each k lt,
+    is.low_states_bit_1.each k lt,
     close.lower_bound k,
     close.upper_bound k,
     bounded.lower_bound k,
@@ -364,8 +354,8 @@ module _ (even odd branch_metrics : List ℤ) (candidates : Candidates) (is : Ar
   high_fits k lt = omega (
     arith,
     ints,
-    is.high_states_bit_0_differences k lt,
-    is.high_states_bit_1_sums k lt,
+    is.high_states_bit_0.each k lt,
+    is.high_states_bit_1.each k lt,
     close.lower_bound k,
     close.upper_bound k,
     bounded.lower_bound k,
@@ -496,16 +486,12 @@ module _ (after branch_metrics pair : List ℤ) (has : HasHardBranchMetrics bran
             has.count s,
       )
 
-  pub IsDecision-hard : (zeros ones values : List ℤ) →
-      ((k : ℕ) → k < 16 → lane zeros k ≡ lane after (lane_after_bit_0 k) +ℤ lane branch_metrics k) →
-      ((k : ℕ) → k < 16 → lane ones k ≡ lane after (lane_after_bit_1 k) -ℤ lane branch_metrics k) →
-      ((k : ℕ) → k < 16 → lane values k ≡ (if int_lt (lane zeros k) (lane ones k) then lane ones k else lane zeros k)) →
-      (s : ℕ) → s < 16 → IsDecision (hard_lane_metrics after) pair s (lane (hard_lane_metrics values) s)
+  pub IsDecision-hard : (zeros ones values : List ℤ) → IsHardStep after branch_metrics zeros ones values → (s : ℕ) → s < 16 →
+      IsDecision (hard_lane_metrics after) pair s (lane (hard_lane_metrics values) s)
       (if int_lt (lane zeros (lane_of_state s)) (lane ones (lane_of_state s)) then 1 else 0)
-  IsDecision-hard zeros ones values zeros-candidates ones-candidates better s lt =
+  IsDecision-hard zeros ones values step s lt =
       rw (hard_metric-at values s lt) (IsDecision-lanes metric_of_hard_lane metric_of_hard_lane-order (hard_lane_metrics after) pair
-      (lane zeros) (lane ones) (lane values) (bit_0_candidate-metric zeros zeros-candidates)
-      (one_candidate ones ones-candidates) better s lt)
+      (lane zeros) (lane ones) (lane values) (bit_0_candidate-metric zeros step.zero) (one_candidate ones step.one) step.best s lt)
 
 pub next_lane-state : (s : ℕ) → s < 16 → (t : Bool) →
     (if t then lane_after_bit_1 (lane_of_state s) else lane_after_bit_0 (lane_of_state s))
@@ -562,10 +548,14 @@ pub HasHardBranchMetrics-row : (d : List ℤ) (n : ℕ) (p q : ℤ) → IsHardBi
     → n ≡ sign_bit_of p + 2 * sign_bit_of q →
     HasHardBranchMetrics (hard_row n d) (p ∷ q ∷ [])
 unfolding branch_metric
-HasHardBranchMetrics-row d n p q (inl hp) (inl hq) is = rw (is, hp, hq) (record { count = refl; at_state = same_below _ _ refl })
-HasHardBranchMetrics-row d n p q (inr hp) (inl hq) is = rw (is, hp, hq) (record { count = refl; at_state = same_below _ _ refl })
-HasHardBranchMetrics-row d n p q (inl hp) (inr hq) is = rw (is, hp, hq) (record { count = refl; at_state = same_below _ _ refl })
-HasHardBranchMetrics-row d n p q (inr hp) (inr hq) is = rw (is, hp, hq) (record { count = refl; at_state = same_below _ _ refl })
+HasHardBranchMetrics-row d n p q (inl hp) (inl hq) is =
+    rw (is, hp, hq) (record { size = refl; count = refl; at_state = same_below _ _ refl })
+HasHardBranchMetrics-row d n p q (inr hp) (inl hq) is =
+    rw (is, hp, hq) (record { size = refl; count = refl; at_state = same_below _ _ refl })
+HasHardBranchMetrics-row d n p q (inl hp) (inr hq) is =
+    rw (is, hp, hq) (record { size = refl; count = refl; at_state = same_below _ _ refl })
+HasHardBranchMetrics-row d n p q (inr hp) (inr hq) is =
+    rw (is, hp, hq) (record { size = refl; count = refl; at_state = same_below _ _ refl })
 
 -- row n of a table of branch metrics, converted to octets and back; there is a table for the first pair of soft bits and one for the second
 abbrev pub row_of : List (List ℤ) → ℕ → List ℤ → List ℤ
@@ -584,37 +574,3 @@ first_row d = same_below (λ n. row_of first_table n d) (λ n. hard_row (n % 4) 
 
 pub second_row : (d : List ℤ) (n : ℕ) → n < 16 → row_of second_table n d ≡ hard_row (n / 4) d
 second_row d = same_below (λ n. row_of second_table n d) (λ n. hard_row (n / 4) d) refl
-
--- whether a number is -1, 0 or 1, as every branch metric in the table is
-abbrev is_unit : ℤ → Bool
-is_unit (pos zero) = true
-is_unit (pos (suc zero)) = true
-is_unit (pos (suc (suc n))) = false
-is_unit (negsuc zero) = true
-is_unit (negsuc (suc n)) = false
-
-unit_bounds : (z : ℤ) → is_unit z ≡ true → (negsuc 0 ≤ℤ z) × (z ≤ℤ pos 1)
-unit_bounds (pos zero) e = (omega (arith, ints), omega (arith, ints))
-unit_bounds (pos (suc zero)) e = (omega (arith, ints), omega (arith, ints))
-unit_bounds (pos (suc (suc n))) e = absurd cc
-unit_bounds (negsuc zero) e = (omega (arith, ints), omega (arith, ints))
-unit_bounds (negsuc (suc n)) e = absurd cc
-
-pub hard_row-units : (d : List ℤ) (n : ℕ) → n < 4 → HaveMagnitudeAtMostOne (hard_row n d)
-hard_row-units d n lt =
-    let unit : (k : ℕ) → k < 16 → is_unit (lane (hard_row n d) k) ≡ true =
-    each (λ n. (k : ℕ) → k < 16 → is_unit (lane (hard_row n d) k) ≡ true) 4 (
-      (
-        (
-          (tt, same_below (λ k. is_unit (lane (hard_row 0 d) k)) (λ k. true) refl),
-          same_below (λ k. is_unit (lane (hard_row 1 d) k)) (λ k. true) refl,
-        ),
-        same_below (λ k. is_unit (lane (hard_row 2 d) k)) (λ k. true) refl,
-      ),
-      same_below (λ k. is_unit (lane (hard_row 3 d) k)) (λ k. true) refl,
-    ) n lt in
-    record {
-      count = each (λ n. length (hard_row n d) ≡ 16) 4 ((((tt, refl), refl), refl), refl) n lt;
-      lower_bound = λ k lt. (unit_bounds _ (unit k lt)).0;
-      upper_bound = λ k lt. (unit_bounds _ (unit k lt)).1;
-    }

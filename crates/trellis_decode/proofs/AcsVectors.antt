@@ -3,7 +3,7 @@ use Rattle.{
   std.proofs.Common.{◌≡◌, ℕ, ◌+◌, ◌-◌, ◌%◌, ◌<◌, Bool, true, false, if◌then◌else◌, ℤ, pos, negsuc},
   std.proofs.{Common.{◌-ℤ◌, ◌≤ℤ◌, List, map, replicate, refl, ap₂, arith, int_lt, w8, w16, FitsSigned}, lemmas.Int.ints},
   std.{proofs.lemmas.Int.to_z-of_z, specs.Int.{cast_signed, cast_unsigned}},
-  lanes.{specs.Lanes.{AreSigned, lane}, proofs.Lanes.{AreSigned-between, Lanewise, Lanewise-by_lane, compared, if_either, if_map}},
+  lanes.{specs.Lanes.{AreSigned, IsLanewise, lane}, proofs.Lanes.{AreSigned-between, IsLanewise-by_lane, compared, if_either, if_map}},
   lanes.proofs.Lanes.{lanewise-at, length-lanewise, top-compared, bits_of, wrapped_difference},
   trellis_decode.specs.AcsLanes.{AreDecisionLanes, AbsFit16Bits, AreInt16},
 }
@@ -72,18 +72,18 @@ absolute_lane-value x y fits _ fit =
     )
 
 pub absolute_values : (a : List ℤ) → AbsFit16Bits a →
-    Lanewise w16 16 (λ x y. if int_lt x (pos 0 -ℤ x) then pos 0 -ℤ x else x) a a (absolute_lanes 16 a a)
+    IsLanewise w16 16 (λ x y. if int_lt x (pos 0 -ℤ x) then pos 0 -ℤ x else x) a a (absolute_lanes 16 a a)
 absolute_values a h =
     let signed = AbsFit16Bits-signed a h in
-    Lanewise-by_lane w16 16 absolute_lanes _ (λ x y. if int_lt x (pos 0 -ℤ x) then pos 0 -ℤ x else x) refl (λ n x y xs ys. refl)
+    IsLanewise-by_lane w16 16 absolute_lanes _ (λ x y. if int_lt x (pos 0 -ℤ x) then pos 0 -ℤ x else x) refl (λ n x y xs ys. refl)
     absolute_lane-value a a signed signed (λ s lt. let low = h.lower_bound s lt in let fit = signed.fits s lt in
     if_either (FitsSigned w16) (int_lt (lane a s) _) {x = pos 0 -ℤ lane a s} (omega (arith, ints)) fit)
 
 pub AbsFit16Bits-absolute_values : (a : List ℤ) → AbsFit16Bits a → AbsFit16Bits (absolute_lanes 16 a a)
 AbsFit16Bits-absolute_values a h =
     let is = absolute_values a h in record {
-      count = is.1.count;
-      lower_bound = λ s lt. rw (is.0 s lt) (let high = h.upper_bound s lt in
+      count = is.lanes.count;
+      lower_bound = λ s lt. rw (is.each s lt) (let high = h.upper_bound s lt in
           if_either (λ x. negsuc 32766 ≤ℤ x) (int_lt (lane a s) (pos 0 -ℤ lane a s)) (omega (arith, ints)) (h.lower_bound s lt));
-      upper_bound = λ s lt. omega (arith, ints, is.1.fits s lt);
+      upper_bound = λ s lt. omega (arith, ints, is.lanes.fits s lt);
     }

@@ -10,7 +10,7 @@ use Rattle.{
     specs.Int.cast_signed,
   },
   lanes.{
-    specs.Lanes.{DifferencesFit, lane, lane_of_two},
+    specs.Lanes.{DifferencesFit, lane, lane_of_two, greater},
     proofs.Lanes.{bits_of, differences, if_either, if_map, length-less_lanes, less_lanes, less_lanes-at, same_below, shuffled_bits, sums},
   },
   trellis_decode.specs.Hard.{AreInt8, DifferByAtMost, HaveMagnitudeAtMostOne, HaveHeadroom8, lane_after_bit_1, lane_after_bit_0},
@@ -61,7 +61,7 @@ module _ (a branch_metrics : List ℤ) (ha : HaveHeadroom8 a) (he : HaveMagnitud
         he.lower_bound k,
         he.upper_bound k,
       ))) in
-      (λ k lt. is.0 k lt ∙ ap (λ x. x +ℤ lane branch_metrics k) (moved_0 k lt), is.1))
+      (λ k lt. is.each k lt ∙ ap (λ x. x +ℤ lane branch_metrics k) (moved_0 k lt), is.lanes))
 
   pub candidates_of_bit_1 : let is = map (cast_signed w8) (zip2 (λ x y. (x + (256 - y)) % 256)
       (pick_l 0 (bits_of w8 a ++ bits_of w8 a) lanes_after_bit_1) (bits_of w8 branch_metrics)) in
@@ -78,18 +78,18 @@ module _ (a branch_metrics : List ℤ) (ha : HaveHeadroom8 a) (he : HaveMagnitud
         he.lower_bound k,
         he.upper_bound k,
       ))) in
-      (λ k lt. is.0 k lt ∙ ap (λ x. x -ℤ lane branch_metrics k) (moved_1 k lt), is.1))
+      (λ k lt. is.each k lt ∙ ap (λ x. x -ℤ lane branch_metrics k) (moved_1 k lt), is.lanes))
 
 -- ---- lemmas about what the candidate metric z of bit 0 lacks to the greater one, v, of z and that of bit 1, o
 
-loss_fits : (z o v : ℤ) → v ≡ (if int_lt z o then o else z) → o ≤ℤ (z +ℤ pos 102) → FitsSigned w8 (z -ℤ v)
+loss_fits : (z o v : ℤ) → v ≡ greater z o → o ≤ℤ (z +ℤ pos 102) → FitsSigned w8 (z -ℤ v)
 loss_fits z o v is near = rw is (by _ refl)
   where
     by : (t : Bool) → int_lt z o ≡ t → FitsSigned w8 (z -ℤ (if t then o else z))
     by true e = omega (arith, ints)
     by false e = omega (arith, ints)
 
-loss_sign : (z o v l : ℤ) → v ≡ (if int_lt z o then o else z) → l ≡ z -ℤ v → int_lt l (pos 0) ≡ int_lt z o
+loss_sign : (z o v l : ℤ) → v ≡ greater z o → l ≡ z -ℤ v → int_lt l (pos 0) ≡ int_lt z o
 loss_sign z o v l is less = rw (less, is) (by _ refl)
   where
     same : (t u : Bool) → int_lt z o ≡ t → int_lt (z -ℤ o) (pos 0) ≡ u → u ≡ t
@@ -102,17 +102,21 @@ loss_sign z o v l is less = rw (less, is) (by _ refl)
     by true e = same _ _ refl refl
     by false e = let none : z -ℤ z ≡ pos 0 = omega (arith, ints) in ap (λ x. int_lt x (pos 0)) none ∙ sym e
 
+-- a step: the candidate metrics of bit 0 and of bit 1 in each lane, and the greater of both
+pub record IsHardStep (after branch_metrics zeros ones values : List ℤ) : Type 0 where
+  pub zero : (k : ℕ) → k < 16 → lane zeros k ≡ lane after (lane_after_bit_0 k) +ℤ lane branch_metrics k
+  pub one : (k : ℕ) → k < 16 → lane ones k ≡ lane after (lane_after_bit_1 k) -ℤ lane branch_metrics k
+  pub best : (k : ℕ) → k < 16 → lane values k ≡ greater (lane zeros k) (lane ones k)
+
 module _ (a branch_metrics zeros ones values : List ℤ) (he : HaveMagnitudeAtMostOne branch_metrics)
-    (zero_is : (k : ℕ) → k < 16 → lane zeros k ≡ lane a (lane_after_bit_0 k) +ℤ lane branch_metrics k)
-    (one_is : (k : ℕ) → k < 16 → lane ones k ≡ lane a (lane_after_bit_1 k) -ℤ lane branch_metrics k)
-    (best : (k : ℕ) → k < 16 → lane values k ≡ (if int_lt (lane zeros k) (lane ones k) then lane ones k else lane zeros k)) where
+    (step : IsHardStep a branch_metrics zeros ones values) where
   pub loss-fits : DifferByAtMost 100 a → DifferencesFit w8 16 zeros values
   loss-fits near k lt =
-      loss_fits _ _ _ (best k lt) (omega (
+      loss_fits _ _ _ (step.best k lt) (omega (
         arith,
         ints,
-        zero_is k lt,
-        one_is k lt,
+        step.zero k lt,
+        step.one k lt,
         he.lower_bound k lt,
         he.upper_bound k lt,
         near (lane_after_bit_1 k) (lane_after_bit_0 k) (omega arith) (omega arith),
@@ -123,7 +127,7 @@ module _ (a branch_metrics zeros ones values : List ℤ) (he : HaveMagnitudeAtMo
       int_lt (lane losses k) (lane (replicate 16 (pos 0)) k) ≡ int_lt (lane zeros k) (lane ones k)
   loss-sign losses are k lt =
       ap (int_lt (lane losses k)) (same_below (lane (replicate 16 (pos 0))) (λ _. pos 0) refl k lt)
-      ∙ loss_sign _ _ _ _ (best k lt) (are k lt)
+      ∙ loss_sign _ _ _ _ (step.best k lt) (are k lt)
 
   pub DifferByAtMost-more : (most : ℕ) → DifferByAtMost most a → DifferByAtMost (most + 2) values
   DifferByAtMost-more most near j k lj lk =
@@ -135,19 +139,19 @@ module _ (a branch_metrics zeros ones values : List ℤ) (he : HaveMagnitudeAtMo
       )
     where
       least : (k : ℕ) → k < 16 → (lane a (lane_after_bit_0 k) -ℤ pos 1) ≤ℤ lane values k
-      least k lt = rw (best k lt) (by _ refl)
+      least k lt = rw (step.best k lt) (by _ refl)
         where
           by : (t : Bool) → int_lt (lane zeros k) (lane ones k) ≡ t →
               (lane a (lane_after_bit_0 k) -ℤ pos 1) ≤ℤ (if t then lane ones k else lane zeros k)
-          by true e = omega (arith, ints, zero_is k lt, he.lower_bound k lt)
-          by false e = omega (arith, ints, zero_is k lt, he.lower_bound k lt)
+          by true e = omega (arith, ints, step.zero k lt, he.lower_bound k lt)
+          by false e = omega (arith, ints, step.zero k lt, he.lower_bound k lt)
 
       greatest : (x : ℤ) (j : ℕ) → j < 16 → ((i : ℕ) → i < 16 → lane a i ≤ℤ (x +ℤ pos most)) →
           lane values j ≤ℤ (x +ℤ pos (most + 1))
       greatest x j lt all =
-          rw (best j lt) (if_either (λ v. v ≤ℤ (x +ℤ pos (most + 1))) (int_lt (lane zeros j) (lane ones j))
-          (omega (arith, ints, one_is j lt, he.lower_bound j lt, all (lane_after_bit_1 j) (omega arith)))
-          (omega (arith, ints, zero_is j lt, he.upper_bound j lt, all (lane_after_bit_0 j) (omega arith))))
+          rw (step.best j lt) (if_either (λ v. v ≤ℤ (x +ℤ pos (most + 1))) (int_lt (lane zeros j) (lane ones j))
+          (omega (arith, ints, step.one j lt, he.lower_bound j lt, all (lane_after_bit_1 j) (omega arith)))
+          (omega (arith, ints, step.zero j lt, he.upper_bound j lt, all (lane_after_bit_0 j) (omega arith))))
 
 -- ---- lemmas about the survivor map of the greater candidate metrics
 

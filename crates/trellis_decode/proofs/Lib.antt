@@ -3,5 +3,6 @@ mod AcsSteps
 mod Viterbi
 mod HardLanes
 mod SurvivorLists
+mod FilledMaps
 pub mod Lemmas
 mod AcsVectors

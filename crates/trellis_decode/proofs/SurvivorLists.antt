@@ -2,32 +2,32 @@
 use Rattle.{
   std.{
     proofs.{
-      lemmas.{Bool.cases_lt, Grind.get_or-set_at, List.{get_or-replicate, get_or-set_other, length-set, Elements.{All-append, All-cons}}},
-      lemmas.List.{Elements.{All-drop, All-nil, All-tail, All-take}, drop-drop, drop-set, length-append, length-drop, length-replicate},
-      lemmas.{List.{drop_all, length-take, take-append-drop}, Int.ints},
-      Common.{List, [], append_assoc, ap, ap₂, arith, drop, get_or, inl, inr, length, lit≤, negsuc, pos, refl, replicate, subst, suc},
-      Common.{sym, take, zero, ℕ, ℤ, ◌%◌, ◌*◌, ◌++◌, ◌+ℤ◌, ◌+◌, ◌-ℤ◌, ◌-◌, ◌/◌, ◌<◌, ◌^◌},
-      Common.{◌∙◌, ◌∷◌, ◌≡◌, ◌≤ℤ◌, ◌≤◌},
+      lemmas.List.{Elements.{All-append, All-cons, All-drop, All-nil, All-tail, All-take}, drop-drop, drop-set, length-append, length-drop},
+      lemmas.{List.{length-replicate, length-take, take-append-drop}, Int.ints},
+      Common.{List, [], append_assoc, ap, ap₂, arith, drop, get_or, length, lit≤, negsuc, pos, refl, replicate, subst, suc, sym, take},
+      Common.{zero, ℕ, ℤ, ◌%◌, ◌*◌, ◌++◌, ◌+ℤ◌, ◌+◌, ◌-ℤ◌, ◌-◌, ◌/◌, ◌<◌, ◌^◌, ◌∙◌},
+      Common.{◌∷◌, ◌≡◌, ◌≤ℤ◌, ◌≤◌, ◌*ℤ◌},
       Math.{ListN.set, Seq.drop-length},
     },
     specs.List.All,
   },
   conv_code.specs.bit_blocks.Bits.{AllBits, IsBit},
-  lanes.proofs.Lanes.{each, same_below},
+  lanes.{proofs.Lanes.{each, same_below}, specs.Lanes.lane},
   trellis_decode.{
-    proofs.AcsSteps.{even_metric, IsDecision-lower_bound, lane_of_state-inside, lane_of_state-twice, odd_metric, pair_and_after, pair_at},
-    proofs.Viterbi.{AllBits-encoding_from_state, IsSurvivor-none, IsSurvivor-to_end, lex_not_after-refl, IsSurvivor-bit},
-    proofs.Viterbi.{IsSurvivor-tail_bit, IsSurvivor-more, IsSurvivor-same, candidate-survivor, traceback-tail_rows, length-traceback},
-    proofs.Viterbi.{length-to_binary, likelihood_bound, metric_from_state-cons, traceback-zeros},
+    proofs.AcsSteps.{even_metric, IsDecision-lower_bound, lane_of_state-inside, lane_of_state-twice, odd_metric},
+    proofs.Viterbi.{AllBits-encoding_from_state, lex_not_after-refl, IsSurvivor-bit, IsSurvivor-tail_bit, IsSurvivor-more, IsSurvivor-same},
+    proofs.Viterbi.{candidate-survivor, traceback-tail_rows, length-traceback, length-to_binary, likelihood_bound, metric_from_state-cons},
+    proofs.Viterbi.traceback-zeros,
     specs.{
-      AcsLanes.{DifferByAtMost4096, HaveHeadroom16, three_bits_reversed, path_metric_of_lane, lane_of_state, metrics_of_lanes},
+      AcsLanes.{AreBranchMetrics, HasBranchMetrics, DifferByAtMost4096, HaveHeadroom16, three_bits_reversed, path_metric_of_lane},
+      AcsLanes.{lane_of_state, metrics_of_lanes},
       Decisions.HasDecisionsAndMetrics,
-      Hard.{DifferByAtMost, hard_lane_metrics, metric_of_hard_lane},
-      Lanes.{AreSignedOctets, IsSignedOctet, lane},
-      SurvivorPaths.{AreMetricsWithin, AreSurvivors, HoldLaneNumbersFromIndex, state_after_bits, survivor_traceback},
+      Hard.{DifferByAtMost, HasHardBranchMetrics, HaveMagnitudeAtMostOne, hard_lane_metrics, metric_of_hard_lane},
+      SurvivorPaths.{AreMetricsWithin, AreSurvivors, state_after_bits, survivor_traceback},
       Trellis.{AreDecisions, EqualMetricButLater, HasTailBits, IsDecision, IsSurvivor, LessMetric, branch_metric, candidate_metric},
       Trellis.{first_coded_bit, metric_from_state, next_trellis_state, second_coded_bit, traceback},
       Words.to_binary,
+      SignedOctets.{AreSignedOctets, IsSignedOctet},
     },
   },
 }
@@ -35,7 +35,7 @@ use Rattle.{
 -- ## SurvivorPaths: The survivors over a few positions of the trellis, extended by one position at the front, and bounds of the path
 -- metrics.
 
-state_after-inside : (s : ℕ) (u : List ℕ) → s < 16 → state_after_bits s u < 16
+pub state_after-inside : (s : ℕ) (u : List ℕ) → s < 16 → state_after_bits s u < 16
 state_after-inside s [] lt = lt
 state_after-inside s (x ∷ u) lt = state_after-inside (next_trellis_state s x) u (omega arith)
 
@@ -92,6 +92,26 @@ branch_metric_bound pair s bit two octets =
     let bits : AllBits (first_coded_bit s bit ∷ second_coded_bit s bit ∷ []) =
     All-cons IsBit (first_coded_bit s bit) (second_coded_bit s bit ∷ []) (omega arith) (All-cons _ _ [] (omega arith) (All-nil IsBit)) in
     omega (arith, ints, likelihood_bound pair (first_coded_bit s bit ∷ second_coded_bit s bit ∷ []) octets bits)
+
+pub AreBranchMetrics-from_HasBranchMetrics : (lanes pair : List ℤ) → AreSignedOctets pair → HasBranchMetrics lanes pair →
+    AreBranchMetrics lanes
+AreBranchMetrics-from_HasBranchMetrics lanes pair octets has = record {
+  count = has.size;
+  lower_bound = λ k lt. rw (has.each_lane k lt) (branch_metric_bound pair _ 0 has.count octets).0;
+  upper_bound = λ k lt. rw (has.each_lane k lt) (branch_metric_bound pair _ 0 has.count octets).1;
+}
+
+pub HaveMagnitudeAtMostOne-from_HasHardBranchMetrics : (lanes pair : List ℤ) → AreSignedOctets pair →
+    HasHardBranchMetrics lanes pair →
+    HaveMagnitudeAtMostOne lanes
+HaveMagnitudeAtMostOne-from_HasHardBranchMetrics lanes pair octets has =
+    record { count = has.size; lower_bound = λ k lt. (unit k lt).0; upper_bound = λ k lt. (unit k lt).1 }
+  where
+    unit : (k : ℕ) → k < 16 → (negsuc 0 ≤ℤ lane lanes k) × (lane lanes k ≤ℤ pos 1)
+    unit k lt =
+        let is = has.at_state (lane_of_state k) (lane_of_state-inside k lt)
+        ∙ ap (λ j. pos 254 *ℤ lane lanes j) (lane_of_state-twice k lt) in
+        omega (arith, ints, branch_metric_bound pair (lane_of_state k) 0 has.count octets)
 
 IsDecision-upper_bound : (after pair : List ℤ) (s bit most : ℕ) (value : ℤ) → length pair ≡ 2 → AreSignedOctets pair →
     lane after (next_trellis_state s 0) ≤ℤ pos most → lane after (next_trellis_state s 1) ≤ℤ pos most
@@ -158,7 +178,7 @@ AreMetricsWithin-best n values soft lists octets few best = record {
   upper_bound = λ s lt. omega (arith, ints, length-drop n soft, IsSurvivor-bounds s _ _ _ (All-drop IsSignedOctet n _ octets) (best s lt));
 }
 
-AreMetricsWithin-most : (n : ℕ) (values soft : List ℤ) (lists : ℕ → List ℕ) → AreSignedOctets soft → length soft ≤ 456
+pub AreMetricsWithin-most : (n : ℕ) (values soft : List ℤ) (lists : ℕ → List ℕ) → AreSignedOctets soft → length soft ≤ 456
     →
     ((s : ℕ) → s < 16 → negsuc 1023 ≤ℤ lane values s) →
     ((s : ℕ) → s < 16 → IsSurvivor s (lists s) (drop n soft) (lane values s)) → AreMetricsWithin 58368 values
@@ -168,7 +188,7 @@ AreMetricsWithin-most n values soft lists octets few low best = record {
       omega (arith, ints, length-drop n soft, IsSurvivor-bounds s _ _ _ (All-drop IsSignedOctet n _ octets) (best s lt));
 }
 
-IsSurvivor-zero_tail : (after values pair soft : List ℤ) (n : ℕ) → length pair ≡ 2 → n < 4 →
+pub IsSurvivor-zero_tail : (after values pair soft : List ℤ) (n : ℕ) → length pair ≡ 2 → n < 4 →
     ((s : ℕ) → s < 16 → IsSurvivor s (replicate n 0) soft (lane after s)) →
     ((s : ℕ) → s < 16 → lane values s ≡ candidate_metric after pair s 0) →
     (s : ℕ) → s < 16 → IsSurvivor s (replicate (suc n) 0) (pair ++ soft) (lane values s)
@@ -248,7 +268,7 @@ read_last = same_below _ _ refl
 
 -- ---- lemmas about survivor maps, filled from the last to the first
 
-last_map : (survivors : List (List ℕ)) (soft values : List ℤ) (last : ℕ) → last + 1 ≡ length survivors →
+pub last_map : (survivors : List (List ℕ)) (soft values : List ℤ) (last : ℕ) → last + 1 ≡ length survivors →
     ((s : ℕ) → s < 16 → IsSurvivor s (replicate 4 0) soft (lane values s)) → (s : ℕ) → s < 16 →
     IsSurvivor s (survivor_traceback (drop last (set survivors last (replicate 16 0))) (lane_of_state s)) soft
     (lane values s)
@@ -258,7 +278,7 @@ last_map survivors soft values last end best s lt =
     drop-set _ last _ (omega arith) ∙ ap (λ rest. blank ∷ rest) (ap (λ k. drop k survivors) end ∙ drop-length survivors) in
     IsSurvivor-same s (sym (cc (alone, read_last s lt))) refl refl (best s lt)
 
-more_survivors : (after values soft : List ℤ) (map : List ℕ) (survivors : List (List ℕ)) (before group : ℕ) →
+pub more_survivors : (after values soft : List ℤ) (map : List ℕ) (survivors : List (List ℕ)) (before group : ℕ) →
     before + 1 ≡ group → group < length survivors → 8 * group ≤ length soft →
     AreSurvivors after values map (take 8 (drop (8 * before) soft)) →
     ((s : ℕ) → s < 16 → IsSurvivor s (survivor_traceback (drop group survivors) (lane_of_state s)) (drop (8 * group) soft)
@@ -502,96 +522,3 @@ pub HasDecisionsAndMetrics-same : {rows rows' : List ℕ} {losses losses' : List
     rows ≡ rows' → losses ≡ losses' → soft ≡ soft' → HasDecisionsAndMetrics rows losses soft values →
     HasDecisionsAndMetrics rows' losses' soft' values
 HasDecisionsAndMetrics-same er el es decided = rw (← er, ← el, ← es) decided
-
--- ## LanesOfMaps: Every lane of a survivor map holds the number of a lane.
-
-AreSurvivors-map_lanes : (after values : List ℤ) (map : List ℕ) (soft : List ℤ) → AreSurvivors after values map soft →
-    (k : ℕ) →
-    k < 16 → get_or map k 0 < 16
-AreSurvivors-map_lanes after values map soft walk k lt =
-    let s = lane_of_state k in
-    let low : lane_of_state k < 16 = lane_of_state-inside k lt in
-    let end : state_after_bits s (walk.bits s) < 16 = state_after-inside s (walk.bits s) low in
-    let is : get_or map k 0 ≡ lane_of_state (state_after_bits s (walk.bits s)) =
-    ap (λ k. get_or map k 0) (sym (lane_of_state-twice k lt)) ∙ walk.maps_to_end_state s low in
-    rw is (lane_of_state-inside _ end)
-
-HoldLaneNumbersFromIndex-more : (survivors : List (List ℕ)) (map : List ℕ) (before from : ℕ) → before + 1 ≡ from →
-    before < length survivors → ((k : ℕ) → k < 16 → get_or map k 0 < 16) → HoldLaneNumbersFromIndex from survivors →
-    HoldLaneNumbersFromIndex before (set survivors before map)
-HoldLaneNumbersFromIndex-more survivors map before from at within small old group k low member lt = elim (cases_lt before group) [
-  | inl less ↦ rw (get_or-set_other survivors before group map [] (λ e. omega arith)) (old group k (omega arith)
-      (omega (arith, length-set survivors before map)) lt)
-  | inr most ↦ rw (get_or-set_at survivors before group map [] (omega arith) within) (small k lt)
-]
-
-HoldLaneNumbersFromIndex-last : (survivors : List (List ℕ)) (last : ℕ) → last + 1 ≡ length survivors →
-    HoldLaneNumbersFromIndex last (set survivors last
-    (0 ∷ 0 ∷ 0 ∷ 0 ∷ 0 ∷ 0 ∷ 0 ∷ 0 ∷ 0 ∷ 0 ∷ 0 ∷ 0 ∷ 0 ∷ 0 ∷ 0 ∷ 0 ∷ []))
-HoldLaneNumbersFromIndex-last survivors last end =
-    let blank : List ℕ = 0 ∷ 0 ∷ 0 ∷ 0 ∷ 0 ∷ 0 ∷ 0 ∷ 0 ∷ 0 ∷ 0 ∷ 0 ∷ 0 ∷ 0 ∷ 0 ∷ 0 ∷ 0 ∷ [] in
-    HoldLaneNumbersFromIndex-more survivors blank last (last + 1) refl (omega arith)
-    (λ k lt. rw (get_or-replicate {A = ℕ} 16 k 0 0 lt) (omega arith)) (λ group k low member lt. absurd (omega arith))
-
--- ## Filled: Both decoders fill the survivor maps from the last to the first, starting with the path metrics before the tail.
-
--- the path metrics from position `k` of the four tail bits on
-abbrev pub AreTailMetrics : (k : ℕ) (soft metrics : List ℤ) → Type 0
-AreTailMetrics k soft metrics = (s : ℕ) → s < 16 → IsSurvivor s (replicate (4 - k) 0) (drop (2 * k) soft) (lane metrics s)
-
-module _ (soft : List ℤ) (eight : length soft ≡ 8) where
-  pub tail-none : (metrics : List ℤ) → ((s : ℕ) → s < 16 → lane metrics s ≡ pos 0) → AreTailMetrics 4 soft metrics
-  tail-none metrics none s lt = IsSurvivor-same s refl (sym (drop_all 8 soft (omega arith))) (sym (none s lt)) (IsSurvivor-none s)
-
-  pub tail-within : (k : ℕ) (metrics : List ℤ) → AreSignedOctets soft → AreTailMetrics k soft metrics →
-      AreMetricsWithin 1024 metrics
-  tail-within k metrics octets = AreMetricsWithin-best (2 * k) metrics soft (λ s. replicate (4 - k) 0) octets (omega arith)
-
-  pub tail-more : (after metrics : List ℤ) (before k : ℕ) → before + 1 ≡ k → k ≤ 4 →
-      ((s : ℕ) → s < 16 → lane metrics s ≡ candidate_metric after (pair_at soft (2 * before)) s 0) →
-      AreTailMetrics k soft after →
-      AreTailMetrics before soft metrics
-  tail-more after metrics before k next few candidates best s lt =
-      let one_more : suc (4 - k) ≡ 4 - before = omega arith in
-      let two : length (pair_at soft (2 * before)) ≡ 2 =
-      omega (arith, length-take 2 (drop (2 * before) soft), length-drop (2 * before) soft) in
-      IsSurvivor-same s (ap (λ n. replicate n 0) one_more) (pair_and_after soft (2 * before) (2 * k) (omega arith)) refl
-      (IsSurvivor-zero_tail after metrics (pair_at soft (2 * before)) (drop (2 * k) soft) (4 - k) two (omega arith) best candidates s lt)
-
--- traceback through the survivor maps from number `group` on gives the survivors, and `metrics` are the path metrics before these maps
-pub record AreFilled (group : ℕ) (survivors : List (List ℕ)) (soft metrics : List ℤ) : Type 0 where
-  pub best : (s : ℕ) → s < 16 →
-      IsSurvivor s (survivor_traceback (drop group survivors) (lane_of_state s)) (drop (8 * group) soft) (lane metrics s)
-  pub low : (s : ℕ) → s < 16 → negsuc 1023 ≤ℤ lane metrics s
-  pub maps : HoldLaneNumbersFromIndex group survivors
-
-module _ (soft : List ℤ) (octets : AreSignedOctets soft) where
-  pub filled-last : (survivors : List (List ℕ)) (metrics : List ℤ) (last : ℕ) → last + 1 ≡ length survivors →
-      length soft ≡ 8 * length survivors →
-      ((s : ℕ) → s < 16 → IsSurvivor s (replicate 4 0) (take (length soft - 8 * last) (drop (8 * last) soft)) (lane metrics s)) →
-      AreFilled last (set survivors last (replicate 16 0)) soft metrics
-  filled-last survivors metrics last end count tail =
-      let closing = λ (s : ℕ) (lt : s < 16). IsSurvivor-to_end s (8 * last) _ soft _ (tail s lt) in
-      record {
-        best = last_map survivors (drop (8 * last) soft) metrics last end closing;
-        low = (AreMetricsWithin-best (8 * last) metrics soft (λ s. replicate 4 0) octets (omega arith) closing).lower_bound;
-        maps = HoldLaneNumbersFromIndex-last survivors last end;
-      }
-
-  pub filled-more : {after metrics : List ℤ} {map : List ℕ} (survivors : List (List ℕ)) (before group : ℕ) →
-      before + 1 ≡ group →
-      group < length survivors → length soft ≡ 8 * length survivors →
-      AreSurvivors after metrics map (take 8 (drop (8 * before) soft)) →
-      ((s : ℕ) → s < 16 → negsuc 1023 ≤ℤ lane metrics s) → AreFilled group survivors soft after →
-      AreFilled before (set survivors before map) soft metrics
-  filled-more survivors before group next inside count walk low filled = record {
-    best = more_survivors _ _ soft _ survivors before group next inside (omega arith) walk filled.best;
-    low = low;
-    maps = HoldLaneNumbersFromIndex-more survivors _ before group next (omega arith) (AreSurvivors-map_lanes _ _ _ _ walk) filled.maps;
-  }
-
-  pub filled-within : (group : ℕ) (survivors : List (List ℕ)) (metrics : List ℤ) → length soft ≤ 456 →
-      AreFilled group survivors soft metrics → AreMetricsWithin 58368 metrics
-  filled-within group survivors metrics few filled =
-      AreMetricsWithin-most (8 * group) metrics soft (λ s. survivor_traceback (drop group survivors) (lane_of_state s)) octets few
-      filled.low filled.best

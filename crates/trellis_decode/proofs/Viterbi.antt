@@ -15,12 +15,12 @@ use Rattle.{
     specs.List.All,
   },
   trellis_decode.specs.{
-    Lanes.{AreSignedOctets, IsSignedOctet},
     Trellis.{EqualMetricButLater, HasTailBits, IsDecision, IsNoBetterPath, IsNotLexicographicallyAfter, IsSurvivor, LessMetric},
     Trellis.{branch_metric, candidate_metric, encoding_from_state, first_coded_bit, metric_from_state, next_trellis_state},
     Trellis.{second_coded_bit, traceback},
     MostLikely.{most_likely, nth_input},
     Words.to_binary,
+    SignedOctets.{AreSignedOctets, IsSignedOctet},
   },
   lanes.proofs.Lanes.each,
 }

@@ -67,6 +67,7 @@ three_bits_reversed k = 4 * (k % 2) + 2 * (k / 2 % 2) + k / 4
 
 -- `lanes` holds the branch metrics of bit 0 in states 0 to 7, in bit-reversed order, for the `pair` of soft bits
 pub record HasBranchMetrics (lanes pair : List ℤ) : Type 0 where
+  pub size : length lanes ≡ 8
   pub count : length pair ≡ 2
   pub each_lane : (k : ℕ) → k < 8 → lane lanes k ≡ branch_metric (three_bits_reversed k) 0 pair
 

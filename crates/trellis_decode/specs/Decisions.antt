@@ -1,6 +1,7 @@
 -- The invariant of the backward Viterbi pass that stores all decisions (`fill_decisions`).
 use Rattle.std.specs.Prelude.{ℕ, ◌≡◌, ◌*◌, ◌<◌, ◌≤◌, ◌≤ℤ◌, ℤ, negsuc, List, length}
-use Rattle.trellis_decode.specs.Lanes.{AreSignedOctets, lane}
+use Rattle.lanes.specs.Lanes.{lane}
+use Rattle.trellis_decode.specs.SignedOctets.{AreSignedOctets}
 use Rattle.trellis_decode.specs.Trellis.{IsSurvivor, AreDecisions, traceback}
 
 -- `rows` and `losses` hold the decisions and their costs at the positions of `soft` (at least four), and `metrics` holds the path metric of

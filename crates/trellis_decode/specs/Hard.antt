@@ -49,5 +49,6 @@ lane_after_bit_1 k = lane_after_bit_0 k + 4
 
 -- `lanes` holds the branch metrics of bit 0 in all sixteen states, divided by 254, for the `pair` of soft bits
 pub record HasHardBranchMetrics (lanes pair : List ℤ) : Type 0 where
+  pub size : length lanes ≡ 16
   pub count : length pair ≡ 2
   pub at_state : (s : ℕ) → s < 16 → branch_metric s 0 pair ≡ pos 254 *ℤ lane lanes (lane_of_state s)

@@ -1,8 +1,7 @@
 pub use Rattle.conv_code.specs as conv_code
-pub use Rattle.lanes.specs as lanes
 pub mod Hard
 pub mod Decisions
-pub mod Lanes
+pub mod SignedOctets
 pub mod MostLikely
 pub mod Trellis
 pub mod AcsLanes

@@ -1,7 +1,7 @@
 -- Survivors over a few positions of the trellis, used in the proof of the decoder.
 use Rattle.std.specs.Prelude.{ℕ, ◌≡◌, ◌*◌, ◌%◌, ◌<◌, ◌≤◌, ◌≤ℤ◌, ℤ, pos, negsuc, List, [], ◌∷◌}
 use Rattle.std.specs.Prelude.{◌++◌, length, slice_index, slice_index_or}
-use Rattle.trellis_decode.specs.Lanes.{lane}
+use Rattle.lanes.specs.Lanes.{lane}
 use Rattle.trellis_decode.specs.Trellis.{next_trellis_state, IsSurvivor}
 use Rattle.trellis_decode.specs.AcsLanes.{lane_of_state}
 use Rattle.trellis_decode.specs.Words.{to_binary}

@@ -3,7 +3,7 @@
 ghost use Rattle.std.specs.Prelude.{◌≡◌, ℕ, ◌*◌, ◌+◌, ◌/◌, ◌%◌, ◌^◌, ◌<◌, pos, negsuc, ◌+ℤ◌};
 ghost use Rattle.std.specs.Prelude.{◌-ℤ◌, if◌then◌else◌, int_lt};
 ghost use Rattle.std.specs.Int.{w16};
-ghost use Rattle.lanes.specs.Lanes.{DifferencesFit, lane};
+ghost use Rattle.lanes.specs.Lanes.{DifferencesFit, IsLanewise, greater, lane};
 ghost use Rattle.trellis_decode.specs.AcsLanes.{AreBranchMetrics, AbsFit16Bits, AreDecisionLanes, AreInt16, HaveHeadroom16};
 ghost use Rattle.trellis_decode.specs.AcsLanes.{lanes_in_state_order, interleaved_lanes};
 
@@ -30,8 +30,7 @@ pub struct SixteenLanes {
 pub fn add_branch_metrics(path_metrics: EightLanes, branch_metrics: EightLanes) -> EightLanes
     requires headroom16 { HaveHeadroom16 path_metrics.lanes }
     requires branch_metrics { AreBranchMetrics branch_metrics.lanes }
-    ensures each { (k : ℕ) → k < 8 → lane result.lanes k ≡ lane path_metrics.lanes k +ℤ lane branch_metrics.lanes k }
-    ensures lanes { AreInt16 result.lanes }
+    ensures { IsLanewise w16 8 ◌+ℤ◌ path_metrics.lanes branch_metrics.lanes result.lanes }
 {
     EightLanes {
         lanes: path_metrics.lanes + branch_metrics.lanes,
@@ -41,8 +40,7 @@ pub fn add_branch_metrics(path_metrics: EightLanes, branch_metrics: EightLanes) 
 pub fn subtract_branch_metrics(path_metrics: EightLanes, branch_metrics: EightLanes) -> EightLanes
     requires headroom16 { HaveHeadroom16 path_metrics.lanes }
     requires branch_metrics { AreBranchMetrics branch_metrics.lanes }
-    ensures each { (k : ℕ) → k < 8 → lane result.lanes k ≡ lane path_metrics.lanes k -ℤ lane branch_metrics.lanes k }
-    ensures lanes { AreInt16 result.lanes }
+    ensures { IsLanewise w16 8 ◌-ℤ◌ path_metrics.lanes branch_metrics.lanes result.lanes }
 {
     EightLanes {
         lanes: path_metrics.lanes - branch_metrics.lanes,
@@ -52,9 +50,7 @@ pub fn subtract_branch_metrics(path_metrics: EightLanes, branch_metrics: EightLa
 pub fn lane_maxima(first: EightLanes, second: EightLanes) -> EightLanes
     requires first { AreInt16 first.lanes }
     requires second { AreInt16 second.lanes }
-    ensures each { (k : ℕ) → k < 8 →
-        lane result.lanes k ≡ (if int_lt (lane first.lanes k) (lane second.lanes k) then lane second.lanes k else lane first.lanes k) }
-    ensures lanes { AreInt16 result.lanes }
+    ensures { IsLanewise w16 8 greater first.lanes second.lanes result.lanes }
 {
     EightLanes {
         lanes: first.lanes.simd_max(second.lanes),
@@ -106,8 +102,7 @@ pub fn subtract_lanes(minuend: EightLanes, subtrahend: EightLanes) -> EightLanes
     requires first { AreInt16 minuend.lanes }
     requires second { AreInt16 subtrahend.lanes }
     requires fits_16_bits { DifferencesFit w16 8 minuend.lanes subtrahend.lanes }
-    ensures each { (k : ℕ) → k < 8 → lane result.lanes k ≡ lane minuend.lanes k -ℤ lane subtrahend.lanes k }
-    ensures lanes { AreInt16 result.lanes }
+    ensures { IsLanewise w16 8 ◌-ℤ◌ minuend.lanes subtrahend.lanes result.lanes }
 {
     EightLanes {
         lanes: minuend.lanes - subtrahend.lanes,

@@ -6,7 +6,7 @@
 
 ghost use Rattle.std.specs.Prelude.{◌≡◌, ℕ, ◌<◌, List, ℤ, pos, slice_index};
 ghost use Rattle.trellis_decode.specs.Trellis.{IsDecision, candidate_metric};
-ghost use Rattle.trellis_decode.specs.Lanes.{lane};
+ghost use Rattle.lanes.specs.Lanes.{lane};
 ghost use Rattle.trellis_decode.specs.Candidates.{AreAcsCandidates};
 ghost use Rattle.trellis_decode.specs.AcsLanes.{AreBranchMetrics, AreInt16, AreDecisionLanes, lane_decisions, HasBranchMetrics};
 ghost use Rattle.trellis_decode.specs.AcsLanes.{HaveHeadroom16};

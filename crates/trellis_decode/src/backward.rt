@@ -2,7 +2,8 @@
 //! a decoder.
 
 ghost use Rattle.std.specs.Prelude.{◌≡◌, ℕ, ◌*◌, ◌<◌, ◌≤◌, length, replicate, take};
-ghost use Rattle.trellis_decode.specs.Lanes.{AreSignedOctets, lane};
+ghost use Rattle.lanes.specs.Lanes.{lane};
+ghost use Rattle.trellis_decode.specs.SignedOctets.{AreSignedOctets};
 ghost use Rattle.trellis_decode.specs.Trellis.{IsSurvivor};
 ghost use Rattle.trellis_decode.specs.AcsLanes.{AreInt16, lane_of_state, path_metric};
 ghost use Rattle.trellis_decode.specs.SurvivorPaths.{AreMetricsWithin, AreSurvivors, HoldLaneNumbersFromIndex, survivor_traceback};

@@ -1,7 +1,7 @@
 //! The branch metrics of four bits, computed from their eight soft bits.
 
 ghost use Rattle.std.specs.Prelude.{◌≡◌, ℕ, ◌*◌, ◌<◌, length, slice_index_or, take, drop};
-ghost use Rattle.trellis_decode.specs.Lanes.{AreSignedOctets};
+ghost use Rattle.trellis_decode.specs.SignedOctets.{AreSignedOctets};
 ghost use Rattle.trellis_decode.specs.AcsLanes.{AreBranchMetrics, HasBranchMetrics};
 
 use crate::acs_lanes::EightLanes;

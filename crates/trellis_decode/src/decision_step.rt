@@ -6,7 +6,7 @@
 
 ghost use Rattle.std.specs.Prelude.{◌≡◌, ℕ, ◌/◌, ◌%◌, ◌^◌, ◌-◌, ◌<◌, List, ℤ, ◌-ℤ◌};
 ghost use Rattle.trellis_decode.specs.Trellis.{IsDecision, candidate_metric};
-ghost use Rattle.trellis_decode.specs.Lanes.{lane};
+ghost use Rattle.lanes.specs.Lanes.{lane};
 ghost use Rattle.trellis_decode.specs.AcsLanes.{DifferByAtMost4096, AreBranchMetrics, AbsFit16Bits, AreInt16, HasBranchMetrics};
 ghost use Rattle.trellis_decode.specs.AcsLanes.{HaveHeadroom16};
 ghost use Rattle.trellis_decode.specs.AcsLanes.{path_metric};

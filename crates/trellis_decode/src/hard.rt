@@ -16,8 +16,8 @@ ghost use Rattle.trellis_decode.specs.Hard.{hard_lane_metrics};
 ghost use Rattle.trellis_decode.specs.Hard.{lane_after_bit_1};
 ghost use Rattle.trellis_decode.specs.Hard.{sign_bit_of};
 ghost use Rattle.trellis_decode.specs.Hard.{lane_after_bit_0};
-ghost use Rattle.lanes.specs.Lanes.{DifferencesFit, lane};
-ghost use Rattle.trellis_decode.specs.Lanes.{AreSignedOctets};
+ghost use Rattle.lanes.specs.Lanes.{DifferencesFit, IsLanewise, greater, lane};
+ghost use Rattle.trellis_decode.specs.SignedOctets.{AreSignedOctets};
 ghost use Rattle.trellis_decode.specs.Trellis.{IsSurvivor};
 ghost use Rattle.trellis_decode.specs.AcsLanes.{lane_of_state};
 ghost use Rattle.trellis_decode.specs.SurvivorPaths.{AreMetricsWithin, AreSurvivors, HoldLaneNumbersFromIndex, survivor_traceback};
@@ -277,9 +277,7 @@ fn bit_1_candidates(metrics_after: StateMetrics, branch_metrics: StateMetrics) -
 fn larger_lanes(zero: StateMetrics, one: StateMetrics) -> StateMetrics
     requires zero { AreInt8 zero.lanes }
     requires one { AreInt8 one.lanes }
-    ensures each { (k : ℕ) → k < 16 → lane result.lanes k ≡
-        (if int_lt (lane zero.lanes k) (lane one.lanes k) then lane one.lanes k else lane zero.lanes k) }
-    ensures lanes { AreInt8 result.lanes }
+    ensures { IsLanewise w8 16 greater zero.lanes one.lanes result.lanes }
 {
     StateMetrics {
         lanes: zero.lanes.simd_max(one.lanes),
@@ -294,8 +292,7 @@ fn subtract_hard_lanes(first: StateMetrics, second: StateMetrics) -> StateMetric
     requires first { AreInt8 first.lanes }
     requires second { AreInt8 second.lanes }
     requires fits { DifferencesFit w8 16 first.lanes second.lanes }
-    ensures each { (k : ℕ) → k < 16 → lane result.lanes k ≡ lane first.lanes k -ℤ lane second.lanes k }
-    ensures lanes { AreInt8 result.lanes }
+    ensures { IsLanewise w8 16 ◌-ℤ◌ first.lanes second.lanes result.lanes }
 {
     StateMetrics {
         lanes: first.lanes - second.lanes,
@@ -358,9 +355,8 @@ fn sign_bits_of_soft_bits(soft: &[i8]) -> u64
 #[inline(always)]
 fn first_bit_branch_metrics(signs: u64) -> StateMetrics
     requires { signs < 16 }
-    ensures has { (p q : ℤ) → IsHardBit p → IsHardBit q → signs % 4 ≡ sign_bit_of p + 2 * sign_bit_of q →
+    ensures { (p q : ℤ) → IsHardBit p → IsHardBit q → signs % 4 ≡ sign_bit_of p + 2 * sign_bit_of q →
         HasHardBranchMetrics result.lanes (p ∷ q ∷ []) }
-    ensures within_one { HaveMagnitudeAtMostOne result.lanes }
 {
     StateMetrics {
         lanes: i8x16::from_array(FIRST_BIT_BRANCH_METRICS[signs as usize]),
@@ -371,9 +367,8 @@ fn first_bit_branch_metrics(signs: u64) -> StateMetrics
 #[inline(always)]
 fn second_bit_branch_metrics(signs: u64) -> StateMetrics
     requires { signs < 16 }
-    ensures has { (p q : ℤ) → IsHardBit p → IsHardBit q → signs / 4 ≡ sign_bit_of p + 2 * sign_bit_of q →
+    ensures { (p q : ℤ) → IsHardBit p → IsHardBit q → signs / 4 ≡ sign_bit_of p + 2 * sign_bit_of q →
         HasHardBranchMetrics result.lanes (p ∷ q ∷ []) }
-    ensures within_one { HaveMagnitudeAtMostOne result.lanes }
 {
     StateMetrics {
         lanes: i8x16::from_array(SECOND_BIT_BRANCH_METRICS[signs as usize]),

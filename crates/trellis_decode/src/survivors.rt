@@ -2,7 +2,7 @@
 //! lookup for every four bits.
 
 ghost use Rattle.std.specs.Prelude.{◌≡◌, ℕ, ◌+◌, ◌-◌, ◌*◌, ◌<◌, List, [], ◌++◌, ℤ, length, drop, slice_index};
-ghost use Rattle.trellis_decode.specs.Lanes.{AreSignedOctets};
+ghost use Rattle.trellis_decode.specs.SignedOctets.{AreSignedOctets};
 ghost use Rattle.trellis_decode.specs.Trellis.{next_trellis_state};
 ghost use Rattle.trellis_decode.specs.AcsLanes.{AreBranchMetrics, AreInt16, AreDecisionLanes, lane_decisions, HasBranchMetrics};
 ghost use Rattle.trellis_decode.specs.AcsLanes.{HaveHeadroom16, lane_of_state};

@@ -4,7 +4,7 @@
 ghost use Rattle.std.specs.Prelude.{◌≡◌, ◌+◌, ◌*◌, ◌<◌, ◌≤◌, drop, length};
 ghost use Rattle.std.specs.List.{All};
 ghost use Rattle.trellis_decode.specs.Decisions.{HasDecisionsAndMetrics};
-ghost use Rattle.trellis_decode.specs.Lanes.{AreSignedOctets};
+ghost use Rattle.trellis_decode.specs.SignedOctets.{AreSignedOctets};
 ghost use Rattle.trellis_decode.specs.Trellis.{AreDecisions, traceback};
 ghost use Rattle.trellis_decode.specs.AcsLanes.{AreInt16, path_metric};
 

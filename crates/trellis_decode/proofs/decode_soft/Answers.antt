@@ -7,13 +7,14 @@ use Rattle.{
   },
   conv_code.specs.Likelihood.AllSoftBits,
   trellis_decode.{
-    specs.{Lanes.{lane, AreSignedOctets, IsSignedOctet}, Trellis.IsSurvivor, AcsLanes.path_metric, Words.to_binary},
+    specs.{Trellis.IsSurvivor, AcsLanes.path_metric, Words.to_binary, SignedOctets.{AreSignedOctets, IsSignedOctet}},
     proofs.{
       Viterbi.{IsMostLikely-best, likelihood-best, IsSurvivor-same},
       SurvivorLists.{traced_survivor, traced_survivor-bits, traced_survivor-state, last_state-bits},
       decode_soft.Goals.After-metric_of_state_0,
     },
   },
+  lanes.specs.Lanes.lane,
 }
 use Rattle.trellis_decode.proofs.decode_soft.Goals as goal
 

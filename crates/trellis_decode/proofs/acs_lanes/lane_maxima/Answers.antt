@@ -2,4 +2,4 @@ use Rattle.{std.proofs.Common.w16, lanes.proofs.Lanes.maxima}
 use Rattle.trellis_decode.proofs.acs_lanes.lane_maxima.Goals as goal
 
 pub returns : goal.returns
-returns c = let is = maxima w16 8 _ _ c.requires.first c.requires.second in record { each = is.0; lanes = is.1 }
+returns c = maxima w16 8 _ _ c.requires.first c.requires.second

@@ -5,6 +5,5 @@ pub returns : goal.returns
 returns c =
     let a = c.requires.headroom16 in
     let b = c.requires.branch_metrics in
-    let is = differences w16 8 c.args.path_metrics.lanes c.args.branch_metrics.lanes (grind (arith, ints)) (grind (arith, ints))
-    (grind (arith, ints)) in
-    record { each = is.0; lanes = is.1 }
+    differences w16 8 c.args.path_metrics.lanes c.args.branch_metrics.lanes (grind (arith, ints)) (grind (arith, ints)) (grind
+    (arith, ints))

@@ -1,6 +1,7 @@
 use Rattle.{
   std.proofs.Common.{ap, ap₂, ◌∙◌},
-  trellis_decode.{specs.{Lanes.lane, AcsLanes.metrics_of_lanes}, proofs.AcsSteps.{candidates_of_bit_0, step_metric}},
+  trellis_decode.{specs.AcsLanes.metrics_of_lanes, proofs.AcsSteps.{candidates_of_bit_0, step_metric}},
+  lanes.specs.Lanes.lane,
 }
 use Rattle.trellis_decode.proofs.acs_step.tail_step.Goals as goal
 

@@ -1,7 +1,7 @@
 -- Induction from the tail to the front: each map extends the survivors by four positions, and the path metrics stay in bounds.
 use Rattle.{
   std.proofs.{Common.{◌≡◌, ◌*◌, ◌+◌, ◌-◌, drop, length, ◌∙◌, arith}, lemmas.List.{length-set, take-take}},
-  trellis_decode.{specs.AcsLanes.path_metric, proofs.SurvivorLists.{filled-last, filled-more, filled-within}},
+  trellis_decode.{specs.AcsLanes.path_metric, proofs.FilledMaps.{filled-last, filled-more, filled-within}},
 }
 use Rattle.trellis_decode.proofs.backward.fill_survivors.Goals as goal
 

@@ -1,4 +1,4 @@
-use Rattle.trellis_decode.{specs.AcsLanes.{AreInt16, path_metric}, proofs.SurvivorLists.AreFilled}
+use Rattle.trellis_decode.{specs.AcsLanes.{AreInt16, path_metric}, proofs.FilledMaps.AreFilled}
 use Rattle.trellis_decode.proofs.backward.fill_survivors.Given as goal
 
 abbrev pub invariant-loop-group : goal.invariant-loop-group

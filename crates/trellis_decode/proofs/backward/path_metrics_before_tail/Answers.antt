@@ -2,7 +2,7 @@ use Rattle.{
   std.proofs.Common.{◌≡◌, ◌*◌, ◌-◌, lit≤, arith},
   trellis_decode.{
     specs.AcsLanes.path_metric,
-    proofs.{AcsSteps.pair_at, SurvivorLists.{HaveHeadroom16-even, tail-more, tail-none, tail-within}},
+    proofs.{AcsSteps.pair_at, SurvivorLists.HaveHeadroom16-even, FilledMaps.{tail-more, tail-none, tail-within}},
   },
 }
 use Rattle.trellis_decode.proofs.backward.path_metrics_before_tail.Goals as goal

@@ -1,4 +1,4 @@
-use Rattle.trellis_decode.{specs.AcsLanes.{AreInt16, path_metric}, proofs.SurvivorLists.AreTailMetrics}
+use Rattle.trellis_decode.{specs.AcsLanes.{AreInt16, path_metric}, proofs.FilledMaps.AreTailMetrics}
 use Rattle.trellis_decode.proofs.backward.path_metrics_before_tail.Given as goal
 
 abbrev pub invariant-loop-k : goal.invariant-loop-k

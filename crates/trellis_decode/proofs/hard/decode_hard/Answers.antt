@@ -1,9 +1,10 @@
 use Rattle.{
   std.proofs.{Common.{arith, rules, ◌∙◌, w32, FitsSigned}, lemmas.Int.to_z-of_z},
   trellis_decode.{
-    specs.{Hard.hard_lane_metrics, Lanes.lane, Trellis.IsSurvivor},
+    specs.{Hard.hard_lane_metrics, Trellis.IsSurvivor},
     proofs.{Viterbi.{IsMostLikely-best, likelihood-best}, hard.decode_hard.Goals.After-metric_of_state_0},
   },
+  lanes.specs.Lanes.lane,
 }
 use Rattle.trellis_decode.proofs.hard.decode_hard.Goals as goal
 

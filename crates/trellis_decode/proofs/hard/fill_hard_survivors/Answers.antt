@@ -5,7 +5,7 @@ use Rattle.{
   },
   trellis_decode.{
     specs.Hard.{IsHardBit, hard_lane_metrics},
-    proofs.{AcsSteps.hard_octets, SurvivorLists.{DifferByAtMost-survivors, filled-last, filled-more, filled-within}},
+    proofs.{AcsSteps.hard_octets, SurvivorLists.DifferByAtMost-survivors, FilledMaps.{filled-last, filled-more, filled-within}},
   },
 }
 use Rattle.trellis_decode.proofs.hard.fill_hard_survivors.Goals as goal

@@ -1,4 +1,4 @@
-use Rattle.trellis_decode.{specs.Hard.{AreInt8, hard_lane_metrics}, proofs.SurvivorLists.AreFilled}
+use Rattle.trellis_decode.{specs.Hard.{AreInt8, hard_lane_metrics}, proofs.FilledMaps.AreFilled}
 use Rattle.trellis_decode.proofs.hard.fill_hard_survivors.Given as goal
 
 abbrev pub invariant-loop-group : goal.invariant-loop-group

@@ -1,8 +1,11 @@
 use Rattle.{
   std.proofs.Common.{◌≡◌, ℕ, ◌+◌, ◌*◌, ◌<◌, ◌≤◌, ◌∷◌, [], List, ℤ, pos, lit≤, get_or, take, drop},
   std.proofs.Common.arith,
-  trellis_decode.{specs.{Lanes.lane, Hard.{HasHardBranchMetrics, IsHardBit, sign_bit_of}}, proofs.AcsSteps.pair_lanes},
-  lanes.proofs.Lanes.each,
+  trellis_decode.{
+    specs.Hard.{HasHardBranchMetrics, IsHardBit, sign_bit_of},
+    proofs.{AcsSteps.{AreSignedOctets-pair, hard_octets, pair_lanes}, SurvivorLists.HaveMagnitudeAtMostOne-from_HasHardBranchMetrics},
+  },
+  lanes.{proofs.Lanes.each, specs.Lanes.lane},
 }
 use Rattle.trellis_decode.proofs.hard.hard_branch_metrics.Goals as goal
 
@@ -26,11 +29,16 @@ returns-clause-has c k d =
         (
           (
             tt,
-            pair _ _ 0 (lit≤ tt) c.first_bit_branch_metrics.ensures.has (omega (arith, bit 0 (lit≤ tt), bit 1 (lit≤ tt))),
+            pair _ _ 0 (lit≤ tt) c.first_bit_branch_metrics.ensures (omega (arith, bit 0 (lit≤ tt), bit 1 (lit≤ tt))),
           ),
-          pair _ _ 2 (lit≤ tt) c.second_bit_branch_metrics.ensures.has (omega (arith, bit 2 (lit≤ tt), bit 3 (lit≤ tt))),
+          pair _ _ 2 (lit≤ tt) c.second_bit_branch_metrics.ensures (omega (arith, bit 2 (lit≤ tt), bit 3 (lit≤ tt))),
         ),
-        pair _ _ 4 (lit≤ tt) c.first_bit_branch_metrics-2.ensures.has (omega (arith, bit 4 (lit≤ tt), bit 5 (lit≤ tt))),
+        pair _ _ 4 (lit≤ tt) c.first_bit_branch_metrics-2.ensures (omega (arith, bit 4 (lit≤ tt), bit 5 (lit≤ tt))),
       ),
-      pair _ _ 6 (lit≤ tt) c.second_bit_branch_metrics-2.ensures.has (omega (arith, bit 6 (lit≤ tt), bit 7 (lit≤ tt))),
+      pair _ _ 6 (lit≤ tt) c.second_bit_branch_metrics-2.ensures (omega (arith, bit 6 (lit≤ tt), bit 7 (lit≤ tt))),
     ) k
+
+pub returns-clause-within_one : goal.returns-clause-within_one
+returns-clause-within_one c k d lt =
+    HaveMagnitudeAtMostOne-from_HasHardBranchMetrics _ _
+    (AreSignedOctets-pair _ (2 * k) (hard_octets _ c.requires.hard)) (returns-clause-has c k d lt)

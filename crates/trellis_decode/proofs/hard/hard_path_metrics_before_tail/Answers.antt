@@ -4,7 +4,7 @@ use Rattle.{
   trellis_decode.{
     specs.Hard.hard_lane_metrics,
     proofs.AcsSteps.{HaveHeadroom8-within, bit_0_candidate-metric, hard_metric-at, hard_octets, start, start-metric},
-    proofs.SurvivorLists.{tail-more, tail-none, tail-within},
+    proofs.FilledMaps.{tail-more, tail-none, tail-within},
   },
 }
 use Rattle.trellis_decode.proofs.hard.hard_path_metrics_before_tail.Goals as goal

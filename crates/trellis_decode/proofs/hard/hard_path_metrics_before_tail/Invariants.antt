@@ -1,4 +1,4 @@
-use Rattle.trellis_decode.{specs.Hard.{AreInt8, hard_lane_metrics}, proofs.SurvivorLists.AreTailMetrics}
+use Rattle.trellis_decode.{specs.Hard.{AreInt8, hard_lane_metrics}, proofs.FilledMaps.AreTailMetrics}
 use Rattle.trellis_decode.proofs.hard.hard_path_metrics_before_tail.Given as goal
 
 abbrev pub invariant-loop-k : goal.invariant-loop-k

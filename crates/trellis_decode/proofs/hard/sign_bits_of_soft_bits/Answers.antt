@@ -3,8 +3,8 @@ use Rattle.{
     Common.{◌≡◌, ◌+◌, ◌++◌, ℤ, List, pos, length, length-append, replicate, ap, subst, sym, ◌∙◌, arith, refl, w8},
     lemmas.{Int.ints, List.{get_or_append_left, Elements.{All-append, All-replicate}}},
   },
-  trellis_decode.specs.{Lanes.{AreSignedOctets, IsSignedOctet, lane}, Hard.sign_bit_of},
-  lanes.proofs.Lanes.sign_bit,
+  trellis_decode.specs.{Hard.sign_bit_of, SignedOctets.{AreSignedOctets, IsSignedOctet}},
+  lanes.{proofs.Lanes.sign_bit, specs.Lanes.lane},
 }
 use Rattle.trellis_decode.proofs.hard.sign_bits_of_soft_bits.Goals as goal
 

@@ -2,7 +2,7 @@ use Rattle.{
   std.proofs.Common.{◌≡◌, ◌*◌, ◌+◌, ◌-◌, ◌<◌, ◌∷◌, drop, ap, sym, ◌∙◌, subst, arith, map, w16},
   std.{proofs.lemmas.List.{drop-set, length-drop, Elements.{All-take, All-drop}}, specs.Int.cast_signed},
   trellis_decode.{
-    specs.{Lanes.{IsSignedOctet, lane}, AcsLanes.{HasBranchMetrics, path_metric}},
+    specs.{AcsLanes.{HasBranchMetrics, path_metric}, SignedOctets.IsSignedOctet},
     proofs.{
       AcsSteps.{AreSignedOctets-pair, pair_at, pair_at-take_drop, pair_and_after},
       SurvivorLists.{HasDecisionsAndMetrics-more, HasDecisionsAndMetrics-same, HasDecisionsAndMetrics-differences},
@@ -10,7 +10,7 @@ use Rattle.{
       AcsVectors.AbsFit16Bits-signed,
     },
   },
-  lanes.proofs.Lanes.{bits_of, cast_lanes-each},
+  lanes.{proofs.Lanes.{bits_of, cast_lanes-each}, specs.Lanes.lane},
 }
 use Rattle.trellis_decode.proofs.trellis.fill_decision_rows.Goals as goal
 

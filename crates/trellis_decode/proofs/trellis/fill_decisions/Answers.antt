@@ -4,7 +4,7 @@ use Rattle.{
     lemmas.List.{length-drop, Elements.{All-take, All-drop}},
   },
   trellis_decode.{
-    specs.{Lanes.IsSignedOctet, AcsLanes.path_metric},
+    specs.{AcsLanes.path_metric, SignedOctets.IsSignedOctet},
     proofs.{SurvivorLists.HasDecisionsAndMetrics-tail, Viterbi.IsSurvivor-to_end},
   },
 }

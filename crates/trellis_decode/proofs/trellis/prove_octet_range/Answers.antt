@@ -1,6 +1,7 @@
 use Rattle.{
   std.proofs.{Common.{[], pos, subst, arith}, lemmas.{Int.ints, List.{take_all, take_more, Elements.{All-nil, All-cons, All-append}}}},
-  trellis_decode.specs.Lanes.{AreSignedOctets, IsSignedOctet, lane},
+  trellis_decode.specs.SignedOctets.{AreSignedOctets, IsSignedOctet},
+  lanes.specs.Lanes.lane,
 }
 use Rattle.trellis_decode.proofs.trellis.prove_octet_range.Goals as goal
 

@@ -1,9 +1,9 @@
 use Rattle.{
-  trellis_decode.{
-    specs.Lanes.lane,
-    proofs.AcsSteps.{AreLeads, IsDecision-bit, high_differences_fit, leads-subtract_lanes, IsDecision-loss, low_differences_fit},
-    proofs.decision_step.DecisionStep.new.Goals.After-to_state_order-leads,
+  trellis_decode.proofs.{
+    AcsSteps.{AreLeads, IsDecision-bit, high_differences_fit, leads-subtract_lanes, IsDecision-loss, low_differences_fit},
+    decision_step.DecisionStep.new.Goals.After-to_state_order-leads,
   },
+  lanes.specs.Lanes.lane,
 }
 use Rattle.trellis_decode.proofs.decision_step.DecisionStep.new.Goals as goal
 

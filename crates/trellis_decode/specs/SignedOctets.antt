@@ -1,7 +1,6 @@
 -- The range of a signed octet.
 use Rattle.std.specs.Prelude.{◌≤ℤ◌, ℤ, pos, negsuc, List}
 use Rattle.std.specs.List.{All}
-pub use Rattle.lanes.specs.Lanes.{lane}
 
 -- the number is a signed octet, that is, from -128 to 127
 abbrev pub IsSignedOctet : ℤ → Type 0
