@@ -37,6 +37,7 @@ use Rattle.{
     },
   },
 }
+use Rattle.std.specs.Prelude.{◌-◌}
 use Rattle.lapdm_datalink.proofs.ProgressWaiting as P
 use Rattle.lapdm_datalink.proofs.ProgressFrames as F
 use Rattle.lapdm_datalink.proofs.ProgressKnown as K
@@ -256,6 +257,78 @@ module _ (s : ℕ) (cr : Bool) (l : LinkState) where
   reply_retries (Rej nr p) = rr_fewer nr p
   reply_retries other = grind arith
 
+-- ---- Closed is never left
+
+closed_open : Closed ≡ Open → ⊥
+closed_open q = cc
+
+module _ (s : ℕ) (cr : Bool) (l : LinkState) where
+  closed_reply : (c : Content) → l.endpoint.state ≡ Closed →
+      (outcome_of_reply (reply_with s cr l c) l.endpoint).new_state.state ≡ Closed
+  closed_reply (I ns nr p more info) h = by_reply (i_reply s cr l ns nr p more info)
+    where
+      by_reply : ((reply_with s cr l (I ns nr p more info) ≡ TakesIFrame ns nr p (info, more)) × (l.endpoint.state ≡ Open))
+          ⊎ (reply_with s cr l (I ns nr p more info) ≡ Nothing) ⊎ (reply_with s cr l (I ns nr p more info) ≡ SendsDm) →
+          (outcome_of_reply (reply_with s cr l (I ns nr p more info)) l.endpoint).new_state.state ≡ Closed
+      by_reply (inl (e, o)) = absurd (closed_open (sym h ∙ o))
+      by_reply (inr (inl e)) = ap (λ q. (outcome_of_reply q l.endpoint).new_state.state) e ∙ h
+      by_reply (inr (inr e)) = ap (λ q. (outcome_of_reply q l.endpoint).new_state.state) e ∙ h
+  closed_reply other h = grind (arith, h)
+
+closed_arriving : (o : Option Frame) (l : LinkState) → l.endpoint.sapi ≡ Zero → l.endpoint.state ≡ Closed →
+    (after_arriving o l).endpoint.state ≡ Closed
+closed_arriving None l z h = h
+closed_arriving (Some f) l z h = by_taken (frame_taken f l z)
+  where
+    by_taken : (after_frame f l ≡ l) ⊎ (after_frame f l ≡ taken (reply_with f.sapi f.cr l f.content) l) →
+        (after_frame f l).endpoint.state ≡ Closed
+    by_taken (inl e) = ap (λ m. m.endpoint.state) e ∙ h
+    by_taken (inr e) = ap (λ m. m.endpoint.state) e
+        ∙ ap (λ x. x.state) (outcome_endpoint (outcome_of_reply (reply_with f.sapi f.cr l f.content) l.endpoint) l)
+        ∙ closed_reply f.sapi f.cr l f.content h
+
+closed_refuses : (role : Role) (c : Call) (l : LinkState) → IsUse role c → l.endpoint.state ≡ Closed →
+    refusal_of c l.endpoint ≡ None → ⊥
+closed_refuses role (Sends m) l u h e = grind (arith, h, e)
+closed_refuses role (Opens info) l u h e = grind (arith, h, e)
+closed_refuses role other l u h e = absurd u
+
+closed_calls : (role : Role) (cs : List Call) (l : LinkState) → All (IsUse role) cs → l.endpoint.state ≡ Closed →
+    (after_calls cs l).endpoint.state ≡ Closed
+closed_calls role [] l u h = h
+closed_calls role (c ∷ cs) l u h =
+    closed_calls role cs (after_call_unless (refusal_of c l.endpoint) c l) (All-tail (IsUse role) c cs u)
+    (one (refusal_of c l.endpoint) refl)
+  where
+    one : (x : Option Refused) → refusal_of c l.endpoint ≡ x → (after_call_unless x c l).endpoint.state ≡ Closed
+    one (Some why) e = h
+    one None e = absurd (closed_refuses role c l (All-head (IsUse role) c cs u) h e)
+
+module _ (r : Run) (u : NeverReleases r) where
+  closed_next : (n : ℕ) (role : Role) → (link_at r n role).endpoint.state ≡ Closed → (link_at r (suc n) role).endpoint.state ≡ Closed
+  closed_next n role h = ap (λ l. l.endpoint.state) (link_step r n role) ∙ by_slot (F.slot_state (ready_at r n role))
+    where
+      ready : (ready_at r n role).endpoint.state ≡ Closed
+      ready = closed_calls role (turn_at r n role).calls (after_arriving (arriving_at r n role) (link_at r n role)) (u n role)
+          (closed_arriving (arriving_at r n role) (link_at r n role) ((sound r u n).good role).sapi h)
+
+      by_slot : ((slot_outcome (ready_at r n role)).link.endpoint.state ≡ (ready_at r n role).endpoint.state)
+          ⊎ ((slot_outcome (ready_at r n role)).link.endpoint.state ≡ Closed) →
+          (slot_outcome (ready_at r n role)).link.endpoint.state ≡ Closed
+      by_slot (inl e) = e ∙ ready
+      by_slot (inr e) = e
+
+  closed_on : (n k : ℕ) (role : Role) → (link_at r n role).endpoint.state ≡ Closed →
+      (link_at r (n + k) role).endpoint.state ≡ Closed
+  closed_on n zero role h = let e : n + 0 ≡ n = omega arith in rw e h
+  closed_on n (suc k) role h = let e : n + suc k ≡ suc (n + k) = omega arith in rw e (closed_next (n + k) role (closed_on n k role h))
+
+  pub unclosed : (n : ℕ) → ((role : Role) → (link_at r n role).endpoint.state ≢ Closed) → Unclosed r u n
+  unclosed n h j a role q =
+      let e : j + (n - j) ≡ n = omega (arith, a) in h role (rw e at (closed_on j (n - j) role q))
+
+-- ---- repetitions are counted
+
 arriving_retries : (o : Option Frame) (l : LinkState) → l.endpoint.sapi ≡ Zero →
     (after_arriving o l).endpoint.retries ≤ l.endpoint.retries
 arriving_retries None l z = omega arith
@@ -397,9 +470,6 @@ module _ (r : Run) (u : NeverReleases r) (long : round_trip r.delay ≤ r.t200) 
     closed_opening : Closed ≡ Opening → ⊥
     closed_opening q = cc
 
-    closed_open : Closed ≡ Open → ⊥
-    closed_open q = cc
-
     mobile_ready : MobileSlot r u n → (ready_at r n Mobile).endpoint.state ≢ Closed
     mobile_ready (K.rests i e) q = closed_idle (sym q ∙ ap (λ l. l.endpoint.state) e ∙ i)
     mobile_ready (K.begins i o x s k a) q = closed_opening (sym q ∙ o)
@@ -423,6 +493,8 @@ module _ (r : Run) (u : NeverReleases r) (long : round_trip r.delay ≤ r.t200) 
         (network_ready_open (K.network_slot r u n h)) in
         let five : 5 ≤ E r u long n Network = omega (arith, x.1, ready_retries n Network, retries_most n Network) in
         omega (arith, network_owes w x.0 five, five)
+
+  -- ---- no loss closes it, unless there are six
 
   lo_up : (n : ℕ) → Lo r u long n ≤ Lo r u long (suc n)
   lo_up n = omega (arith, loss_step r u long n)
