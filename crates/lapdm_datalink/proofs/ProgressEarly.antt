@@ -19,7 +19,6 @@ use Rattle.{
       ProgressWaits.{SlotWay, sends, blocked, counts, slot_way},
       ProgressPaid.{le_of, not_le_of},
       ProgressExpiries.waits_at,
-      ProgressWaiting.{open_awaits, due_clock, not_due, no_ack, ack_one, times_le, expires_due, goes_it, both},
       ProgressFrames.{Brings, sabm_of, ua_of},
       ProgressKnown.{Known, Unclosed, NetworkSlot},
       ProgressOpening.{true-false, times_one, one_most, idle_rests, young_number, idle_not_open, W, E, B, waits_step, expiry_step},
@@ -27,6 +26,7 @@ use Rattle.{
     },
   },
 }
+use Rattle.lapdm_datalink.proofs.ProgressSlots.{ack_one, both, due_clock, expires_due, goes_it, no_ack, not_due, open_awaits, times_le}
 use Rattle.lapdm_datalink.proofs.ProgressFrames as F
 use Rattle.lapdm_datalink.proofs.ProgressKnown as K
 

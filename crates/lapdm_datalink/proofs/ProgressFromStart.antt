@@ -26,8 +26,7 @@ use Rattle.{
       ProgressStart.{is_young, i_reply, rr_reply},
       ProgressPaid.{le_of, not_le_of},
       ProgressExpiries.{old_enough, waits_at},
-      ProgressWaiting.{Stage, quiet, unsent, failed, going, pending, answers_first, times_le, ack_one, clock_within, expires_due},
-      ProgressWaiting.{due_clock, no_ack},
+      ProgressWaiting.{Stage, quiet, unsent, failed, going, pending},
       ProgressKnown.{Known, Unclosed, MobileSlot, NetworkSlot, known},
       ProgressOpening.{true-false, times_one, idle_not_open, opening_not_open, idle_rests, W, E, B, Lo, expiry_step, loss_step, Calling},
       ProgressOpening.{Through, must_fail},
@@ -37,6 +36,7 @@ use Rattle.{
     },
   },
 }
+use Rattle.lapdm_datalink.proofs.ProgressSlots.{ack_one, answers_first, clock_within, due_clock, expires_due, no_ack, open_awaits, times_le}
 use Rattle.std.specs.Prelude.{◌-◌}
 use Rattle.lapdm_datalink.proofs.ProgressWaiting as P
 use Rattle.lapdm_datalink.proofs.ProgressFrames as F
@@ -413,7 +413,7 @@ module _ (r : Run) (u : NeverReleases r) (long : round_trip r.delay ≤ r.t200) 
         (omega (arith, (due_clock (ready_at r n Mobile) (expires_due (ready_at r n Mobile) y).0).0, ap (λ l. l.clock) e))
     opening_owes x y (K.joins o p i a t) =
         let d = expires_due (ready_at r n Mobile) y in
-        let w = waits_at r u Mobile n (sym (P.open_awaits (ready_at r n Mobile).endpoint p) ∙ (due_clock (ready_at r n Mobile) d.0).1)
+        let w = waits_at r u Mobile n (sym (open_awaits (ready_at r n Mobile).endpoint p) ∙ (due_clock (ready_at r n Mobile) d.0).1)
         d.1 in
         absurd (true-false (sym w.0 ∙ no_ack (link_at r n Mobile) (old_enough r u Mobile n (ap is_young x.state))))
     opening_owes x y (K.stays o p i a) = absurd (opening_not_open (sym x.state ∙ o))

@@ -14,10 +14,11 @@ use Rattle.{
     specs.Progress.{turn_at, arriving_at, ready_at, frame_at, is_lossy, one_if, round_trip, waiting_slots, lossy_slots, expiries},
     specs.Progress.expires_in,
     proofs.{ProgressStart.{ready_t200, idle_silent}, ProgressRuns.{NeverReleases, sound, link_step, arrived}, ProgressPaid.le_of},
-    proofs.{ProgressPaid.not_le_of, ProgressExpiries.loss_of, ProgressWaiting.{answers_first, answering_slots, lossy_by, eq_of}},
+    proofs.{ProgressPaid.not_le_of, ProgressExpiries.loss_of},
     proofs.{ProgressFrames.{Brings, sabm_of, ua_of}, ProgressKnown.{Known, Unclosed, MobileSlot, NetworkSlot}},
   },
 }
+use Rattle.lapdm_datalink.proofs.ProgressSlots.{answering_slots, answers_first, eq_of, lossy_by}
 use Rattle.lapdm_datalink.proofs.ProgressFrames as F
 use Rattle.lapdm_datalink.proofs.ProgressKnown as K
 

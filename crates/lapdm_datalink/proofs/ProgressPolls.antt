@@ -25,10 +25,11 @@ use Rattle.{
       ProgressRuns.{sound, link_step, NeverReleases},
       ProgressPaid.{in_sequence_or_polls, taken_is, arrived_other, le_of, not_le_of},
       ProgressExpiries.{true-false, owes_ready, i_parts, repeats, poll_is_i, answer_no_i},
-      ProgressWaiting.{answers_first, answering_slots, waits_at_most, repeats_at_most, open_closed},
+      ProgressWaiting.{waits_at_most, repeats_at_most},
     },
   },
 }
+use Rattle.lapdm_datalink.proofs.ProgressSlots.{answering_slots, answers_first, open_closed}
 
 -- ---- what an open link owes after a frame that does not poll
 

@@ -12,12 +12,13 @@ use Rattle.{
       ProgressStart.idle_silent,
       ProgressPaid.{le_of, not_le_of, arrived_other},
       ProgressPolls.{goes_first, is_for_poll},
-      ProgressWaiting.answers_first,
+      
       ProgressKnown.{Known, Unclosed, MobileSlot, NetworkSlot, known},
       ProgressOpening.{some_none, E, B, expiry_step, answer_step},
     },
   },
 }
+use Rattle.lapdm_datalink.proofs.ProgressSlots.{answers_first}
 use Rattle.lapdm_datalink.proofs.ProgressFrames as F
 use Rattle.lapdm_datalink.proofs.ProgressKnown as K
 

@@ -12,7 +12,7 @@ use Rattle.{
       ProgressStart.is_young,
       ProgressPaid.{le_of, not_le_of},
       ProgressExpiries.old_enough,
-      ProgressWaiting.{Stage, Next, pending, quiet, unsent, failed, going, times_le, no_ack, clock_within, eq_of},
+      ProgressWaiting.{Stage, Next, pending, quiet, unsent, failed, going},
       ProgressKnown.{Known, Unclosed, MobileSlot, NetworkSlot, known},
       ProgressOpening.{times_one, idle_not_open, W, E, B, Lo, waits_step, expiry_step, answer_step, loss_step, Calling, Through, Resting},
       ProgressOpening.{rest_on, begin, call_next, confirmed, not_due_yet, through_next, some_none},
@@ -20,6 +20,7 @@ use Rattle.{
     },
   },
 }
+use Rattle.lapdm_datalink.proofs.ProgressSlots.{clock_within, eq_of, no_ack, times_le}
 use Rattle.lapdm_datalink.proofs.ProgressWaiting as P
 use Rattle.lapdm_datalink.proofs.ProgressKnown as K
 use Rattle.lapdm_datalink.proofs.ProgressEarly as Y
