@@ -13,13 +13,11 @@ use Rattle.{
     specs.Channels.{Run, Slot, ChannelState, channel_at, channel_after, side_at, turn_of, before_sending, arriving, IsUse},
     specs.{Links.{slot_outcome, is_closed}, Progress.{link_at, turn_at, ready_at, frame_at, is_loss, is_loss_at, is_lossy, one_if}},
     specs.Progress.{waiting_slots, lossy_slots, expiries, expires_in, is_i_frame, is_repetition, IsWithoutRelease, IsPaid, Progress},
-    specs.Progress.{PaysForExpiries, Progresses, frames_at, FromStart, ProgressesFromStart, KeepsLinks},
-    proofs.{ProgressRuns.NeverReleases, ProgressExpiries.pays, ProgressPolls.progresses, ProgressFromStart.{from_start, keeps}},
+    specs.Progress.{PaysForExpiries, Progresses, frames_at, FromStart, ProgressesFromStart, KeepsLinks, NoneGaveUp},
+    proofs.{ProgressRuns.NeverReleases, ProgressExpiries.pays, ProgressPolls.progresses, ProgressFromStart.{from_start, keeps, unclosed}},
+    proofs.ProgressKnown.Unclosed,
   },
 }
-use Rattle.lapdm_datalink.specs.Progress.{NoneGaveUp}
-use Rattle.lapdm_datalink.proofs.ProgressFromStart.{unclosed}
-use Rattle.lapdm_datalink.proofs.ProgressKnown.{Unclosed}
 
 abbrev pub idle_slot : Slot
 idle_slot = record { mobile = record { calls = []; is_lost = false }; network = record { calls = []; is_lost = false } }

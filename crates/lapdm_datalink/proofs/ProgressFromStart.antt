@@ -1,8 +1,8 @@
 -- The bounds from the start of a run, and why few losses close no link.
 use Rattle.{
   std.specs.Prelude.{◌≡◌, ◌≢◌, ℕ, zero, suc, ◌+◌, ◌*◌, ◌≤◌, Bool, true, false, ◌⊎◌, nat_le, nat_lt, List},
-  std.{specs.Prelude.{[], ◌∷◌, Option, Some, None, All, ◌&&◌}, proofs.Common.{inl, inr, arith, refl, ap, sym, ◌∙◌}},
-  std.proofs.{lemmas.List.Elements.{All-head, All-tail}, Math.Nat.{add-mul, mul-add, one-mul}},
+  std.{specs.Prelude.{[], ◌∷◌, Option, Some, None, All, ◌&&◌, ◌-◌}, proofs.Common.{inl, inr, arith, refl, ap, sym}},
+  std.proofs.{Common.◌∙◌, lemmas.List.Elements.{All-head, All-tail}, Math.Nat.{add-mul, mul-add, one-mul}},
   lapdm_frame.specs.Content.{Content, I, Rr, Rej, Frame},
   lapdm_end.specs.lapdm_window.{
     declared.{State.TheVariants.{Idle, Opening, Open, Closed}, Sapi.TheVariants.Zero, Refused.Refused},
@@ -25,19 +25,18 @@ use Rattle.{
       ProgressRuns.{NeverReleases, sound, link_step},
       ProgressStart.{is_young, i_reply, rr_reply},
       ProgressPaid.{le_of, not_le_of},
-      ProgressExpiries.{old_enough, waits_at},
+      ProgressExpiries.{old_enough, waits_at, true-false},
       ProgressWaiting.{Stage, quiet, unsent, failed, going, pending},
       ProgressKnown.{Known, Unclosed, MobileSlot, NetworkSlot, known},
-      ProgressOpening.{true-false, times_one, idle_not_open, opening_not_open, idle_rests, W, E, B, Lo, expiry_step, loss_step, Calling},
-      ProgressOpening.{Through, must_fail},
+      ProgressOpening.{times_one, idle_rests, W, E, B, Lo, expiry_step, Calling, Through, must_fail},
       ProgressEarly.{Early, Alone, late_open, expires_not},
-      ProgressWhole.{Work, Whole, whole, few, IsUnheard, mobile_work},
-      ProgressTotal.{answers_total, idle_opening},
+      ProgressWhole.{Work, Whole, whole, few, IsUnheard, mobile_work, lo_up},
+      ProgressTotal.answers_total,
+      ProgressFrames.{idle_open, opening_open, idle_opening},
+      ProgressSlots.{ack_one, clock_within, due_clock, expires_due, no_ack, open_awaits, times_le},
     },
   },
 }
-use Rattle.lapdm_datalink.proofs.ProgressSlots.{ack_one, answers_first, clock_within, due_clock, expires_due, no_ack, open_awaits, times_le}
-use Rattle.std.specs.Prelude.{◌-◌}
 use Rattle.lapdm_datalink.proofs.ProgressWaiting as P
 use Rattle.lapdm_datalink.proofs.ProgressFrames as F
 use Rattle.lapdm_datalink.proofs.ProgressKnown as K
@@ -305,7 +304,8 @@ closed_calls role (c ∷ cs) l u h =
     one None e = absurd (closed_refuses role c l (All-head (IsUse role) c cs u) h e)
 
 module _ (r : Run) (u : NeverReleases r) where
-  closed_next : (n : ℕ) (role : Role) → (link_at r n role).endpoint.state ≡ Closed → (link_at r (suc n) role).endpoint.state ≡ Closed
+  closed_next : (n : ℕ) (role : Role) → (link_at r n role).endpoint.state ≡ Closed →
+      (link_at r (suc n) role).endpoint.state ≡ Closed
   closed_next n role h = ap (λ l. l.endpoint.state) (link_step r n role) ∙ by_slot (F.slot_state (ready_at r n role))
     where
       ready : (ready_at r n role).endpoint.state ≡ Closed
@@ -401,7 +401,7 @@ module _ (r : Run) (u : NeverReleases r) (long : round_trip r.delay ≤ r.t200) 
     network_ready o = by_slot (K.network_slot r u n h)
       where
         by_slot : NetworkSlot r u n → (ready_at r n Network).endpoint.state ≡ Open
-        by_slot (K.rests i e) = absurd (idle_not_open (sym i ∙ o))
+        by_slot (K.rests i e) = absurd (idle_open (sym i ∙ o))
         by_slot (K.joins i p x a q) = p
         by_slot (K.stays i p x a) = p
 
@@ -416,7 +416,7 @@ module _ (r : Run) (u : NeverReleases r) (long : round_trip r.delay ≤ r.t200) 
         let w = waits_at r u Mobile n (sym (open_awaits (ready_at r n Mobile).endpoint p) ∙ (due_clock (ready_at r n Mobile) d.0).1)
         d.1 in
         absurd (true-false (sym w.0 ∙ no_ack (link_at r n Mobile) (old_enough r u Mobile n (ap is_young x.state))))
-    opening_owes x y (K.stays o p i a) = absurd (opening_not_open (sym x.state ∙ o))
+    opening_owes x y (K.stays o p i a) = absurd (opening_open (sym x.state ∙ o))
 
     mobile_owes : Whole r u long n → expires_in (ready_at r n Mobile) ≡ true → MobileSlot r u n →
         E r u long n Mobile + 1 ≤ Lo r u long n
@@ -425,13 +425,13 @@ module _ (r : Run) (u : NeverReleases r) (long : round_trip r.delay ≤ r.t200) 
     mobile_owes (Z.resting x y) e (K.begins i o q s k a) = absurd (no_expiry (ready_at r n Mobile) e s)
     mobile_owes (Z.resting x y) e (K.tries o q) = absurd (idle_opening (sym x.state ∙ o))
     mobile_owes (Z.resting x y) e (K.joins o p i a t) = absurd (idle_opening (sym x.state ∙ o))
-    mobile_owes (Z.resting x y) e (K.stays o p i a) = absurd (idle_not_open (sym x.state ∙ o))
+    mobile_owes (Z.resting x y) e (K.stays o p i a) = absurd (idle_open (sym x.state ∙ o))
     mobile_owes (Z.calling x b y) e z = opening_owes x e z
     mobile_owes (Z.heard x v s t p late o w) e z = opening_owes x e z
-    mobile_owes (Z.joined o n0 n1 a there w b here v) e (K.rests i q) = absurd (idle_not_open (sym i ∙ o))
-    mobile_owes (Z.joined o n0 n1 a there w b here v) e (K.begins i p q s k x) = absurd (idle_not_open (sym i ∙ o))
-    mobile_owes (Z.joined o n0 n1 a there w b here v) e (K.tries p q) = absurd (opening_not_open (sym p ∙ o))
-    mobile_owes (Z.joined o n0 n1 a there w b here v) e (K.joins p q i x t) = absurd (opening_not_open (sym p ∙ o))
+    mobile_owes (Z.joined o n0 n1 a there w b here v) e (K.rests i q) = absurd (idle_open (sym i ∙ o))
+    mobile_owes (Z.joined o n0 n1 a there w b here v) e (K.begins i p q s k x) = absurd (idle_open (sym i ∙ o))
+    mobile_owes (Z.joined o n0 n1 a there w b here v) e (K.tries p q) = absurd (opening_open (sym p ∙ o))
+    mobile_owes (Z.joined o n0 n1 a there w b here v) e (K.joins p q i x t) = absurd (opening_open (sym p ∙ o))
     mobile_owes (Z.joined o n0 n1 a there w b here v) e (K.stays p q i x) =
         work_owes Mobile 1 n0 w (omega (arith, a)) q there e
 
@@ -442,7 +442,7 @@ module _ (r : Run) (u : NeverReleases r) (long : round_trip r.delay ≤ r.t200) 
         (link_at r n Mobile).endpoint.sabm_info) in
         true-false (sym e ∙ expires_not (ready_at r n Network)
         (F.ua_goes (ready_at r n Network) (link_at r n Mobile).endpoint.sabm_info p ua).1)
-    idle_owes i e (K.stays o p x a) = idle_not_open (sym i ∙ o)
+    idle_owes i e (K.stays o p x a) = idle_open (sym i ∙ o)
 
     early_owes : (x : Calling r u long n) → IsUnheard r u long n x → Early r u long n → expires_in (ready_at r n Network) ≡ true →
         5 ≤ E r u long n Network → E r u long n Network + 1 ≤ Lo r u long n
@@ -496,9 +496,6 @@ module _ (r : Run) (u : NeverReleases r) (long : round_trip r.delay ≤ r.t200) 
 
   -- ---- no loss closes it, unless there are six
 
-  lo_up : (n : ℕ) → Lo r u long n ≤ Lo r u long (suc n)
-  lo_up n = omega (arith, loss_step r u long n)
-
   keeps_next : (n : ℕ) → Lo r u long (suc n) ≤ 5 → Unclosed r u n → Unclosed r u (suc n)
   keeps_next n h before j a role e = by_last (nat_le j n) refl
     where
@@ -506,7 +503,7 @@ module _ (r : Run) (u : NeverReleases r) (long : round_trip r.delay ≤ r.t200) 
       by_last true q = before j (le_of j n q) role e
       by_last false q =
           let same : j ≡ suc n = omega (arith, not_le_of j n q, a) in
-          omega (arith, closes n (known r u n before) (whole r u long n before) role (rw same at e), h, lo_up n)
+          omega (arith, closes n (known r u n before) (whole r u long n before) role (rw same at e), h, lo_up r u long n)
 
   keeps_start : Unclosed r u 0
   keeps_start j a role e = start_closed role (let same : j ≡ 0 = omega (arith, a) in rw same at e)
@@ -517,4 +514,4 @@ module _ (r : Run) (u : NeverReleases r) (long : round_trip r.delay ≤ r.t200) 
 
   pub keeps : (n : ℕ) → Lo r u long n ≤ 5 → Unclosed r u n
   keeps zero h = keeps_start
-  keeps (suc n) h = keeps_next n h (keeps n (omega (arith, h, lo_up n)))
+  keeps (suc n) h = keeps_next n h (keeps n (omega (arith, h, lo_up r u long n)))

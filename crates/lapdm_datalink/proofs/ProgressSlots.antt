@@ -1,27 +1,16 @@
 -- What is counted in a slot: a frame that is due, an answer that goes first, an expiry of T200, and a loss.
 use Rattle.{
-  std.specs.Prelude.{◌≡◌, ◌≢◌, ℕ, zero, suc, ◌+◌, ◌-◌, ◌*◌, ◌≤◌, Bool, true, false, ◌&&◌, ◌||◌},
-  std.{specs.Prelude.{◌⊎◌, nat_le, nat_eq, List, Some}, proofs.Common.{inl, inr, arith, refl, ap, sym, ◌∙◌}},
-  std.proofs.Math.Nat.{mul-add, mul-one},
-  lapdm_frame.specs.Content.{I, Frame},
+  std.specs.Prelude.{◌≡◌, ℕ, zero, suc, ◌+◌, ◌-◌, ◌*◌, ◌≤◌, Bool, true, false, ◌&&◌, ◌||◌, ◌⊎◌},
+  std.{specs.Prelude.{nat_eq, Some}, proofs.{Common.{inl, inr, arith, refl, ap, sym, ◌∙◌}, Math.Nat.{mul-add, mul-one}}},
+  lapdm_frame.specs.Content.Frame,
   lapdm_end.specs.lapdm_window.{
     declared.State.TheVariants.{Open, Closed},
     Ends.{Role, Mobile, Network, EndpointState, awaits_answer, awaits_ack},
   },
-  lapdm_link.specs.Events.other,
   lapdm_datalink.{
-    specs.{Links.{LinkState, slot_outcome, is_due, keeps_back}, Channels.Run, Progress.{link_at, turn_at, arriving_at, ready_at, frame_at}},
-    specs.Progress.{is_loss_at, round_trip, is_i_frame, is_lossy, one_if, waiting_slots, lossy_slots, expiries, AreOpen, acked_at},
-    specs.Progress.{expires_in, answer_goes},
-    proofs.{
-      ProgressSteps.{acked, issued, aired, Moves},
-      ProgressLink.{slot_acked, slot_issued, aired_unsent, aired_sent},
-      ProgressStart.{ready_t200, ready_moves, ready_due, slot_open, clock_after},
-      ProgressWaits.{SlotWay, sends, blocked, counts, slot_way},
-      ProgressRuns.{sound, slotted_in, link_step, counted, NeverReleases},
-      ProgressPaid.{acked_in_time, answered_frame, le_of, not_le_of},
-      ProgressExpiries.{i_parts, loss_of, true-false, waits_at, awaits_same},
-    },
+    specs.{Links.{LinkState, slot_outcome, is_due, keeps_back}, Channels.Run, Progress.{link_at, turn_at, arriving_at, ready_at}},
+    specs.Progress.{is_loss_at, is_lossy, one_if, expires_in, answer_goes},
+    proofs.{ProgressSteps.{acked, issued}, ProgressStart.{ready_t200, clock_after}, ProgressRuns.{sound, link_step, NeverReleases}},
   },
 }
 
@@ -118,3 +107,11 @@ clock_within r u role (suc n) = by_slot (clock_after role (arriving_at r n role)
           ((sound r u n).settled role).owes ((sound r u n).idle role) (u n role),
       (sound r u n).t200 role,
     )
+
+pub one_at_most : (b c : Bool) → (b ≡ true → c ≡ true) → one_if b ≤ one_if c
+one_at_most true c h = omega (arith, ap one_if (h refl))
+one_at_most false c h = omega arith
+
+pub one_most : (b : Bool) → one_if b ≤ 1
+one_most true = omega arith
+one_most false = omega arith

@@ -1,30 +1,26 @@
 -- How long a link of SAPI 0 waits while both are open: each slot of waiting is charged to a segment, to a loss, or to an answer.
 use Rattle.{
-  std.specs.Prelude.{◌≡◌, ◌≢◌, ℕ, zero, suc, ◌+◌, ◌-◌, ◌*◌, ◌≤◌, Bool, true, false, ◌&&◌, ◌||◌},
-  std.{specs.Prelude.{◌⊎◌, nat_le, nat_eq, List, Some}, proofs.Common.{inl, inr, arith, refl, ap, sym, ◌∙◌}},
-  std.proofs.Math.Nat.{mul-add, mul-one},
+  std.specs.Prelude.{◌≡◌, ◌≢◌, ℕ, zero, suc, ◌+◌, ◌-◌, ◌*◌, ◌≤◌, Bool, true, false, nat_le, nat_eq, List},
+  std.{specs.Prelude.Some, proofs.{Common.{arith, refl, ap, sym, ◌∙◌}, Math.Nat.{mul-add, mul-one}}},
   lapdm_frame.specs.Content.{I, Frame},
-  lapdm_end.specs.lapdm_window.{
-    declared.State.TheVariants.{Open, Closed},
-    Ends.{Role, Mobile, Network, EndpointState, awaits_answer, awaits_ack},
-  },
+  lapdm_end.specs.lapdm_window.{declared.State.TheVariants.{Open, Closed}, Ends.{Role, awaits_answer, awaits_ack}},
   lapdm_link.specs.Events.other,
   lapdm_datalink.{
-    specs.{Links.{LinkState, slot_outcome, is_due, keeps_back}, Channels.Run, Progress.{link_at, turn_at, arriving_at, ready_at, frame_at}},
-    specs.Progress.{is_loss_at, round_trip, is_i_frame, is_lossy, one_if, waiting_slots, lossy_slots, expiries, AreOpen, acked_at},
-    specs.Progress.{expires_in, answer_goes},
+    specs.{Links.{LinkState, slot_outcome, is_due}, Channels.Run, Progress.{link_at, turn_at, arriving_at, ready_at, frame_at, round_trip}},
+    specs.Progress.{is_i_frame, is_lossy, one_if, waiting_slots, lossy_slots, expiries, AreOpen, acked_at, expires_in, answer_goes},
     proofs.{
       ProgressSteps.{acked, issued, aired, Moves},
       ProgressLink.{slot_acked, slot_issued, aired_unsent, aired_sent},
-      ProgressStart.{ready_t200, ready_moves, ready_due, slot_open, clock_after},
+      ProgressStart.{ready_t200, ready_moves, ready_due, slot_open},
       ProgressWaits.{SlotWay, sends, blocked, counts, slot_way},
       ProgressRuns.{sound, slotted_in, link_step, counted, NeverReleases},
       ProgressPaid.{acked_in_time, answered_frame, le_of, not_le_of},
       ProgressExpiries.{i_parts, loss_of, true-false, waits_at, awaits_same},
+      ProgressSlots.{answers_first, answering_slots, open_awaits, due_clock, not_due, ack_none, ack_one, expires_due, both, goes_it},
+      ProgressSlots.{open_closed, eq_of, above, no_ack, times_next, times_le, cost, apart, lossy_by, clock_within},
     },
   },
 }
-use Rattle.lapdm_datalink.proofs.ProgressSlots.{answers_first, answering_slots, open_awaits, due_clock, not_due, ack_none, ack_one, expires_due, both, goes_it, open_closed, eq_of, above, no_ack, times_next, times_le, cost, apart, lossy_by, clock_within}
 
 module _ (r : Run) (u : NeverReleases r) (long : round_trip r.delay ≤ r.t200) (n0 : ℕ) (role : Role) where
   abbrev pub L : ℕ → LinkState
