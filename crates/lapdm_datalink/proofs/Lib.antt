@@ -11,6 +11,7 @@ pub mod ProgressWaits
 pub mod ProgressRuns
 pub mod ProgressPaid
 pub mod ProgressExpiries
+pub mod ProgressSlots
 pub mod ProgressWaiting
 pub mod ProgressPolls
 pub mod ProgressCut

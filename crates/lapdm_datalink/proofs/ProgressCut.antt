@@ -13,8 +13,9 @@ use Rattle.{
     specs.Channels.{Run, Slot, ChannelState, channel_at, channel_after, side_at, turn_of, before_sending, arriving, IsUse},
     specs.{Links.{slot_outcome, is_closed}, Progress.{link_at, turn_at, ready_at, frame_at, is_loss, is_loss_at, is_lossy, one_if}},
     specs.Progress.{waiting_slots, lossy_slots, expiries, expires_in, is_i_frame, is_repetition, IsWithoutRelease, IsPaid, Progress},
-    specs.Progress.{PaysForExpiries, Progresses, frames_at, FromStart, ProgressesFromStart, KeepsLinks},
-    proofs.{ProgressRuns.NeverReleases, ProgressExpiries.pays, ProgressPolls.progresses, ProgressFromStart.{from_start, keeps}},
+    specs.Progress.{PaysForExpiries, Progresses, frames_at, FromStart, ProgressesFromStart, KeepsLinks, NoneGaveUp},
+    proofs.{ProgressRuns.NeverReleases, ProgressExpiries.pays, ProgressPolls.progresses, ProgressFromStart.{from_start, keeps, unclosed}},
+    proofs.ProgressKnown.Unclosed,
   },
 }
 
@@ -104,6 +105,15 @@ module _ (m : ℕ) (r : Run) where
 true_false : true ≡ false → ⊥
 true_false h = cc
 
+not_closed : (s : State) → s ≢ Closed → is_closed s ≡ false
+not_closed Closed h = absurd (h refl)
+not_closed other h = refl
+
+-- a link that is not closed was not closed before
+none_closed : (m : ℕ) (r : Run) (u : IsWithoutRelease r m) (n : ℕ) → n ≤ m → NoneGaveUp r n → Unclosed (cut m r) (never m r u) n
+none_closed m r u n h none = unclosed (cut m r) (never m r u) n
+    (λ q e. true_false (sym (ap is_closed (ap (λ l. l.endpoint.state) (sym (link_same m r n h q)) ∙ e)) ∙ none q))
+
 pub pays_for_expiries : (r : Run) → PaysForExpiries r
 pays_for_expiries r long n u none role again = record {
   slot = x.slot;
@@ -119,7 +129,7 @@ pays_for_expiries r long n u none role again = record {
 
     x : IsPaid (cut m r) n role
     x = pays (cut m r) (never m r u) long n
-        (λ k h q. ap (λ l. is_closed l.endpoint.state) (link_same m r k (omega (arith, h)) q) ∙ none k h q) role
+        (λ k h q. not_closed (link_at (cut m r) k q).endpoint.state (none_closed m r u n (omega arith) none k h q)) role
         (ap is_repetition (frame_same m r n (omega arith) role) ∙ again)
 
     early : suc (suc x.slot + r.delay) ≤ m
@@ -149,10 +159,6 @@ all_progress r long n k u o role = record {
     acked_last : (link_at (cut m r) (n + k) role).endpoint.acked_segments ≡ (link_at r (n + k) role).endpoint.acked_segments
     acked_last = ap (λ l. l.endpoint.acked_segments) (link_same m r (n + k) (omega arith) role)
 
-not_closed : (s : State) → s ≢ Closed → is_closed s ≡ false
-not_closed Closed h = absurd (h refl)
-not_closed other h = refl
-
 module _ (r : Run) (k : ℕ) (u : IsWithoutRelease r k) where
   frames_same : (role : Role) → frames_at (cut k r) k role ≡ frames_at r k role
   frames_same Mobile = ap (λ l. one_if (not (is_idle l.endpoint.state)) + l.endpoint.sent_segments)
@@ -167,11 +173,7 @@ module _ (r : Run) (k : ℕ) (u : IsWithoutRelease r k) where
 
 pub progress_from_start : (r : Run) → ProgressesFromStart r
 progress_from_start r long k u none role =
-    from_cut r k u role (from_start (cut k r) (never k r u) long k (λ j a q e. closed_false (none j a q)
-    (ap (λ l. l.endpoint.state) (sym (link_same k r j a q)) ∙ e)) role)
-  where
-    closed_false : {s : State} → is_closed s ≡ false → s ≡ Closed → ⊥
-    closed_false h e = absurd (true_false (sym (ap is_closed e) ∙ h))
+    from_cut r k u role (from_start (cut k r) (never k r u) long k (none_closed k r u k (omega arith) none) role)
 
 pub few_losses_keep_links : (r : Run) → KeepsLinks r
 few_losses_keep_links r long k u few role =

@@ -18,12 +18,11 @@ use Rattle.{
       ProgressRuns.{NeverReleases, sound, slotted_in, link_step, arrived, nothing_arrives, carried_none},
       ProgressWaits.{SlotWay, sends, blocked, counts, slot_way},
       ProgressPaid.{le_of, not_le_of},
-      ProgressExpiries.waits_at,
-      ProgressWaiting.{open_awaits, due_clock, not_due, no_ack, ack_one, times_le, expires_due, goes_it, both},
-      ProgressFrames.{Brings, sabm_of, ua_of},
+      ProgressExpiries.{waits_at, true-false},
+      ProgressFrames.{Brings, sabm_of, ua_of, idle_open},
       ProgressKnown.{Known, Unclosed, NetworkSlot},
-      ProgressOpening.{true-false, times_one, one_most, idle_rests, young_number, idle_not_open, W, E, B, waits_step, expiry_step},
-      ProgressOpening.{answer_step, Calling},
+      ProgressOpening.{times_one, idle_rests, young_number, W, E, B, waits_step, expiry_step, answer_step, Calling},
+      ProgressSlots.{one_most, ack_one, both, due_clock, expires_due, goes_it, no_ack, not_due, open_awaits, times_le},
     },
   },
 }
@@ -281,9 +280,9 @@ module _ (r : Run) (u : NeverReleases r) (long : round_trip r.delay ≤ r.t200) 
                 ≡ ua_of (link_at r n Mobile).endpoint.sabm_info
             ua_is_response = F.response_is l ((sound r u n).good Network).sapi ((sound r u n).roles Network)
                 (link_at r n Mobile).endpoint.sabm_info
-        by_slot (idle i w e) (K.stays o p y a) = absurd (idle_not_open (sym i ∙ o))
-        by_slot (alone q a b o x) (K.rests j y) = absurd (idle_not_open (sym j ∙ o))
-        by_slot (alone q a b o x) (K.joins j p y z v) = absurd (idle_not_open (sym j ∙ o))
+        by_slot (idle i w e) (K.stays o p y a) = absurd (idle_open (sym i ∙ o))
+        by_slot (alone q a b o x) (K.rests j y) = absurd (idle_open (sym j ∙ o))
+        by_slot (alone q a b o x) (K.joins j p y z v) = absurd (idle_open (sym j ∙ o))
         by_slot (alone q a b o x) (K.stays o' p y z) =
             alone q (omega (arith, a)) b (K.state_next r u n c Network ∙ p) (alone_next p q a x)
 

@@ -259,20 +259,20 @@ call_to Mobile (Opens info) l u None e = opens_to l info e
 call_to Network (Opens info) l u None e = absurd (network_mobile u)
 call_to role other l u None e = absurd u
 
-idle_opening : Idle ≡ Opening → ⊥
+pub idle_opening : Idle ≡ Opening → ⊥
 idle_opening h = cc
 
-pub open_opening : Open ≡ Opening → ⊥
-open_opening h = cc
+pub opening_open : Opening ≡ Open → ⊥
+opening_open h = cc
 
-idle_open : Idle ≡ Open → ⊥
+pub idle_open : Idle ≡ Open → ⊥
 idle_open h = cc
 
 then_to : (role : Role) (l m k : LinkState) → CalledTo role l m → CalledTo role m k → CalledTo role l k
 then_to role l m k (nothing e) y = rw e at y
 then_to role l m k x (nothing e) = rw (sym e) at x
 then_to role l m k (opens a b c d f g) (opens a' b' c' d' f' g') = absurd (idle_opening (sym b' ∙ c))
-then_to role l m k (opens a b c d f g) (sends b' c' d') = absurd (open_opening (sym b' ∙ c))
+then_to role l m k (opens a b c d f g) (sends b' c' d') = absurd (opening_open (sym c ∙ b'))
 then_to role l m k (sends a b c) (opens a' b' c' d' f' g') = absurd (idle_open (sym b' ∙ b))
 then_to role l m k (sends a b c) (sends a' b' c') = sends a b' (c' ∙ c)
 

@@ -1,8 +1,8 @@
 -- The bounds from the start of a run, and why few losses close no link.
 use Rattle.{
   std.specs.Prelude.{◌≡◌, ◌≢◌, ℕ, zero, suc, ◌+◌, ◌*◌, ◌≤◌, Bool, true, false, ◌⊎◌, nat_le, nat_lt, List},
-  std.{specs.Prelude.{[], ◌∷◌, Option, Some, None, All, ◌&&◌}, proofs.Common.{inl, inr, arith, refl, ap, sym, ◌∙◌}},
-  std.proofs.{lemmas.List.Elements.{All-head, All-tail}, Math.Nat.{add-mul, mul-add, one-mul}},
+  std.{specs.Prelude.{[], ◌∷◌, Option, Some, None, All, ◌&&◌, ◌-◌}, proofs.Common.{inl, inr, arith, refl, ap, sym}},
+  std.proofs.{Common.◌∙◌, lemmas.List.Elements.{All-head, All-tail}, Math.Nat.{add-mul, mul-add, one-mul}},
   lapdm_frame.specs.Content.{Content, I, Rr, Rej, Frame},
   lapdm_end.specs.lapdm_window.{
     declared.{State.TheVariants.{Idle, Opening, Open, Closed}, Sapi.TheVariants.Zero, Refused.Refused},
@@ -25,15 +25,15 @@ use Rattle.{
       ProgressRuns.{NeverReleases, sound, link_step},
       ProgressStart.{is_young, i_reply, rr_reply},
       ProgressPaid.{le_of, not_le_of},
-      ProgressExpiries.{old_enough, waits_at},
-      ProgressWaiting.{Stage, quiet, unsent, failed, going, pending, answers_first, times_le, ack_one, clock_within, expires_due},
-      ProgressWaiting.{due_clock, no_ack},
+      ProgressExpiries.{old_enough, waits_at, true-false},
+      ProgressWaiting.{Stage, quiet, unsent, failed, going, pending},
       ProgressKnown.{Known, Unclosed, MobileSlot, NetworkSlot, known},
-      ProgressOpening.{true-false, times_one, idle_not_open, opening_not_open, idle_rests, W, E, B, Lo, expiry_step, loss_step, Calling},
-      ProgressOpening.{Through, must_fail},
+      ProgressOpening.{times_one, idle_rests, W, E, B, Lo, expiry_step, Calling, Through, must_fail},
       ProgressEarly.{Early, Alone, late_open, expires_not},
-      ProgressWhole.{Work, Whole, whole, few, IsUnheard, mobile_work},
-      ProgressTotal.{answers_total, idle_opening},
+      ProgressWhole.{Work, Whole, whole, few, IsUnheard, mobile_work, lo_up},
+      ProgressTotal.answers_total,
+      ProgressFrames.{idle_open, opening_open, idle_opening},
+      ProgressSlots.{ack_one, clock_within, due_clock, expires_due, no_ack, open_awaits, times_le},
     },
   },
 }
@@ -256,6 +256,79 @@ module _ (s : ℕ) (cr : Bool) (l : LinkState) where
   reply_retries (Rej nr p) = rr_fewer nr p
   reply_retries other = grind arith
 
+-- ---- Closed is never left
+
+closed_open : Closed ≡ Open → ⊥
+closed_open q = cc
+
+module _ (s : ℕ) (cr : Bool) (l : LinkState) where
+  closed_reply : (c : Content) → l.endpoint.state ≡ Closed →
+      (outcome_of_reply (reply_with s cr l c) l.endpoint).new_state.state ≡ Closed
+  closed_reply (I ns nr p more info) h = by_reply (i_reply s cr l ns nr p more info)
+    where
+      by_reply : ((reply_with s cr l (I ns nr p more info) ≡ TakesIFrame ns nr p (info, more)) × (l.endpoint.state ≡ Open))
+          ⊎ (reply_with s cr l (I ns nr p more info) ≡ Nothing) ⊎ (reply_with s cr l (I ns nr p more info) ≡ SendsDm) →
+          (outcome_of_reply (reply_with s cr l (I ns nr p more info)) l.endpoint).new_state.state ≡ Closed
+      by_reply (inl (e, o)) = absurd (closed_open (sym h ∙ o))
+      by_reply (inr (inl e)) = ap (λ q. (outcome_of_reply q l.endpoint).new_state.state) e ∙ h
+      by_reply (inr (inr e)) = ap (λ q. (outcome_of_reply q l.endpoint).new_state.state) e ∙ h
+  closed_reply other h = grind (arith, h)
+
+closed_arriving : (o : Option Frame) (l : LinkState) → l.endpoint.sapi ≡ Zero → l.endpoint.state ≡ Closed →
+    (after_arriving o l).endpoint.state ≡ Closed
+closed_arriving None l z h = h
+closed_arriving (Some f) l z h = by_taken (frame_taken f l z)
+  where
+    by_taken : (after_frame f l ≡ l) ⊎ (after_frame f l ≡ taken (reply_with f.sapi f.cr l f.content) l) →
+        (after_frame f l).endpoint.state ≡ Closed
+    by_taken (inl e) = ap (λ m. m.endpoint.state) e ∙ h
+    by_taken (inr e) = ap (λ m. m.endpoint.state) e
+        ∙ ap (λ x. x.state) (outcome_endpoint (outcome_of_reply (reply_with f.sapi f.cr l f.content) l.endpoint) l)
+        ∙ closed_reply f.sapi f.cr l f.content h
+
+closed_refuses : (role : Role) (c : Call) (l : LinkState) → IsUse role c → l.endpoint.state ≡ Closed →
+    refusal_of c l.endpoint ≡ None → ⊥
+closed_refuses role (Sends m) l u h e = grind (arith, h, e)
+closed_refuses role (Opens info) l u h e = grind (arith, h, e)
+closed_refuses role other l u h e = absurd u
+
+closed_calls : (role : Role) (cs : List Call) (l : LinkState) → All (IsUse role) cs → l.endpoint.state ≡ Closed →
+    (after_calls cs l).endpoint.state ≡ Closed
+closed_calls role [] l u h = h
+closed_calls role (c ∷ cs) l u h =
+    closed_calls role cs (after_call_unless (refusal_of c l.endpoint) c l) (All-tail (IsUse role) c cs u)
+    (one (refusal_of c l.endpoint) refl)
+  where
+    one : (x : Option Refused) → refusal_of c l.endpoint ≡ x → (after_call_unless x c l).endpoint.state ≡ Closed
+    one (Some why) e = h
+    one None e = absurd (closed_refuses role c l (All-head (IsUse role) c cs u) h e)
+
+module _ (r : Run) (u : NeverReleases r) where
+  closed_next : (n : ℕ) (role : Role) → (link_at r n role).endpoint.state ≡ Closed →
+      (link_at r (suc n) role).endpoint.state ≡ Closed
+  closed_next n role h = ap (λ l. l.endpoint.state) (link_step r n role) ∙ by_slot (F.slot_state (ready_at r n role))
+    where
+      ready : (ready_at r n role).endpoint.state ≡ Closed
+      ready = closed_calls role (turn_at r n role).calls (after_arriving (arriving_at r n role) (link_at r n role)) (u n role)
+          (closed_arriving (arriving_at r n role) (link_at r n role) ((sound r u n).good role).sapi h)
+
+      by_slot : ((slot_outcome (ready_at r n role)).link.endpoint.state ≡ (ready_at r n role).endpoint.state)
+          ⊎ ((slot_outcome (ready_at r n role)).link.endpoint.state ≡ Closed) →
+          (slot_outcome (ready_at r n role)).link.endpoint.state ≡ Closed
+      by_slot (inl e) = e ∙ ready
+      by_slot (inr e) = e
+
+  closed_on : (n k : ℕ) (role : Role) → (link_at r n role).endpoint.state ≡ Closed →
+      (link_at r (n + k) role).endpoint.state ≡ Closed
+  closed_on n zero role h = let e : n + 0 ≡ n = omega arith in rw e h
+  closed_on n (suc k) role h = let e : n + suc k ≡ suc (n + k) = omega arith in rw e (closed_next (n + k) role (closed_on n k role h))
+
+  pub unclosed : (n : ℕ) → ((role : Role) → (link_at r n role).endpoint.state ≢ Closed) → Unclosed r u n
+  unclosed n h j a role q =
+      let e : j + (n - j) ≡ n = omega (arith, a) in h role (rw e at (closed_on j (n - j) role q))
+
+-- ---- repetitions are counted
+
 arriving_retries : (o : Option Frame) (l : LinkState) → l.endpoint.sapi ≡ Zero →
     (after_arriving o l).endpoint.retries ≤ l.endpoint.retries
 arriving_retries None l z = omega arith
@@ -328,7 +401,7 @@ module _ (r : Run) (u : NeverReleases r) (long : round_trip r.delay ≤ r.t200) 
     network_ready o = by_slot (K.network_slot r u n h)
       where
         by_slot : NetworkSlot r u n → (ready_at r n Network).endpoint.state ≡ Open
-        by_slot (K.rests i e) = absurd (idle_not_open (sym i ∙ o))
+        by_slot (K.rests i e) = absurd (idle_open (sym i ∙ o))
         by_slot (K.joins i p x a q) = p
         by_slot (K.stays i p x a) = p
 
@@ -340,10 +413,10 @@ module _ (r : Run) (u : NeverReleases r) (long : round_trip r.delay ≤ r.t200) 
         (omega (arith, (due_clock (ready_at r n Mobile) (expires_due (ready_at r n Mobile) y).0).0, ap (λ l. l.clock) e))
     opening_owes x y (K.joins o p i a t) =
         let d = expires_due (ready_at r n Mobile) y in
-        let w = waits_at r u Mobile n (sym (P.open_awaits (ready_at r n Mobile).endpoint p) ∙ (due_clock (ready_at r n Mobile) d.0).1)
+        let w = waits_at r u Mobile n (sym (open_awaits (ready_at r n Mobile).endpoint p) ∙ (due_clock (ready_at r n Mobile) d.0).1)
         d.1 in
         absurd (true-false (sym w.0 ∙ no_ack (link_at r n Mobile) (old_enough r u Mobile n (ap is_young x.state))))
-    opening_owes x y (K.stays o p i a) = absurd (opening_not_open (sym x.state ∙ o))
+    opening_owes x y (K.stays o p i a) = absurd (opening_open (sym x.state ∙ o))
 
     mobile_owes : Whole r u long n → expires_in (ready_at r n Mobile) ≡ true → MobileSlot r u n →
         E r u long n Mobile + 1 ≤ Lo r u long n
@@ -352,13 +425,13 @@ module _ (r : Run) (u : NeverReleases r) (long : round_trip r.delay ≤ r.t200) 
     mobile_owes (Z.resting x y) e (K.begins i o q s k a) = absurd (no_expiry (ready_at r n Mobile) e s)
     mobile_owes (Z.resting x y) e (K.tries o q) = absurd (idle_opening (sym x.state ∙ o))
     mobile_owes (Z.resting x y) e (K.joins o p i a t) = absurd (idle_opening (sym x.state ∙ o))
-    mobile_owes (Z.resting x y) e (K.stays o p i a) = absurd (idle_not_open (sym x.state ∙ o))
+    mobile_owes (Z.resting x y) e (K.stays o p i a) = absurd (idle_open (sym x.state ∙ o))
     mobile_owes (Z.calling x b y) e z = opening_owes x e z
     mobile_owes (Z.heard x v s t p late o w) e z = opening_owes x e z
-    mobile_owes (Z.joined o n0 n1 a there w b here v) e (K.rests i q) = absurd (idle_not_open (sym i ∙ o))
-    mobile_owes (Z.joined o n0 n1 a there w b here v) e (K.begins i p q s k x) = absurd (idle_not_open (sym i ∙ o))
-    mobile_owes (Z.joined o n0 n1 a there w b here v) e (K.tries p q) = absurd (opening_not_open (sym p ∙ o))
-    mobile_owes (Z.joined o n0 n1 a there w b here v) e (K.joins p q i x t) = absurd (opening_not_open (sym p ∙ o))
+    mobile_owes (Z.joined o n0 n1 a there w b here v) e (K.rests i q) = absurd (idle_open (sym i ∙ o))
+    mobile_owes (Z.joined o n0 n1 a there w b here v) e (K.begins i p q s k x) = absurd (idle_open (sym i ∙ o))
+    mobile_owes (Z.joined o n0 n1 a there w b here v) e (K.tries p q) = absurd (opening_open (sym p ∙ o))
+    mobile_owes (Z.joined o n0 n1 a there w b here v) e (K.joins p q i x t) = absurd (opening_open (sym p ∙ o))
     mobile_owes (Z.joined o n0 n1 a there w b here v) e (K.stays p q i x) =
         work_owes Mobile 1 n0 w (omega (arith, a)) q there e
 
@@ -369,7 +442,7 @@ module _ (r : Run) (u : NeverReleases r) (long : round_trip r.delay ≤ r.t200) 
         (link_at r n Mobile).endpoint.sabm_info) in
         true-false (sym e ∙ expires_not (ready_at r n Network)
         (F.ua_goes (ready_at r n Network) (link_at r n Mobile).endpoint.sabm_info p ua).1)
-    idle_owes i e (K.stays o p x a) = idle_not_open (sym i ∙ o)
+    idle_owes i e (K.stays o p x a) = idle_open (sym i ∙ o)
 
     early_owes : (x : Calling r u long n) → IsUnheard r u long n x → Early r u long n → expires_in (ready_at r n Network) ≡ true →
         5 ≤ E r u long n Network → E r u long n Network + 1 ≤ Lo r u long n
@@ -397,9 +470,6 @@ module _ (r : Run) (u : NeverReleases r) (long : round_trip r.delay ≤ r.t200) 
     closed_opening : Closed ≡ Opening → ⊥
     closed_opening q = cc
 
-    closed_open : Closed ≡ Open → ⊥
-    closed_open q = cc
-
     mobile_ready : MobileSlot r u n → (ready_at r n Mobile).endpoint.state ≢ Closed
     mobile_ready (K.rests i e) q = closed_idle (sym q ∙ ap (λ l. l.endpoint.state) e ∙ i)
     mobile_ready (K.begins i o x s k a) q = closed_opening (sym q ∙ o)
@@ -424,8 +494,7 @@ module _ (r : Run) (u : NeverReleases r) (long : round_trip r.delay ≤ r.t200) 
         let five : 5 ≤ E r u long n Network = omega (arith, x.1, ready_retries n Network, retries_most n Network) in
         omega (arith, network_owes w x.0 five, five)
 
-  lo_up : (n : ℕ) → Lo r u long n ≤ Lo r u long (suc n)
-  lo_up n = omega (arith, loss_step r u long n)
+  -- ---- no loss closes it, unless there are six
 
   keeps_next : (n : ℕ) → Lo r u long (suc n) ≤ 5 → Unclosed r u n → Unclosed r u (suc n)
   keeps_next n h before j a role e = by_last (nat_le j n) refl
@@ -434,7 +503,7 @@ module _ (r : Run) (u : NeverReleases r) (long : round_trip r.delay ≤ r.t200) 
       by_last true q = before j (le_of j n q) role e
       by_last false q =
           let same : j ≡ suc n = omega (arith, not_le_of j n q, a) in
-          omega (arith, closes n (known r u n before) (whole r u long n before) role (rw same at e), h, lo_up n)
+          omega (arith, closes n (known r u n before) (whole r u long n before) role (rw same at e), h, lo_up r u long n)
 
   keeps_start : Unclosed r u 0
   keeps_start j a role e = start_closed role (let same : j ≡ 0 = omega (arith, a) in rw same at e)
@@ -445,4 +514,4 @@ module _ (r : Run) (u : NeverReleases r) (long : round_trip r.delay ≤ r.t200) 
 
   pub keeps : (n : ℕ) → Lo r u long n ≤ 5 → Unclosed r u n
   keeps zero h = keeps_start
-  keeps (suc n) h = keeps_next n h (keeps n (omega (arith, h, lo_up n)))
+  keeps (suc n) h = keeps_next n h (keeps n (omega (arith, h, lo_up r u long n)))

@@ -13,21 +13,13 @@ use Rattle.{
       ProgressStart.{is_young, ready_called, ready_role, ready_moves, idle_silent},
       ProgressRuns.{NeverReleases, sound, slotted_in, link_step, sent_step},
       ProgressFrames.{Brings, opened, accepting, StaysOpen, CalledTo, nothing, opens, sends, calls_to, slot_info, slot_state},
-      ProgressFrames.{opening_brings, open_brings, opening_arrives, idle_arrives, open_arrives, still_brings},
+      ProgressFrames.{opening_brings, open_brings, opening_arrives, idle_arrives, open_arrives, still_brings, idle_opening, idle_open},
+      ProgressFrames.opening_open,
     },
     specs.{Links.{LinkState, slot_outcome, after_slot}, Channels.{Run, channel_at, side_at, after_calls, after_arriving, carried}},
     specs.Progress.{link_at, turn_at, arriving_at, ready_at, frame_at},
   },
 }
-
-pub idle_opening : Idle ≡ Opening → ⊥
-idle_opening h = cc
-
-idle_open : Idle ≡ Open → ⊥
-idle_open h = cc
-
-opening_open : Opening ≡ Open → ⊥
-opening_open h = cc
 
 true_false : true ≡ false → ⊥
 true_false h = cc

@@ -13,16 +13,19 @@ use Rattle.{
     specs.{Links.{LinkState, slot_outcome, after_slot}, Slots.nr_in, Channels.{Run, after_calls, after_arriving}, Progress.link_at},
     specs.Progress.{turn_at, arriving_at, ready_at, frame_at, is_lossy, one_if, round_trip, waiting_slots, lossy_slots, expiries},
     specs.Progress.expires_in,
-    proofs.{ProgressStart.{ready_t200, idle_silent}, ProgressRuns.{NeverReleases, sound, link_step, arrived}, ProgressPaid.le_of},
-    proofs.{ProgressPaid.not_le_of, ProgressExpiries.loss_of, ProgressWaiting.{answers_first, answering_slots, lossy_by, eq_of}},
-    proofs.{ProgressFrames.{Brings, sabm_of, ua_of}, ProgressKnown.{Known, Unclosed, MobileSlot, NetworkSlot}},
+    proofs.{
+      ProgressStart.{ready_t200, idle_silent},
+      ProgressRuns.{NeverReleases, sound, link_step, arrived},
+      ProgressPaid.{le_of, not_le_of},
+      ProgressExpiries.{loss_of, true-false},
+      ProgressFrames.{Brings, sabm_of, ua_of, idle_open, opening_open, idle_opening},
+      ProgressKnown.{Known, Unclosed, MobileSlot, NetworkSlot},
+      ProgressSlots.{answering_slots, answers_first, eq_of, lossy_by},
+    },
   },
 }
 use Rattle.lapdm_datalink.proofs.ProgressFrames as F
 use Rattle.lapdm_datalink.proofs.ProgressKnown as K
-
-pub true-false : true ≡ false → ⊥
-true-false h = cc
 
 zero_plus : (n : ℕ) → 0 + n ≡ n
 zero_plus n = omega arith
@@ -33,10 +36,6 @@ times_zero t e h = rw h (omega arith)
 pub times_one : (t e : ℕ) → t * (e + 1) ≡ t * e + t
 times_one t e = mul-add t e 1 ∙ ap (λ x. t * e + x) (mul-one t)
 
-pub one_most : (b : Bool) → one_if b ≤ 1
-one_most true = omega arith
-one_most false = omega arith
-
 pub idle_rests : (m : LinkState) → m.endpoint.state ≡ Idle → (awaits_answer m.endpoint ≡ false) × (expires_in m ≡ false)
 idle_rests m i = (grind (arith, i), grind (arith, i))
 
@@ -45,12 +44,6 @@ young_number (I ns nr p more x) cr info k b e = true-false b
 young_number (Rr nr p) cr info k b e = true-false b
 young_number (Rej nr p) cr info k b e = true-false b
 young_number other cr info k b e = cc
-
-pub opening_not_open : Opening ≡ Open → ⊥
-opening_not_open h = cc
-
-pub idle_not_open : Idle ≡ Open → ⊥
-idle_not_open h = cc
 
 pub some_none : {f : Frame} → None ≡ Some f → ⊥
 some_none h = cc
@@ -158,7 +151,7 @@ module _ (r : Run) (u : NeverReleases r) (long : round_trip r.delay ≤ r.t200) 
         by_calls : F.CalledTo Mobile (K.after r u n Mobile) (after_calls (turn_at r n Mobile).calls (K.after r u n Mobile)) →
             (M n Mobile).endpoint.state ≡ Open
         by_calls (F.nothing q) = ap (λ l. l.endpoint.state) q ∙ is_open
-        by_calls (F.opens a b c d f g) = absurd (idle_not_open (sym b ∙ is_open))
+        by_calls (F.opens a b c d f g) = absurd (idle_open (sym b ∙ is_open))
         by_calls (F.sends a b c) = b
 
     module _ (x : Calling n) (e : M n Mobile ≡ after_slot (L n Mobile)) where
@@ -178,7 +171,7 @@ module _ (r : Run) (u : NeverReleases r) (long : round_trip r.delay ≤ r.t200) 
       info_same = K.info_next r u n Mobile ∙ ap (λ l. l.endpoint.sabm_info) e
 
       not_confirmed : Through n x.v → n ≡ suc x.v + (1 + 2 * r.delay) → ⊥
-      not_confirmed t q = opening_not_open (sym m_opening ∙ confirmed x t q)
+      not_confirmed t q = opening_open (sym m_opening ∙ confirmed x t q)
 
       pub not_due_yet : Through n x.v → (L n Mobile).clock ≤ 1 → ⊥
       not_due_yet t k = not_confirmed t (omega (arith, k, x.time, x.early, long, t.early))
@@ -266,7 +259,7 @@ module _ (r : Run) (u : NeverReleases r) (long : round_trip r.delay ≤ r.t200) 
             by_state : ((L n Network).endpoint.state ≡ Idle) ⊎ ((L n Network).endpoint.state ≡ Open) →
                 (after_arriving (Some (sabm_of (info_at n))) (L n Network)).answer ≡ Some (ua_of (info_at n))
             by_state (inl i) = F.sabm_at_idle (L n Network) ((sound r u n).good Network).sapi ((sound r u n).roles Network) i (info_at n)
-                (h.some (λ q. K.idle_opening (sym q ∙ x.state)))
+                (h.some (λ q. idle_opening (sym q ∙ x.state)))
             by_state (inr o) = F.sabm_at_open (L n Network) ((sound r u n).good Network).sapi ((sound r u n).roles Network) o (info_at n)
                 (h.info o)
 

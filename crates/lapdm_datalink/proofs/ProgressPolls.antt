@@ -25,7 +25,8 @@ use Rattle.{
       ProgressRuns.{sound, link_step, NeverReleases},
       ProgressPaid.{in_sequence_or_polls, taken_is, arrived_other, le_of, not_le_of},
       ProgressExpiries.{true-false, owes_ready, i_parts, repeats, poll_is_i, answer_no_i},
-      ProgressWaiting.{answers_first, answering_slots, waits_at_most, repeats_at_most, open_closed},
+      ProgressWaiting.{waits_at_most, repeats_at_most},
+      ProgressSlots.{one_most, one_at_most, answering_slots, answers_first, open_closed},
     },
   },
 }
@@ -230,18 +231,10 @@ module _ (r : Run) (u : NeverReleases r) (q : ℕ) (role : Role) where
 
 -- ---- all slots
 
-one_at_most : (b c : Bool) → (b ≡ true → c ≡ true) → one_if b ≤ one_if c
-one_at_most true c h = omega (arith, ap one_if (h refl))
-one_at_most false c h = omega arith
-
-one_or_none : (b : Bool) → one_if b ≤ 1
-one_or_none true = omega arith
-one_or_none false = omega arith
-
 module _ (r : Run) (u : NeverReleases r) (n0 : ℕ) (role : Role) where
   few : (k : ℕ) → answering_slots r n0 k (other role) ≤ k
   few zero = omega arith
-  few (suc k) = omega (arith, few k, one_or_none (answers_first r (n0 + k) (other role)))
+  few (suc k) = omega (arith, few k, one_most (answers_first r (n0 + k) (other role)))
 
   grows : (k j : ℕ) → expiries r n0 k role ≤ expiries r n0 (k + j) role
   grows k zero = let e : k + 0 ≡ k = omega arith in rw e (omega arith)

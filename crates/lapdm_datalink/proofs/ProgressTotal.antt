@@ -12,17 +12,14 @@ use Rattle.{
       ProgressStart.idle_silent,
       ProgressPaid.{le_of, not_le_of, arrived_other},
       ProgressPolls.{goes_first, is_for_poll},
-      ProgressWaiting.answers_first,
       ProgressKnown.{Known, Unclosed, MobileSlot, NetworkSlot, known},
       ProgressOpening.{some_none, E, B, expiry_step, answer_step},
+      ProgressSlots.{one_most, one_at_most, answers_first},
     },
   },
 }
 use Rattle.lapdm_datalink.proofs.ProgressFrames as F
 use Rattle.lapdm_datalink.proofs.ProgressKnown as K
-
-pub idle_opening : Idle ≡ Opening → ⊥
-idle_opening q = cc
 
 -- ---- an answer goes first only behind a frame of the other side
 
@@ -134,17 +131,9 @@ module _ (r : Run) (u : NeverReleases r) where
 
 -- ---- how often
 
-one_at_most : (b c : Bool) → (b ≡ true → c ≡ true) → one_if b ≤ one_if c
-one_at_most true c h = omega (arith, ap one_if (h refl))
-one_at_most false c h = omega arith
-
 not_true : (b : Bool) → (b ≡ true → ⊥) → one_if b ≡ 0
 not_true true h = absurd (h refl)
 not_true false h = refl
-
-one_most : (b : Bool) → one_if b ≤ 1
-one_most true = omega arith
-one_most false = omega arith
 
 module _ (r : Run) (u : NeverReleases r) (long : round_trip r.delay ≤ r.t200) (k : ℕ) (c : Unclosed r u k) where
   abbrev pub asked : ℕ → ℕ

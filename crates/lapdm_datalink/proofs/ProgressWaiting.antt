@@ -1,123 +1,26 @@
 -- How long a link of SAPI 0 waits while both are open: each slot of waiting is charged to a segment, to a loss, or to an answer.
 use Rattle.{
-  std.specs.Prelude.{◌≡◌, ◌≢◌, ℕ, zero, suc, ◌+◌, ◌-◌, ◌*◌, ◌≤◌, Bool, true, false, ◌&&◌, ◌||◌},
-  std.{specs.Prelude.{◌⊎◌, nat_le, nat_eq, List, Some}, proofs.Common.{inl, inr, arith, refl, ap, sym, ◌∙◌}},
-  std.proofs.Math.Nat.{mul-add, mul-one},
+  std.specs.Prelude.{◌≡◌, ◌≢◌, ℕ, zero, suc, ◌+◌, ◌-◌, ◌*◌, ◌≤◌, Bool, true, false, nat_le, nat_eq, List},
+  std.{specs.Prelude.Some, proofs.{Common.{arith, refl, ap, sym, ◌∙◌}, Math.Nat.{mul-add, mul-one}}},
   lapdm_frame.specs.Content.{I, Frame},
-  lapdm_end.specs.lapdm_window.{
-    declared.State.TheVariants.{Open, Closed},
-    Ends.{Role, Mobile, Network, EndpointState, awaits_answer, awaits_ack},
-  },
+  lapdm_end.specs.lapdm_window.{declared.State.TheVariants.{Open, Closed}, Ends.{Role, awaits_answer, awaits_ack}},
   lapdm_link.specs.Events.other,
   lapdm_datalink.{
-    specs.{Links.{LinkState, slot_outcome, is_due, keeps_back}, Channels.Run, Progress.{link_at, turn_at, arriving_at, ready_at, frame_at}},
-    specs.Progress.{is_loss_at, round_trip, is_i_frame, is_lossy, one_if, waiting_slots, lossy_slots, expiries, AreOpen, acked_at},
-    specs.Progress.{expires_in, answer_goes},
+    specs.{Links.{LinkState, slot_outcome, is_due}, Channels.Run, Progress.{link_at, turn_at, arriving_at, ready_at, frame_at, round_trip}},
+    specs.Progress.{is_i_frame, is_lossy, one_if, waiting_slots, lossy_slots, expiries, AreOpen, acked_at, expires_in, answer_goes},
     proofs.{
       ProgressSteps.{acked, issued, aired, Moves},
       ProgressLink.{slot_acked, slot_issued, aired_unsent, aired_sent},
-      ProgressStart.{ready_t200, ready_moves, ready_due, slot_open, clock_after},
+      ProgressStart.{ready_t200, ready_moves, ready_due, slot_open},
       ProgressWaits.{SlotWay, sends, blocked, counts, slot_way},
       ProgressRuns.{sound, slotted_in, link_step, counted, NeverReleases},
       ProgressPaid.{acked_in_time, answered_frame, le_of, not_le_of},
       ProgressExpiries.{i_parts, loss_of, true-false, waits_at, awaits_same},
+      ProgressSlots.{answers_first, answering_slots, open_awaits, due_clock, not_due, ack_none, ack_one, expires_due, both, goes_it},
+      ProgressSlots.{open_closed, eq_of, above, no_ack, times_next, times_le, cost, apart, lossy_by, clock_within},
     },
   },
 }
-
--- B: in how many of these slots this link sends an answer though the frame that awaits an answer is due
-abbrev pub answers_first : (run : Run) (slot : ℕ) (role : Role) → Bool
-answers_first r n role = is_due (ready_at r n role) && answer_goes (ready_at r n role).answer (ready_at r n role)
-
-abbrev pub answering_slots : (run : Run) (first slots : ℕ) (role : Role) → ℕ
-answering_slots r n zero role = 0
-answering_slots r n (suc k) role = answering_slots r n k role + one_if (answers_first r (n + k) role)
-
-pub open_awaits : (e : EndpointState) → e.state ≡ Open → awaits_answer e ≡ awaits_ack e
-open_awaits e o = grind (arith, o)
-
-pub due_clock : (m : LinkState) → is_due m ≡ true → (m.clock ≡ 0) × (awaits_answer m.endpoint ≡ true)
-due_clock m h = (grind (arith, h), grind (arith, h))
-
-pub not_due : (m : LinkState) → is_due m ≡ false → awaits_answer m.endpoint ≡ true → 1 ≤ m.clock
-not_due m h w = grind (arith, h, w)
-
-pub ack_none : (l : LinkState) → awaits_ack l.endpoint ≡ false → issued l ≡ acked l
-ack_none l w = grind (arith, w)
-
-pub ack_one : (l : LinkState) → awaits_ack l.endpoint ≡ true → acked l ≤ issued l → issued l ≤ acked l + 1 →
-    issued l ≡ acked l + 1
-ack_one l w a b = grind (arith, w)
-
-pub expires_due : (m : LinkState) → expires_in m ≡ true →
-    (is_due m ≡ true) × (m.is_sent ≡ true) × (answer_goes m.answer m ≡ false)
-expires_due m h = (grind (arith, h), grind (arith, h), grind (arith, h))
-
-pub both : (a b : Bool) → a ≡ true → b ≡ true → (a && b) ≡ true
-both a b h k = rw (h, k) refl
-
-pub goes_it : (m : LinkState) (f : Frame) → m.answer ≡ Some f → keeps_back f m ≡ false → answer_goes m.answer m ≡ true
-goes_it m f a k = grind (arith, a, k)
-
-some_loss : (a b : Bool) → a ≡ true → (a || b) ≡ true
-some_loss a b h = rw h refl
-
-other_loss : (a b : Bool) → b ≡ true → (a || b) ≡ true
-other_loss true b h = refl
-other_loss false b h = h
-
-pub open_closed : Open ≡ Closed → ⊥
-open_closed h = cc
-
-pub eq_of : (a b : ℕ) → nat_eq a b ≡ true → a ≡ b
-eq_of a b h = grind (arith, h)
-
-above : (a b : ℕ) → b ≤ a → nat_eq a b ≡ false → b + 1 ≤ a
-above a b h e = grind (arith, e)
-
-pub no_ack : (l : LinkState) → issued l ≡ acked l → awaits_ack l.endpoint ≡ false
-no_ack l e = grind (arith, e)
-
-pub times_next : (k a b : ℕ) → a + 1 ≤ b → k * a + k ≤ k * b
-times_next k a b h =
-    let e : (a + 1) + (b - (a + 1)) ≡ b = omega (arith, h) in
-    let f : k * b ≡ k * (a + 1) + k * (b - (a + 1)) = ap (λ x. k * x) (sym e) ∙ mul-add k (a + 1) (b - (a + 1)) in
-    omega (arith, f, mul-add k a 1, mul-one k)
-
-pub times_le : (k a b : ℕ) → a ≤ b → k * a ≤ k * b
-times_le k a b h =
-    let e : a + (b - a) ≡ b = omega (arith, h) in
-    let f : k * b ≡ k * a + k * (b - a) = ap (λ x. k * x) (sym e) ∙ mul-add k a (b - a) in
-    omega (arith, f)
-
-pub cost : (t a b : ℕ) → t * (a + b + 1) ≡ t * (a + 1) + t * b
-cost t a b = let e : a + b + 1 ≡ (a + 1) + b = omega arith in rw e (mul-add t (a + 1) b)
-
-apart : (a n : ℕ) → suc a ≤ suc n → nat_eq a n ≡ false → suc a ≤ n
-apart a n h e = grind (arith, e)
-
-pub lossy_by : (r : Run) (n : ℕ) (role : Role) → is_loss_at r n role ≡ true → is_lossy r n ≡ true
-lossy_by r n Mobile h = some_loss (is_loss_at r n Mobile) (is_loss_at r n Network) h
-lossy_by r n Network h = other_loss (is_loss_at r n Mobile) (is_loss_at r n Network) h
-
-pub clock_within : (r : Run) → NeverReleases r → (role : Role) (n : ℕ) → (link_at r n role).clock ≤ r.t200
-clock_within r u Mobile zero = omega arith
-clock_within r u Network zero = omega arith
-clock_within r u role (suc n) = by_slot (clock_after role (arriving_at r n role) (turn_at r n role).calls (link_at r n role)
-    ((sound r u n).good role).sapi (u n role)) (clock_within r u role n)
-  where
-    by_slot : ((slot_outcome (ready_at r n role)).link.clock ≤ (link_at r n role).clock)
-        ⊎ ((slot_outcome (ready_at r n role)).link.clock ≡ (ready_at r n role).t200) → (link_at r n role).clock ≤ r.t200 →
-        (link_at r (suc n) role).clock ≤ r.t200
-    by_slot (inl h) before = omega (arith, ap (λ l. l.clock) (link_step r n role), h, before)
-    by_slot (inr e) before = omega (
-      arith,
-      ap (λ l. l.clock) (link_step r n role),
-      e,
-      ready_t200 role (arriving_at r n role) (turn_at r n role).calls (link_at r n role) ((sound r u n).good role)
-          ((sound r u n).settled role).owes ((sound r u n).idle role) (u n role),
-      (sound r u n).t200 role,
-    )
 
 module _ (r : Run) (u : NeverReleases r) (long : round_trip r.delay ≤ r.t200) (n0 : ℕ) (role : Role) where
   abbrev pub L : ℕ → LinkState

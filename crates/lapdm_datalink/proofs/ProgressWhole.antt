@@ -2,7 +2,7 @@
 use Rattle.{
   std.specs.Prelude.{◌≡◌, ℕ, zero, suc, ◌+◌, ◌-◌, ◌*◌, ◌≤◌, Bool, true, false, ◌⊎◌, nat_le},
   std.proofs.{Common.{inl, inr, arith, refl, ap, sym, ◌∙◌}, Math.Nat.{mul-add, mul-one}},
-  lapdm_end.specs.lapdm_window.{declared.State.TheVariants.{Idle, Opening, Open}, Ends.{Role, Mobile, Network, awaits_ack}},
+  lapdm_end.specs.lapdm_window.{declared.State.TheVariants.Open, Ends.{Role, Mobile, Network, awaits_ack}},
   lapdm_link.specs.Events.other,
   lapdm_datalink.{
     specs.{Channels.Run, Progress.{link_at, ready_at, round_trip, is_lossy, one_if}},
@@ -12,11 +12,13 @@ use Rattle.{
       ProgressStart.is_young,
       ProgressPaid.{le_of, not_le_of},
       ProgressExpiries.old_enough,
-      ProgressWaiting.{Stage, Next, pending, quiet, unsent, failed, going, times_le, no_ack, clock_within, eq_of},
+      ProgressWaiting.{Stage, Next, pending, quiet, unsent, failed, going},
       ProgressKnown.{Known, Unclosed, MobileSlot, NetworkSlot, known},
-      ProgressOpening.{times_one, idle_not_open, W, E, B, Lo, waits_step, expiry_step, answer_step, loss_step, Calling, Through, Resting},
-      ProgressOpening.{rest_on, begin, call_next, confirmed, not_due_yet, through_next, some_none},
+      ProgressOpening.{times_one, W, E, B, Lo, waits_step, expiry_step, answer_step, loss_step, Calling, Through, Resting, rest_on, begin},
+      ProgressOpening.{call_next, confirmed, not_due_yet, through_next, some_none},
       ProgressEarly.{Early, Alone, early_next, late_open, times_less},
+      ProgressFrames.{idle_open, opening_open, idle_opening},
+      ProgressSlots.{clock_within, no_ack, times_le},
     },
   },
 }
@@ -34,9 +36,6 @@ module _ (r : Run) (u : NeverReleases r) (long : round_trip r.delay ≤ r.t200) 
         + r.t200 * Lo r u long n + B r u long n role + used
     pub repays : E r u long n role + pending r u long n0 role stage ≤ Lo r u long n
 
-  cost : (t a b : ℕ) → t * (a + b) ≡ t * a + t * b
-  cost t a b = mul-add t a b
-
   one_work : (role : Role) (more n0 n : ℕ) (w : Work role more n0 n) →
       Next r u long n0 role n w.paid w.used (pending r u long n0 role w.stage) → Work role more n0 (suc n)
   one_work role more n0 n w x = record {
@@ -50,7 +49,7 @@ module _ (r : Run) (u : NeverReleases r) (long : round_trip r.delay ≤ r.t200) 
       waits_step r u long n role,
       answer_step r u long n role,
       ap (λ k. r.t200 * k) (loss_step r u long n),
-      cost r.t200 (Lo r u long n) (one_if (is_lossy r n)),
+      mul-add r.t200 (Lo r u long n) (one_if (is_lossy r n)),
     );
     repays = omega (arith, w.repays, x.repays, expiry_step r u long n role, loss_step r u long n);
   }
@@ -106,7 +105,7 @@ module _ (r : Run) (u : NeverReleases r) (long : round_trip r.delay ≤ r.t200) 
   abbrev pub IsUnheard : (n : ℕ) → Calling r u long n → Type 0
   IsUnheard n x = (n ≤ suc x.v + r.delay) ⊎ (E r u long n Mobile + 1 ≤ Lo r u long n)
 
-  lo_up : (n : ℕ) → Lo r u long n ≤ Lo r u long (suc n)
+  pub lo_up : (n : ℕ) → Lo r u long n ≤ Lo r u long (suc n)
   lo_up n = omega (arith, loss_step r u long n)
 
   -- its attempts are at most those of the mobile that failed
@@ -137,7 +136,7 @@ module _ (r : Run) (u : NeverReleases r) (long : round_trip r.delay ≤ r.t200) 
 
   pub network_work : (n n0 : ℕ) (x : Calling r u long n) → IsUnheard n x → Early r u long (suc n) →
       (link_at r (suc n) Network).endpoint.state ≡ Open → Work Network 0 n0 (suc n)
-  network_work n n0 x b (Y.idle i w e) o = absurd (idle_not_open (sym i ∙ o))
+  network_work n n0 x b (Y.idle i w e) o = absurd (idle_open (sym i ∙ o))
   network_work n n0 x b (Y.alone q a some p (Y.unsent w e z)) o = record {
     paid = 0;
     used = 0;
@@ -190,7 +189,7 @@ module _ (r : Run) (u : NeverReleases r) (long : round_trip r.delay ≤ r.t200) 
       where
         by_slot : NetworkSlot r u n → ((ready_at r n Network).endpoint.state ≡ Open)
             × ((link_at r (suc n) Network).endpoint.state ≡ Open)
-        by_slot (K.rests i e) = absurd (idle_not_open (sym i ∙ o))
+        by_slot (K.rests i e) = absurd (idle_open (sym i ∙ o))
         by_slot (K.joins i p x a q) = (p, K.state_next r u n c Network ∙ p)
         by_slot (K.stays i p x a) = (p, K.state_next r u n c Network ∙ p)
 
@@ -214,12 +213,6 @@ module _ (r : Run) (u : NeverReleases r) (long : round_trip r.delay ≤ r.t200) 
     mobile_there t k a b = at_last k n Network (λ j a' b'. (let same : j ≡ n = omega (arith, a', b') in rw same t))
         (network_open t).1 a b
 
-    idle_opening : Idle ≡ Opening → ⊥
-    idle_opening q = cc
-
-    opening_open : Opening ≡ Open → ⊥
-    opening_open q = cc
-
     resting_next : Resting r u long n → Early r u long n → MobileSlot r u n → Whole (suc n)
     resting_next x y (K.rests i e) = resting (rest_on r u long n h c x e) (early_next r u long n h c (ap is_young i) y)
     resting_next x y (K.begins i o q s k a) =
@@ -233,7 +226,7 @@ module _ (r : Run) (u : NeverReleases r) (long : round_trip r.delay ≤ r.t200) 
             by_case false e = omega (arith, not_le_of (suc z.v) n e)
     resting_next x y (K.tries o e) = absurd (idle_opening (sym x.state ∙ o))
     resting_next x y (K.joins o p i a t) = absurd (idle_opening (sym x.state ∙ o))
-    resting_next x y (K.stays o p i a) = absurd (idle_not_open (sym x.state ∙ o))
+    resting_next x y (K.stays o p i a) = absurd (idle_open (sym x.state ∙ o))
 
     early_then : (x : Calling r u long n) → Early r u long n → Early r u long (suc n)
     early_then x y = early_next r u long n h c (ap is_young x.state) y
@@ -293,8 +286,8 @@ module _ (r : Run) (u : NeverReleases r) (long : round_trip r.delay ≤ r.t200) 
         ((k : ℕ) → n1 ≤ k → k ≤ n → (link_at r k Mobile).endpoint.state ≡ Open) → Work Network 0 n1 n →
         MobileSlot r u n →
         Whole (suc n)
-    joined_next o n0 n1 a there w b here v (K.rests i e) = absurd (idle_not_open (sym i ∙ o))
-    joined_next o n0 n1 a there w b here v (K.begins i p q s k x) = absurd (idle_not_open (sym i ∙ o))
+    joined_next o n0 n1 a there w b here v (K.rests i e) = absurd (idle_open (sym i ∙ o))
+    joined_next o n0 n1 a there w b here v (K.begins i p q s k x) = absurd (idle_open (sym i ∙ o))
     joined_next o n0 n1 a there w b here v (K.tries p e) = absurd (opening_open (sym p ∙ o))
     joined_next o n0 n1 a there w b here v (K.joins p s i x t) = absurd (opening_open (sym p ∙ o))
     joined_next o n0 n1 a there w b here v (K.stays p s i x) =

@@ -65,7 +65,7 @@ lossy_slots r n (suc k) = lossy_slots r n k + one_if (is_lossy r (n + k))
 abbrev pub IsWithoutRelease : (run : Run) (slot : ℕ) → Type 0
 IsWithoutRelease r m = (n : ℕ) → suc n ≤ m → (role : Role) → All (IsUse role) (turn_at r n role).calls
 
--- neither side has given the link up before this slot: without a release, a link is closed only then
+-- neither side has given the link up before this slot: without a release, a link is closed only then, and stays so
 abbrev pub NoneGaveUp : (run : Run) (slot : ℕ) → Type 0
 NoneGaveUp r n = (role : Role) → is_closed (link_at r n role).endpoint.state ≡ false
 
@@ -100,8 +100,8 @@ pub record IsPaid (r : Run) (n : ℕ) (role : Role) : Type 0 where
 -- Each repetition of an I frame is paid by a loss of its own: between two of them the link sends the I frame again.
 abbrev pub PaysForExpiries : Run → Type 0
 PaysForExpiries r =
-    round_trip r.delay ≤ r.t200 → (n : ℕ) → IsWithoutRelease r (suc n) → ((k : ℕ) → k ≤ n → NoneGaveUp r k) →
-    (role : Role) → is_repetition (frame_at r n role) ≡ true → IsPaid r n role
+    round_trip r.delay ≤ r.t200 → (n : ℕ) → IsWithoutRelease r (suc n) → NoneGaveUp r n → (role : Role) →
+    is_repetition (frame_at r n role) ≡ true → IsPaid r n role
 
 -- ---- how long a link waits
 
@@ -162,8 +162,8 @@ pub record FromStart (r : Run) (k : ℕ) (role : Role) : Type 0 where
 
 abbrev pub ProgressesFromStart : Run → Type 0
 ProgressesFromStart r =
-    round_trip r.delay ≤ r.t200 → (k : ℕ) → IsWithoutRelease r k → ((j : ℕ) → j ≤ k → NoneGaveUp r j) →
-    (role : Role) → FromStart r k role
+    round_trip r.delay ≤ r.t200 → (k : ℕ) → IsWithoutRelease r k → NoneGaveUp r k → (role : Role) →
+    FromStart r k role
 
 -- With at most five slots with a loss so far, neither link has been given up: an expiry gives a link up only after N200 others, at least
 -- five, and each has a lossy slot of its own.
