@@ -1,3 +1,4 @@
+pub use Rattle.lapdm_frame.specs as lapdm_frame
 pub mod BurstLines
 pub mod BurstTexts
 pub mod CodeLines
