@@ -6,8 +6,8 @@ use Rattle.{
     proofs.{Deviations.{FollowsFrom, LosesAtLeast-in_class, follows-deviation}, Rankings.RanksAfter-trans, Spans.between_from},
     proofs.Spans.{between_to, is_between},
     specs.{
-      Branches.{IsBranch, IsBranchOfReturnedWord, IsDeviation, IsMostLikelyDeviation, IsSpanOfWord, class_of_branch, deviations_in_span},
-      Branches.word_of_deviation,
+      Branches.{IsBranch, IsDeviationInSpan, IsBranchOfReturnedWord, IsDeviation, IsMostLikelyDeviation, class_of_branch},
+      Branches.{deviations_in_span, word_of_deviation},
       Choices.{IsFirstRankedBranch, IsNotOutrankedBy, deviating_word, placeholder_branch},
       Classes.{DeviatesAt, DeviationClass, IsInClass, PartitionsUnreturnedWords, deviations_after_index, deviations_anywhere},
       DeviatingWords.{FollowsSurvivors, is_in_range},
@@ -214,13 +214,6 @@ module _ (pass : ViterbiPass) (us : List (List ℕ)) (u : List ℕ) (span : Word
 -- ## Chosen: The branch whose most likely word is the next word, and the branches after this word is returned.
 
 -- ---- lemmas about the branch whose most likely word is the next word
-
-pub record IsDeviationInSpan (pass : ViterbiPass) (u : List ℕ) (span : WordSpan) (x : Deviation) : Type 0 where
-  pub candidate : IsCandidate (soft_bits_of_pass pass) u
-  pub is_span : IsSpanOfWord pass u span
-  pub deviation : IsDeviation pass u x
-  pub from : span.from ≤ x.point.index
-  pub to : x.point.index < span.to
 
 module _ (pass : ViterbiPass) (us : List (List ℕ)) (branches : List WordBranch) (choice : BranchChoice) (lists : All (IsCandidate
     (soft_bits_of_pass pass)) us)

@@ -41,6 +41,14 @@ pub record IsDeviation (pass : ViterbiPass) (word : List ℕ) (deviation : Devia
   pub state : deviation.point.state ≡ state_after_bits 0 (take deviation.point.index word)
   pub bit : deviation.point.bit ≡ slice_index word deviation.point.index
 
+-- `x` is a deviation from the candidate `word` within `span`
+pub record IsDeviationInSpan (pass : ViterbiPass) (word : List ℕ) (span : WordSpan) (x : Deviation) : Type 0 where
+  pub candidate : IsCandidate (soft_bits_of_pass pass) word
+  pub is_span : IsSpanOfWord pass word span
+  pub deviation : IsDeviation pass word x
+  pub from : span.from ≤ x.point.index
+  pub to : x.point.index < span.to
+
 -- `best` is the deviation that produces the most likely word that deviates from `word` within `span`, or `None` if no candidate deviates
 -- there
 abbrev pub IsMostLikelyDeviation : (pass : ViterbiPass) (word : List ℕ) (span : WordSpan) (best : Option Deviation) → Type 0

@@ -1,10 +1,9 @@
 //! Finds the next word in the ranking, and splits the branch of this word (Lawler's partition).
 
 ghost use Rattle.std.specs.Prelude.{◌≡◌, ◌≤◌, ◌+◌, ◌<◌, length, MatchOption};
-ghost use Rattle.list_decode.specs.Branches.{IsBranch, IsSpanOfWord, IsDeviation, word_of_deviation};
+ghost use Rattle.list_decode.specs.Branches.{IsBranch, IsDeviationInSpan, word_of_deviation};
 ghost use Rattle.list_decode.specs.Partitioning.{NoBranchHasUnreturnedWord, IsNextRankedWord};
-ghost use Rattle.list_decode.specs.Passes.{IsCompletePass, soft_bits_of_pass};
-ghost use Rattle.list_decode.specs.Ranking.{IsCandidate};
+ghost use Rattle.list_decode.specs.Passes.{IsCompletePass};
 ghost use Rattle.list_decode.specs.Words.{IsRanking, open_branches, returned_words};
 
 use crate::branch::{Deviation, WordBranch, WordSpan};
@@ -61,11 +60,7 @@ fn partition(
     new_index: u8,
 ) -> ReplacementBranches
     requires pass { IsCompletePass pass.now }
-    requires list { IsCandidate (soft_bits_of_pass pass.now) u.old }
-    requires span { IsSpanOfWord pass.now u.old span }
-    requires deviation { IsDeviation pass.now u.old deviation.now }
-    requires from { span.from ≤ deviation.now.point.index }
-    requires to { deviation.now.point.index < span.to }
+    requires inside { IsDeviationInSpan pass.now u.old span deviation.now }
     ensures written { u.new ≡ word_of_deviation pass.now u.old deviation.now }
     ensures before { IsBranch pass.now u.old result.branch_before }
     ensures new_word { IsBranch pass.now u.new result.branch_of_new_word }

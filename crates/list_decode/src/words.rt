@@ -33,6 +33,28 @@ pub(crate) struct RankedWords {
     pub(crate) branches: [WordBranch; 127],
 }
 
+const UNUSED_DEVIATION: Deviation = Deviation {
+    metric: 0,
+    point: DeviationPoint {
+        index: 0,
+        state: 0,
+        bit: 0,
+    },
+    word_index: 0,
+};
+
+const UNUSED_BRANCH: WordBranch = WordBranch {
+    span: WordSpan {
+        metric: 0,
+        word_index: 0,
+        from: 0,
+        to: 0,
+        state: 0,
+    },
+    best: None,
+    metric: 0,
+};
+
 /// A chain of word numbers, in `word_indices` from index `start` on. Each word deviates from its predecessor, and the first from word 0.
 #[derive(Clone, Copy)]
 struct DeviationChain {
@@ -55,9 +77,9 @@ impl RankedWords {
             pass: ViterbiPass::new(soft),
             first_word: [0; ENCODER_INPUT_BITS],
             first_metric: 0,
-            deviations: [placeholder_deviation(); 63],
+            deviations: [UNUSED_DEVIATION; 63],
             count: 0,
-            branches: [placeholder_branch(); 127],
+            branches: [UNUSED_BRANCH; 127],
         }
     }
 
@@ -76,9 +98,9 @@ impl RankedWords {
             pass: ViterbiPass::new(soft),
             first_word: pad_with_zeros(u),
             first_metric: metric,
-            deviations: [placeholder_deviation(); 63],
+            deviations: [UNUSED_DEVIATION; 63],
             count: 1,
-            branches: [placeholder_branch(); 127],
+            branches: [UNUSED_BRANCH; 127],
         }
     }
 
@@ -222,29 +244,4 @@ fn pad_with_zeros(word: &[u8]) -> [u8; ENCODER_INPUT_BITS]
     let mut list = [0; ENCODER_INPUT_BITS];
     list[..word.len()].copy_from_slice(word);
     list
-}
-
-/// A deviation that is not in use.
-fn placeholder_deviation() -> Deviation {
-    Deviation {
-        metric: 0,
-        point: DeviationPoint::new(0, 0, 0),
-        word_index: 0,
-    }
-}
-
-/// A branch that is not in use.
-fn placeholder_branch() -> WordBranch {
-    let span = WordSpan {
-        metric: 0,
-        word_index: 0,
-        from: 0,
-        to: 0,
-        state: 0,
-    };
-    WordBranch {
-        span,
-        best: None,
-        metric: 0,
-    }
 }

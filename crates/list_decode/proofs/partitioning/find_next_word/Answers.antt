@@ -1,22 +1,11 @@
 use Rattle.{
-  std.proofs.Common.{arith, rules, ◌<◌, [], length, get_or, refl, ap, sym, ◌∙◌, subst},
+  std.proofs.Common.{arith, rules, ◌<◌, length, get_or, refl, ap, sym, ◌∙◌, subst},
   list_decode.{
-    specs.{Branches.{IsBranch, IsSpanOfWord, IsDeviation, word_of_deviation}, Choices.placeholder_branch, Passes.soft_bits_of_pass},
-    specs.{Ranking.IsCandidate, Words.{open_branches, returned_words}},
-    proofs.{Chosen.{IsDeviationInSpan, chosen, chosen_branch, is_next, within}, partitioning.find_next_word.Goals.In_ok-choice},
+    specs.{Branches.{IsBranch, IsDeviationInSpan, word_of_deviation}, Choices.placeholder_branch, Words.{open_branches, returned_words}},
+    proofs.{Chosen.{chosen, chosen_branch, is_next, within}, partitioning.find_next_word.Goals.In_ok-choice},
   },
 }
 use Rattle.list_decode.proofs.partitioning.find_next_word.Goals as goal
-
-chosen_here : (c : In_ok-choice) → IsDeviationInSpan c.args.words.now.pass
-    (get_or (returned_words c.args.words.now) (get_or (open_branches c.args.words.now) c.in_ok-choice.choice.branch
-    placeholder_branch).span.word_index [])
-    (get_or (open_branches c.args.words.now) c.in_ok-choice.choice.branch placeholder_branch).span c.in_ok-choice.choice.deviation
-chosen_here c =
-    let words = c.args.words.now in
-    let is = c.requires.ranking in
-    chosen words.pass (returned_words words) (open_branches words) c.in_ok-choice.choice is.ranked.ranked_words_are_candidates
-    is.all_branches c.in_ok-choice.ensures.first
 
 inside : (c : In_ok-choice) → c.in_ok-choice.choice.branch < length (open_branches c.args.words.now)
 inside c =
@@ -39,27 +28,15 @@ write_word-requires-clause-within c =
     is.ranked.ranked_words_are_candidates is.all_branches c.in_ok-choice.ensures.first).in_range in
     omega arith
 
-pub partition-parts-requires-clause-list : goal.partition-parts-requires-clause-list
-partition-parts-requires-clause-list c =
-    subst (IsCandidate (soft_bits_of_pass c.args.words.now.pass)) (sym c.write_word.ensures)
-    (chosen_here (goal.at.partition-parts-requires-clause-list c).In_ok-choice).candidate
-
-pub partition-parts-requires-clause-span : goal.partition-parts-requires-clause-span
-partition-parts-requires-clause-span c =
-    subst (λ u. IsSpanOfWord c.args.words.now.pass u (get_or (open_branches c.args.words.now) c.in_ok-choice.choice.branch
-    placeholder_branch).span) (sym c.write_word.ensures)
-    (chosen_here (goal.at.partition-parts-requires-clause-span c).In_ok-choice).is_span
-
-pub partition-parts-requires-clause-deviation : goal.partition-parts-requires-clause-deviation
-partition-parts-requires-clause-deviation c =
-    subst (λ u. IsDeviation c.args.words.now.pass u c.in_ok-choice.choice.deviation) (sym c.write_word.ensures)
-    (chosen_here (goal.at.partition-parts-requires-clause-deviation c).In_ok-choice).deviation
-
-pub partition-parts-requires-clause-from : goal.partition-parts-requires-clause-from
-partition-parts-requires-clause-from c = (chosen_here (goal.at.partition-parts-requires-clause-from c).In_ok-choice).from
-
-pub partition-parts-requires-clause-to : goal.partition-parts-requires-clause-to
-partition-parts-requires-clause-to c = (chosen_here (goal.at.partition-parts-requires-clause-to c).In_ok-choice).to
+pub partition-parts-requires-clause-inside : goal.partition-parts-requires-clause-inside
+partition-parts-requires-clause-inside c =
+    let words = c.args.words.now in
+    let is = c.requires.ranking in
+    let choice = c.in_ok-choice.choice in
+    subst (λ u. IsDeviationInSpan words.pass u (get_or (open_branches words) choice.branch placeholder_branch).span choice.deviation)
+    (sym c.write_word.ensures)
+    (chosen words.pass (returned_words words) (open_branches words) choice is.ranked.ranked_words_are_candidates is.all_branches
+    c.in_ok-choice.ensures.first)
 
 pub returns : goal.returns
 returns c =
