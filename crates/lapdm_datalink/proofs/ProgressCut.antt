@@ -159,21 +159,21 @@ all_progress r long n k u o role = record {
     acked_last : (link_at (cut m r) (n + k) role).endpoint.acked_segments ≡ (link_at r (n + k) role).endpoint.acked_segments
     acked_last = ap (λ l. l.endpoint.acked_segments) (link_same m r (n + k) (omega arith) role)
 
-module _ (r : Run) (k : ℕ) (u : IsWithoutRelease r k) where
-  frames_same : (role : Role) → frames_at (cut k r) k role ≡ frames_at r k role
+module _ (r : Run) (k : ℕ) (u : IsWithoutRelease r (suc k)) where
+  frames_same : (role : Role) → frames_at (cut (suc k) r) k role ≡ frames_at r k role
   frames_same Mobile = ap (λ l. one_if (not (is_idle l.endpoint.state)) + l.endpoint.sent_segments)
-      (link_same k r k (omega arith) Mobile)
-  frames_same Network = ap (λ l. l.endpoint.sent_segments) (link_same k r k (omega arith) Network)
+      (link_same (suc k) r k (omega arith) Mobile)
+  frames_same Network = ap (λ l. l.endpoint.sent_segments) (link_same (suc k) r k (omega arith) Network)
 
-  from_cut : (role : Role) → FromStart (cut k r) k role → FromStart r k role
+  from_cut : (role : Role) → FromStart (cut (suc k) r) k role → FromStart r k role
   from_cut role x = record {
-    waits = rw (waiting_same k r 0 k (omega arith) role, frames_same role, losses_same k r 0 k (omega arith)) at x.waits;
-    expires = rw (expiries_same k r 0 k (omega arith) role, losses_same k r 0 k (omega arith)) at x.expires;
+    waits = rw (waiting_same (suc k) r 0 k (omega arith) role, frames_same role, losses_same (suc k) r 0 k (omega arith)) at x.waits;
+    expires = rw (expiries_same (suc k) r 0 (suc k) (omega arith) role, losses_same (suc k) r 0 k (omega arith)) at x.expires;
   }
 
 pub progress_from_start : (r : Run) → ProgressesFromStart r
 progress_from_start r long k u none role =
-    from_cut r k u role (from_start (cut k r) (never k r u) long k (none_closed k r u k (omega arith) none) role)
+    from_cut r k u role (from_start (cut (suc k) r) (never (suc k) r u) long k (none_closed (suc k) r u k (omega arith) none) role)
 
 pub few_losses_keep_links : (r : Run) → KeepsLinks r
 few_losses_keep_links r long k u few role =

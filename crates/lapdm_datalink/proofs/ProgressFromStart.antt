@@ -6,7 +6,7 @@ use Rattle.{
   lapdm_frame.specs.Content.{Content, I, Rr, Rej, Frame},
   lapdm_end.specs.lapdm_window.{
     declared.{State.TheVariants.{Idle, Opening, Open, Closed}, Sapi.TheVariants.Zero, Refused.Refused},
-    Ends.{Role, Mobile, Network, EndpointState, n200},
+    Ends.{Role, Mobile, Network, EndpointState, n200, awaits_ack},
     Tables.{outcome_of_reply, Reply, Nothing, SendsDm, TakesIFrame, TakesRr, is_command},
     Calls.{Call, Opens, Sends, refusal_of, is_idle, t200_expiry},
     segmenting.Segments.Segment,
@@ -17,7 +17,7 @@ use Rattle.{
     specs.{
       Links.{LinkState, slot_outcome, after_frame, is_due, keeps_back},
       Channels.{Run, IsUse, after_arriving, after_calls, after_call_unless},
-      Progress.{link_at, turn_at, arriving_at, ready_at, round_trip, lossy_slots, one_if, expires_in, frames_at, FromStart},
+      Progress.{link_at, turn_at, arriving_at, ready_at, round_trip, lossy_slots, one_if, expires_in, frames_at, FromStart, answer_goes},
     },
     proofs.{
       ProgressSteps.{acked, issued, taken, outcome_endpoint},
@@ -150,20 +150,6 @@ module _ (r : Run) (u : NeverReleases r) (long : round_trip r.delay ≤ r.t200) 
 
   times_next : (l : ℕ) → (r.t200 + 1) * l ≡ r.t200 * l + l
   times_next l = add-mul r.t200 1 l ∙ ap (λ x. r.t200 * l + x) (one-mul l)
-
-  pub from_start : (k : ℕ) → Unclosed r u k → (role : Role) → FromStart r k role
-  from_start k c Mobile =
-      let x = bounds k (whole r u long k c) in
-      record {
-        waits = omega (arith, x.mobile, (answers_total r u long k c).0, x.network_expires, times_next (lossy_slots r 0 k));
-        expires = x.mobile_expires;
-      }
-  from_start k c Network =
-      let x = bounds k (whole r u long k c) in
-      record {
-        waits = omega (arith, x.network, (answers_total r u long k c).1, x.mobile_expires, times_next (lossy_slots r 0 k));
-        expires = x.network_expires;
-      }
 
 -- ---- what a slot does to an endpoint
 
@@ -445,24 +431,38 @@ module _ (r : Run) (u : NeverReleases r) (long : round_trip r.delay ≤ r.t200) 
     idle_owes i e (K.stays o p x a) = idle_open (sym i ∙ o)
 
     early_owes : (x : Calling r u long n) → IsUnheard r u long n x → Early r u long n → expires_in (ready_at r n Network) ≡ true →
-        5 ≤ E r u long n Network → E r u long n Network + 1 ≤ Lo r u long n
-    early_owes x b (Y.idle i w e) y five = absurd (idle_owes i y (K.network_slot r u n h))
-    early_owes x b (Y.alone q a some o (Y.unsent w e z)) y five = absurd (omega (arith, e, five))
-    early_owes x b (Y.alone q a some o (Y.sent k w e f g s)) y five = omega (
+        E r u long n Network + 1 ≤ Lo r u long n
+    early_owes x b (Y.idle i w e) y = absurd (idle_owes i y (K.network_slot r u n h))
+    early_owes x b (Y.alone q a some o (Y.unsent w e z)) y = absurd (by_case z)
+      where
+        d : (is_due (ready_at r n Network) ≡ true) × ((ready_at r n Network).is_sent ≡ true)
+            × (answer_goes (ready_at r n Network).answer (ready_at r n Network) ≡ false)
+        d = expires_due (ready_at r n Network) y
+
+        v : (awaits_ack (link_at r n Network).endpoint ≡ true) × ((link_at r n Network).is_sent ≡ true)
+            × (acked (ready_at r n Network) ≡ acked (link_at r n Network))
+            × ((ready_at r n Network).clock ≡ (link_at r n Network).clock - 1)
+        v = waits_at r u Network n (sym (open_awaits (ready_at r n Network).endpoint (network_ready o))
+            ∙ (due_clock (ready_at r n Network) d.0).1) d.1
+
+        by_case : ((link_at r n Network).is_sent ≡ false) ⊎ (awaits_ack (link_at r n Network).endpoint ≡ false) → ⊥
+        by_case (inl f) = true-false (sym v.1 ∙ f)
+        by_case (inr f) = true-false (sym v.0 ∙ f)
+    early_owes x b (Y.alone q a some o (Y.sent k w e f g s)) y = omega (
       arith,
       e,
       few r u long n x q k b (late_open r u long n x q some) (omega (arith, f, clock_within r u Network n)),
     )
 
-    network_owes : Whole r u long n → expires_in (ready_at r n Network) ≡ true → 5 ≤ E r u long n Network →
+    network_owes : Whole r u long n → expires_in (ready_at r n Network) ≡ true →
         E r u long n Network + 1 ≤ Lo r u long n
-    network_owes (Z.resting x (Y.idle i w e)) y five = absurd (idle_owes i y (K.network_slot r u n h))
-    network_owes (Z.resting x (Y.alone q a some o z)) y five = absurd (network_idle r u long n x.state o)
-    network_owes (Z.calling x b z) y five = early_owes x b z y five
-    network_owes (Z.heard x v s t p late o w) y five =
+    network_owes (Z.resting x (Y.idle i w e)) y = absurd (idle_owes i y (K.network_slot r u n h))
+    network_owes (Z.resting x (Y.alone q a some o z)) y = absurd (network_idle r u long n x.state o)
+    network_owes (Z.calling x b z) y = early_owes x b z y
+    network_owes (Z.heard x v s t p late o w) y =
         work_owes Network 0 (suc (suc v + (1 + 2 * r.delay))) w (omega (arith, late)) (network_ready o)
         (λ k a b. absurd (omega (arith, a, b, t.early))) y
-    network_owes (Z.joined o n0 n1 a there w b here v) y five = work_owes Network 0 n1 v b (network_ready (there n a (omega arith))) here y
+    network_owes (Z.joined o n0 n1 a there w b here v) y = work_owes Network 0 n1 v b (network_ready (there n a (omega arith))) here y
 
     closed_idle : Closed ≡ Idle → ⊥
     closed_idle q = cc
@@ -491,10 +491,17 @@ module _ (r : Run) (u : NeverReleases r) (long : round_trip r.delay ≤ r.t200) 
     closes w Network q =
         let x = gives_up (ready_at r n Network) (ap (λ l. l.endpoint.state) (sym (link_step r n Network)) ∙ q)
         (network_ready_open (K.network_slot r u n h)) in
-        let five : 5 ≤ E r u long n Network = omega (arith, x.1, ready_retries n Network, retries_most n Network) in
-        omega (arith, network_owes w x.0 five, five)
+        omega (arith, network_owes w x.0, x.1, ready_retries n Network, retries_most n Network)
 
   -- ---- no loss closes it, unless there are six
+
+  expiring : (k : ℕ) (role : Role) → E r u long k role ≤ Lo r u long k →
+      (expires_in (ready_at r k role) ≡ true → E r u long k role + 1 ≤ Lo r u long k) → E r u long (suc k) role ≤ Lo r u long k
+  expiring k role p more = by_case (expires_in (ready_at r k role)) refl
+    where
+      by_case : (b : Bool) → expires_in (ready_at r k role) ≡ b → E r u long (suc k) role ≤ Lo r u long k
+      by_case true e = omega (arith, expiry_step r u long k role, ap one_if e, more e)
+      by_case false e = omega (arith, expiry_step r u long k role, ap one_if e, p)
 
   keeps_next : (n : ℕ) → Lo r u long (suc n) ≤ 5 → Unclosed r u n → Unclosed r u (suc n)
   keeps_next n h before j a role e = by_last (nat_le j n) refl
@@ -515,3 +522,19 @@ module _ (r : Run) (u : NeverReleases r) (long : round_trip r.delay ≤ r.t200) 
   pub keeps : (n : ℕ) → Lo r u long n ≤ 5 → Unclosed r u n
   keeps zero h = keeps_start
   keeps (suc n) h = keeps_next n h (keeps n (omega (arith, h, lo_up r u long n)))
+
+  pub from_start : (k : ℕ) → Unclosed r u k → (role : Role) → FromStart r k role
+  from_start k c Mobile =
+      let w = whole r u long k c in
+      let x = bounds r u long k w in
+      record {
+        waits = omega (arith, x.mobile, (answers_total r u long k c).0, x.network_expires, times_next r u long (lossy_slots r 0 k));
+        expires = expiring k Mobile x.mobile_expires (λ e. mobile_owes k (known r u k c) w e (K.mobile_slot r u k (known r u k c)));
+      }
+  from_start k c Network =
+      let w = whole r u long k c in
+      let x = bounds r u long k w in
+      record {
+        waits = omega (arith, x.network, (answers_total r u long k c).1, x.mobile_expires, times_next r u long (lossy_slots r 0 k));
+        expires = expiring k Network x.network_expires (λ e. network_owes k (known r u k c) w e);
+      }

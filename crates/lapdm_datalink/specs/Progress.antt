@@ -152,17 +152,18 @@ abbrev pub behind_ua : Role → ℕ
 behind_ua Mobile = 0
 behind_ua Network = 1
 
--- Progress from the start. Until one gives up, and without a release, whatever is lost, a link waits at most one round trip for each of its
--- frames, and T200 and one slot for each slot with a loss; the network one slot more. T200 expires at most once for each slot with a loss.
--- That holds in each slot, so each expiry of a link has an earlier lossy slot of its own; one lossy slot may pay for one of each side.
+-- Progress from the start. Before a slot in which neither has given up, and without a release, whatever is lost, a link has waited at most
+-- one round trip for each of its frames, and T200 and one slot for each slot with a loss; the network one slot more. T200 has expired at
+-- most once for each of these losses, an expiry in the slot itself included, which may give the link up. That holds in each slot, so each
+-- expiry of a link has an earlier lossy slot of its own; one lossy slot may pay for one of each side.
 pub record FromStart (r : Run) (k : ℕ) (role : Role) : Type 0 where
   pub waits : waiting_slots r 0 k role
       ≤ round_trip r.delay * frames_at r k role + (r.t200 + 1) * lossy_slots r 0 k + behind_ua role
-  pub expires : expiries r 0 k role ≤ lossy_slots r 0 k
+  pub expires : expiries r 0 (suc k) role ≤ lossy_slots r 0 k
 
 abbrev pub ProgressesFromStart : Run → Type 0
 ProgressesFromStart r =
-    round_trip r.delay ≤ r.t200 → (k : ℕ) → IsWithoutRelease r k → NoneGaveUp r k → (role : Role) →
+    round_trip r.delay ≤ r.t200 → (k : ℕ) → IsWithoutRelease r (suc k) → NoneGaveUp r k → (role : Role) →
     FromStart r k role
 
 -- With at most five slots with a loss so far, neither link has been given up: an expiry gives a link up only after N200 others, at least

@@ -78,7 +78,8 @@ pub fn law_data_links_pay_for_expiries()
 
 /// Law: from the start of a run, and until one of the two links of SAPI 0 is given up, each waits at most a round trip for each of its
 /// frames (the mobile's SABM and the segments issued) and T200 and one slot for each slot with a loss; the network one slot more. T200 of a
-/// link expires at most once for each slot with a loss. Both have one T200 of at least the round trip, and there is no release so far.
+/// link expires at most once for each earlier slot with a loss, the expiry that gives it up included. Both have one T200 of at least the
+/// round trip, and there is no release so far.
 pub fn law_data_links_progress_from_the_start()
     ensures { (r : Run) → ProgressesFromStart r }
 {}
