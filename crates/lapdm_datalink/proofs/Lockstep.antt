@@ -439,10 +439,10 @@ module _ (r : Run) (calls : HasCalls r) where
 pub data_links_progress : (r : Run) → Progresses r
 data_links_progress r calls long k kept none role =
     let h = progress_from_start (sapi_0_of r) long k (λ n few q. rw (← turn-calls r calls n q) (kept n few q))
-    (λ j few q. sym (closed-same r calls j q) ∙ none j few q) role in
+    (λ q. sym (closed-same r calls k q) ∙ none q) role in
     record {
       waits = rw (waits-count r calls role k, lossy-count r calls k, frames-same r calls k role) h.waits;
-      expires = rw (expires-count r calls role k, lossy-count r calls k) h.expires;
+      expires = rw (expires-count r calls role (suc k), lossy-count r calls k) h.expires;
     }
 
 pub data_links_keep : (r : Run) → KeepsLinks r

@@ -231,11 +231,11 @@ NoneGaveUp r n = (role : Role) → is_closed (link0_at r n role).endpoint.state 
 pub record Progress (r : Run) (k : ℕ) (role : Role) : Type 0 where
   pub waits : slots_with (awaits r role) k
       ≤ round_trip r.delay * frames_at r k role + (r.t200 + 1) * slots_with (is_lossy r) k + behind_ua role
-  pub expires : slots_with (expires r role) k ≤ slots_with (is_lossy r) k
+  pub expires : slots_with (expires r role) (suc k) ≤ slots_with (is_lossy r) k
 
 abbrev pub Progresses : Run → Type 0
-Progresses r = HasCalls r → round_trip r.delay ≤ r.t200 → (k : ℕ) → IsWithoutRelease r k →
-    ((j : ℕ) → j ≤ k → NoneGaveUp r j) → (role : Role) → Progress r k role
+Progresses r = HasCalls r → round_trip r.delay ≤ r.t200 → (k : ℕ) → IsWithoutRelease r (suc k) → NoneGaveUp r k →
+    (role : Role) → Progress r k role
 
 abbrev pub KeepsLinks : Run → Type 0
 KeepsLinks r = HasCalls r → round_trip r.delay ≤ r.t200 → (k : ℕ) → IsWithoutRelease r k → slots_with (is_lossy r) k ≤ 5 →
