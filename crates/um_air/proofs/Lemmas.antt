@@ -12,8 +12,7 @@ use Rattle.{
       Events.{BySide, Deliver, EventRefusal, Nothing, Who, bounded_capacity, event_step, queues_after_removal, refusal_if, sending_role},
       Queues.{IsOldestSentOrNone, Queues, empty_queues, queue_of, with_items_appended},
       Worlds.World,
-      lapdm_frame.{Content.{Frame, information}, Frames.{FrameFits, octets_of}, Refusals.IsRefused, declared.Channel.Channel},
-      lapdm_frame.{declared.Refusal.Refusal, Readings.HasUniqueReading},
+      lapdm_frame.{Content.{Frame, information}, Frames.{FrameFits, octets_of}, declared.Channel.Channel, Readings.HasUniqueReading},
       lapdm_window.{Ends.{Mobile, Network, Role}, declared.{Notice.Notice, Sapi.Sapi}},
     },
   },
@@ -74,24 +73,6 @@ ReadsFrame-frame_in_accepted channel (Some octets) count = ReadsFrame-frame_in c
 pub frame_in-only : (channel : Channel) (o : Option Octets) (f : Option Frame) → IfSome o (λ octets. length octets ≡ 23) →
     ReadsFrame channel o f → f ≡ frame_in_accepted channel o
 frame_in-only channel o f count h = one_read channel o f _ h (ReadsFrame-frame_in_accepted channel o count)
-
--- octets that are refused encode no frame
-pub frame_in-refused : (channel : Channel) (octets : Octets) (why : Refusal) → IsRefused channel octets why →
-    frame_in channel octets ≡ None
-unfolding frame_in
-frame_in-refused channel octets why h = go (cases_eq (length octets) 23)
-  where
-    read : (reading : HasUniqueReading channel octets) →
-        ◌≡◌ {A = Option Frame} (elim reading [ inl reading ↦ Some reading.0 | inr reading ↦ None ]) None
-    read (inl (f, only)) = absurd (only.not_refused why h)
-    read (inr refused) = refl
-
-    go : (known : (length octets ≡ 23) ⊎ (length octets ≢ 23)) → ◌≡◌ {A = Option Frame} (elim known [
-      | inl count ↦ elim (one_reading channel octets count) [ inl reading ↦ Some reading.0 | inr reading ↦ None ]
-      | inr other ↦ None
-    ]) None
-    go (inl count) = read (one_reading channel octets count)
-    go (inr other) = refl
 
 arrival-only : (a : AirState) (event : Event) (o : Option Received) (f : Option Frame) → EventDelivers a event o f →
     (o ≡ report_of a event) × (event_with_frame f event ≡ event_with_frame (frame_in_report a.channel o) event)

@@ -139,6 +139,7 @@ pub extern "C" fn um_side_take(
     if !is_valid_side(side) {
         return INVALID_ENDPOINT;
     }
+    // `lapdm_end::Side::take_block` needs both endpoints restored, of 2.6 KB each. To read the frame twice and restore one is cheaper.
     if is_frame_on_sapi_3(octets, side.link0.channel) {
         let answer = um_end_take(&mut side.link3, octets, effects);
         write_sapi_if_successful(answer, 3, sapi);

@@ -1,8 +1,8 @@
 -- What a terminal does with a call or with bursts, and the rules of `end`, agree with the relations that are their laws.
 use Rattle.{
   lapdm_end.specs.{Sides.CarriesOutStep, declared.sides.Side.Side},
-  std.proofs.{Common.{Err, Ok, Result, append-nil, append_assoc, get_or, take, ◌⊎◌}, lemmas.Bool.{cases_lt, le-ltb, lt-ltb}},
-  std.{proofs.lemmas.List.{Elements.{All-head, All-nil, All-push, All-tail}, take_more}, specs.{List.All, Result.IfErr}},
+  std.proofs.{Common.{Err, Ok, append-nil, append_assoc, get_or, take, ◌⊎◌}, lemmas.Bool.{cases_lt, le-ltb, lt-ltb}},
+  std.{proofs.lemmas.List.{Elements.{All-head, All-nil, All-push, All-tail}, take_more}, specs.List.All},
   um_driver.{proofs.Outputs.{meaning_of_answer, step_of_answer}, specs.Rules.Runs},
   um_end.specs.{
     Abstraction.role_of_terminal,
@@ -22,7 +22,7 @@ use Rattle.{
       lapdm_frame.Lemmas.octets_canonical,
       lapdm_link.Lemmas.{AllSay, CallOctets, EndOctets, OutcomeOctets, SaysOctets, call-octets, frame-octets},
       lapdm_window.Lemmas.{IsValidEndpoint-initial, Keeps, keeps-call, keeps-frame},
-      um_air.Lemmas.{ReadsFrame-frame_in_accepted, frame_in-only, frame_in-refused, octets_small, same_step},
+      um_air.Lemmas.{ReadsFrame-frame_in_accepted, frame_in-only, octets_small, same_step},
       um_block.Lemmas.{IsSentBlock-sent_block, accepted_count, received_block-only, some_received_block},
     },
     specs.{
@@ -31,7 +31,6 @@ use Rattle.{
       um_air.Computed.frame_in_accepted,
       lapdm_link.{Events.{BothSides, other, side_with_role, with_side_replaced}, Queues.without_oldest_item},
       um_block.{Computed.{received_block, sent_block}, Received.IsReceivedBlock},
-      lapdm_frame.{Readings.IsOnlyRefusalReason, declared.Refusal.Refusal},
     },
   },
 }
@@ -48,11 +47,6 @@ pub terminal_step-is : (role role' : Role) (received : Option Received) (d : Sid
     role' ≡ role → CarriesOutStep Sdcch d sapi effects new → step ≡ terminal_step_of role received d
 terminal_step-is role role' received d sapi effects new step is same h =
     is ∙ same_step _ (terminal_step_of role received d) (ap BySide same) h.sapi_matches refl h.frames h.notices
-
-pub unread : {View : Type 0} (octets : Octets) (result : Result View Refusal) → ((f : View) → result ≡ Ok f → ⊥) →
-    IfErr result (λ reason. IsOnlyRefusalReason Sdcch octets reason) → frame_in_accepted Sdcch (Some octets) ≡ None
-unread octets (Ok f) never refused = absurd (never f refl)
-unread octets (Err reason) never refused = frame_in-refused Sdcch octets reason refused.refused
 
 -- ---- four bursts of 148 soft values
 

@@ -6,7 +6,6 @@ pub use Rattle.um_link.specs as um_link
 pub mod Terminals
 pub mod Abstraction
 pub mod CallEvents
-pub mod BlockSteps
 pub mod EndLines
 pub mod EndRuns
 pub mod Commands

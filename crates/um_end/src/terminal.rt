@@ -13,7 +13,7 @@ ghost use Rattle.um_link.specs.um_block.declared.received.Received.{Received};
 ghost use Rattle.um_script.specs.AnswerLines.{reception_quality, ReceptionIsInRange};
 
 use crate::asking::{endpoint_call_of_event, sapi_of_event};
-use lapdm_end::{Channel, Effects, Role, Sapi, Side, read};
+use lapdm_end::{Channel, Role, Sapi, Side};
 use um_formats::{BLOCK_OCTETS, BURST_BITS};
 use um_link::{End, Event, No, Received, Step, Who, receive_block, send_block};
 
@@ -32,7 +32,6 @@ pub struct Terminal {
 impl Terminal {
     ghost use Rattle.um_end.specs.Terminals.{SideState, idle_side, IsCallOfRole, ReceivesBursts, answer_to_block};
     ghost use Rattle.um_end.specs.Abstraction.{Represents, CallRefinesSideStep, BurstsRefineSideStep, KeepsSideAndTsc, role_of_terminal};
-    ghost use Rattle.um_end.specs.BlockSteps.{BlockRefinesSideStep};
 
     /// Creates a side with both endpoints in Idle. The training sequence code `tsc` must be 0 to 7.
     pub fn new(side: End, tsc: u8) -> Terminal
@@ -120,7 +119,7 @@ impl Terminal {
         ensures same { KeepsSideAndTsc self.old self.new }
     {
         let report = receive_block(bursts);
-        let sapi = self.take_received_block(&report.accepted, &mut step.effects);
+        let sapi = self.links.take_block(&report.accepted, &mut step.effects);
         step.received = Some(report);
         self.set_side_and_sapi(sapi, step);
     }
@@ -132,24 +131,6 @@ impl Terminal {
         ensures bits { All AllBits result }
     {
         send_block(octets, self.tsc)
-    }
-
-    /// Passes the frame that the accepted octets encode, if any, to the endpoint with its SAPI.
-    fn take_received_block(
-        &mut self,
-        accepted: &Option<[u8; BLOCK_OCTETS]>,
-        effects: &mut Effects,
-    ) -> Sapi
-        ensures takes { BlockRefinesSideStep accepted.now self.old result effects.new self.new }
-        ensures same { KeepsSideAndTsc self.old self.new }
-    {
-        if let Some(octets) = accepted {
-            if let Ok(frame) = read(octets) {
-                return self.links.take(&frame, effects);
-            }
-        }
-        effects.clear();
-        Sapi::Zero
     }
 
     /// Records in `step` the side that acted and the SAPI.

@@ -1,29 +1,27 @@
 -- Lemmas about the lines of `code`, `replay` and `show`: what a line means, when it is refused, and that a written line can be parsed back.
-use Rattle.std.proofs.lemmas.Bool.{cases_eq}
 use Rattle.{
+  std.{
+    proofs.{
+      lemmas.{Bool.{cases_eq, Decides.nat_tests, and_right, cases_Bool, ne_eqb}, List.{get_or-set_same, length-set, length-take-le}},
+      lemmas.List.{take_all, take_more, Elements.{All-cons, All-map, All-nil, All-replicate}, Splits.join_with_byte-slice_split},
+      lemmas.{List.{Splits.length-slice_split, append_cancel_right, length-map, length-replicate}, Int.ints, Slice.Eq.bytes_eq-Decides},
+      Common.{get_or, Bool, Err, List, None, Ok, Option, Some, [], append-nil, append_assoc, ap, arith, codes, drop, eqb, false, inl, inr},
+      Common.{length-append, length, map, negsuc, not, pos, refl, replicate, set, sym, take, true, ℕ, ℤ, ◌&&◌, ◌++◌, ◌+◌},
+      Common.{◌-◌, ◌<◌, ◌==◌, ◌∙◌, ◌∷◌, ◌≡◌, ◌≢◌, ◌≤◌, ◌⊎◌, if◌then◌else◌, subst},
+    },
+    specs.{Cmp.Lexicographic.pointwise, Int.{cast_signed, w8}, List.{All, join_with_byte, list_all}, Prelude.{IfSome, MatchOption}},
+    specs.Str.bytes_eq,
+  },
   lapdm_frame.{
-    specs.Readings.HasUniqueReading,
-    proofs.Lemmas.{FieldsFit, content_fits, fields_fit, never_refused, octets_canonical, one_reading, same_canonical, same_frame},
-    proofs.Lemmas.{same_reason, bit_bound},
     specs.{
+      Readings.HasUniqueReading,
       Content.{Content, Fields, Frame, I, Rnr, Ui, content_of_fields, fields_of_content, fields, information, all_frame_kinds},
       Frames.{FrameFits, InformationFits, IsCanonicalCoding, bit_of_bool, octets_of, IsFrameCoding},
       Refusals.{IsRefused, RefusalAppliesToBlock, refusal_test_index},
       declared.{Channel.TheVariants.Sdcch, Kind.Kind, Refusal.{TheVariants.Ea, Refusal}},
     },
-  },
-  std.{
-    proofs.{
-      Common.{Bool, Err, List, None, Ok, Option, Some, [], append-nil, append_assoc, ap, arith, codes, drop, eqb, false, inl, inr},
-      Common.{length-append, length, map, negsuc, not, pos, refl, replicate, set, suc, sym, take, true, ℕ, ℤ, ◌&&◌, ◌++◌},
-      Common.{◌+◌, ◌-◌, ◌<◌, ◌==◌, ◌∙◌, ◌∷◌, ◌≡◌},
-      Common.{◌≢◌, ◌≤◌, ◌⊎◌, if◌then◌else◌, subst},
-      lemmas.{Bool.{Decides.nat_tests, and_right, cases_Bool, ne_eqb}, Int.ints, List.Elements.{All-cons, All-map, All-nil, All-replicate}},
-      lemmas.List.{Splits.{join_with_byte-slice_split, length-slice_split}, append_cancel_right, drop_all, length-map, length-replicate},
-      lemmas.{List.set_split, Slice.Eq.bytes_eq-Decides},
-    },
-    specs.{Cmp.Lexicographic.pointwise, Int.{cast_signed, w8}, List.{All, join_with_byte, list_all}, Prelude.{IfSome, MatchOption}},
-    specs.Str.bytes_eq,
+    proofs.Lemmas.{FieldsFit, content_fits, fields_fit, never_refused, octets_canonical, one_reading, same_canonical, same_frame},
+    proofs.Lemmas.{same_reason, bit_bound},
   },
   um_block.{
     proofs.Lemmas.AllSoftBits-softened,
@@ -35,7 +33,7 @@ use Rattle.{
     CodeLines.{CodeLineMeans, code_line, code_line_fault, code_line_of_meaning},
     FrameTexts.{IsTextOfOctets, frame_text, frame_values, octets_text, line_values_of_fields, line_syntax_of_frame, text_of_octets},
     FrameTexts.unreadable_frame_text,
-    Held.{IsHardNormalBurstLine, IsSoftNormalBurstLine},
+    Held.{AddsNormalBurst, BurstBuffer, IsHardNormalBurstLine, IsSoftNormalBurstLine},
     Reports.{IsBlockReportText, block_report_line, block_report_text, text_of_accepted},
     ShowLines.{ShowLineMeans, content_from_values, frame_from_values, is_bit_set, show_line_fault, show_line_of_frame},
     ShowLines.{show_line_of_meaning, show_line_of_values, show_parse_result},
@@ -186,12 +184,28 @@ sync_burst held line values means =
 pub short : (held : ℕ) (line : List ℕ) (meaning : BurstLine) → BurstLineMeans held line meaning → length line ≤ 4096
 short held = line_short burst_line_forms (is_burst_out_of_order held) burst_line_of_meaning
 
--- writing the fourth burst into the buffer appends it to the first three
-pub fourth_burst_completes : (bursts : List (List ℤ)) (held : ℕ) (burst : List ℤ) → length bursts ≡ 4 → held ≡ 3 →
-    set bursts held burst
-    ≡ take held bursts ++ burst ∷ []
-fourth_burst_completes bursts held burst four last =
-    cc (set_split bursts held burst (omega arith), drop_all (suc held) bursts (omega arith))
+-- the burst at the first free place of the buffer, held beside the others
+pub next_held : (slots : List (List ℤ)) (held : ℕ) → held < length slots →
+    take (held + 1) slots ≡ take held slots ++ get_or slots (length (take held slots)) [] ∷ []
+next_held slots held free =
+    let count : length (take held slots) ≡ held = length-take-le held slots (omega arith) in rw count (take_more slots held [] free)
+
+pub fourth_held : (slots : List (List ℤ)) (held : ℕ) → length slots ≡ 4 → held ≡ 3 →
+    slots ≡ take held slots ++ get_or slots (length (take held slots)) [] ∷ []
+fourth_held slots held four last = sym (take_all (held + 1) slots (omega arith)) ∙ next_held slots held (omega arith)
+
+-- a burst written to the first free place is the one that the buffer holds next
+pub written_next : (slots : List (List ℤ)) (held : ℕ) (burst : List ℤ) → held < length slots →
+    get_or (set slots held burst) (length (take held (set slots held burst))) [] ≡ burst
+written_next slots held burst free =
+    let count : length (take held (set slots held burst)) ≡ held =
+    length-take-le held (set slots held burst) (omega (arith, length-set slots held burst)) in
+    rw count (get_or-set_same slots held burst [] free)
+
+pub adds_next : (old mid new : BurstBuffer) (burst next : List ℤ) (completes : Bool) → mid.held ≡ old.held → next ≡ burst →
+    AddsNormalBurst mid next completes new → AddsNormalBurst old burst completes new
+adds_next old mid new burst next false held is adds = (rw (← held, ← is) adds.0, adds.1)
+adds_next old mid new burst next true held is adds = (rw (← held, ← is) adds.0, adds.1, adds.2)
 
 pub hard_values : (digits : List ℕ) → AllSoftBits (soft_bits (map (λ octet. octet - 48) digits))
 hard_values digits = AllSoftBits-softened (map (λ octet. octet - 48) digits)

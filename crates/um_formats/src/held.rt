@@ -1,6 +1,6 @@
 //! A buffer for the bursts of an incomplete block.
 ghost use Rattle.std.specs.Prelude.{◌≡◌, ◌-◌, ◌≤◌, ℕ, pos, List, [], length, map, replicate, IsTrue, IfOk, OnErr};
-ghost use Rattle.std.specs.Prelude.{MatchOption};
+ghost use Rattle.std.specs.Prelude.{MatchOption, slice_index_or};
 ghost use Rattle.std.specs.List.{All, list_all};
 ghost use Rattle.std.specs.Result.{result_err};
 ghost use Rattle.um_block.specs.conv_code.Likelihood.{AllSoftBits};
@@ -87,52 +87,48 @@ impl HeldBursts {
     }
 
     /// Adds a normal burst to the buffer, and returns true if it completes a block.
-    #[tactic(auto, using(crate::proofs::Lemmas::fourth_burst_completes))]
+    #[tactic(auto, using(crate::proofs::Lemmas::adds_next, crate::proofs::Lemmas::written_next))]
     pub fn add(&mut self, burst: [i8; BURST_BITS]) -> bool
         requires { AllSoftBits burst }
         ensures { AddsNormalBurst self.old burst result self.new }
     {
         self.bursts[self.count as usize] = burst;
-        if self.count < 3 {
-            self.count += 1;
-            false
-        } else {
-            self.count = 0;
-            true
-        }
+        self.count_burst()
     }
 
     /// Adds the burst whose hard bits these digits represent, and returns true if it completes a block.
-    #[tactic(auto, using(crate::proofs::Lemmas::fourth_burst_completes))]
+    #[tactic(auto, using(crate::proofs::Lemmas::adds_next, crate::proofs::Lemmas::written_next))]
     fn add_hard_burst(&mut self, digits: &[u8]) -> bool
         requires each { IsTrue (list_all is_bit_digit digits.now) }
         requires size { length digits.now ≡ BURST_BITS }
         ensures { AddsNormalBurst self.old (soft_bits (map (λ octet. octet - 48) digits.now)) result self.new }
     {
         write_soft_values_of_bit_digits(digits, &mut self.bursts[self.count as usize]);
-        if self.count < 3 {
-            self.count += 1;
-            false
-        } else {
-            self.count = 0;
-            true
-        }
+        self.count_burst()
     }
 
     /// Adds the burst whose soft values these octets represent, and returns true if it completes a block.
-    #[tactic(auto, using(crate::proofs::Lemmas::fourth_burst_completes))]
+    #[tactic(auto, using(crate::proofs::Lemmas::adds_next, crate::proofs::Lemmas::written_next))]
     fn add_soft_burst(&mut self, octets: &[u8; BURST_BITS]) -> bool
         requires { AllSoftBits (signed_octets octets.now) }
         ensures { AddsNormalBurst self.old (signed_octets octets.now) result self.new }
     {
         write_signed_values(octets, &mut self.bursts[self.count as usize]);
+        self.count_burst()
+    }
+
+    /// Holds the burst at the first free place, and returns true if it completes a block.
+    #[inline(always)]
+    #[tactic(auto, using(crate::proofs::Lemmas::next_held, crate::proofs::Lemmas::fourth_held))]
+    fn count_burst(&mut self) -> bool
+        ensures { AddsNormalBurst self.old (slice_index_or self.old.slots (length self.old.held) []) result self.new }
+    {
         if self.count < 3 {
             self.count += 1;
-            false
-        } else {
-            self.count = 0;
-            true
+            return false;
         }
+        self.count = 0;
+        true
     }
 }
 

@@ -2,32 +2,31 @@
 use Rattle.{
   circular_buffer.specs.Buffer.{Buffer, buffer},
   lapdm_end.specs.declared.sides.Side.Side,
-  lapdm_frame.specs.{Content.Frame, Frames.octets_of, Layout.n201, Readings.IsOnlyEncodedFrame, declared.Channel.Channel},
+  lapdm_frame.specs.{Content.Frame, Frames.octets_of, Layout.n201, declared.Channel.Channel},
   std.{
     proofs.Common.{Bool, Err, List, None, Option, Some, [], append_assoc, ap, arith, drop, false, get_or, length, map, nat_eq, nat_lt},
     proofs.Common.{refl, subst, suc, sym, take, true, ℕ, ◌++◌, ◌+◌, ◌-◌, ◌<◌, ◌∙◌, ◌∷◌, ◌≡◌, ◌≤◌},
     proofs.lemmas.{Bool.Decides.nat_tests, List.{Elements.{All-push, All-drop}, append-nil, length-append, take_more}},
     specs.List.All,
   },
-  um_air.specs.{
-    Air.{AirState, AreBlocksOfFrames, Block, CarriesOutEvent, EventDelivers, IsAirStep, Octets, ReadsFrame, event_with_frame, refusal},
-    Air.{with_bit_inverted, with_bits_inverted},
-    lapdm_link.{
-      Events.{queues_after_removal, sending_role},
-      Queues.{Queues, queue_length, queue_of, with_items_appended, without_oldest_item},
+  um_air.{
+    specs.{
+      Air.{AirState, AreBlocksOfFrames, Block, CarriesOutEvent, EventDelivers, IsAirStep, Octets, ReadsFrame, event_with_frame, refusal},
+      Air.{with_bit_inverted, with_bits_inverted},
+      lapdm_link.{Events.{queues_after_removal, sending_role}, Queues.{Queues, queue_length, queue_of, with_items_appended}},
+      lapdm_link.Queues.without_oldest_item,
+      lapdm_window.{Calls.{Call, first_refusal, refusal_of}, Ends.{Mobile, Network, Role}, declared.Refused.Refused},
+      lapdm_window.declared.{Sapi.{TheVariants.Zero, Sapi}, effects.Effects.Effects},
+      segmenting.Segments.Message,
+      Computed.frame_in_accepted,
     },
-    lapdm_window.{
-      Calls.{Call, first_refusal, refusal_of},
-      Ends.{Mobile, Network, Role},
-      declared.{Refused.Refused, Sapi.{TheVariants.Zero, Sapi}, effects.Effects.Effects},
-    },
-    segmenting.Segments.Message,
+    proofs.Lemmas.ReadsFrame-frame_in_accepted,
   },
   um_block.specs.{Sent.IsSentBlock, Tallies.{counter_plus_one, counter_plus}, bit_blocks.Bits.AllBits, declared.received.Received.Received},
+  um_block.proofs.Lemmas.accepted_count,
   um_link.specs.{
     Abstraction.{IsLayer3CallTo, IsValidWorld, IsWorldStep, Represents, queued_blocks},
     Naming.spec_event_refusal_of,
-    BlockTaking.TakingFrameRefines,
     Coded.{AppendsBlocks, AreCodedBlocks},
     FourEndpoints.{HasEffects, AreSidesOn, Represents as EndsRepresent, channel_of_ends},
     Moves.{AppendsToQueue, DiffersOnlyInQueue, LosesOldestBlockFrom, ReceivesOldestBlockFrom},
@@ -41,7 +40,6 @@ use Rattle.um_air.specs.lapdm_link.Events as E
 use Rattle.um_link.specs.FourEndpoints as F
 use Rattle.um_air.specs.lapdm_window.declared.Refused.TheVariants as RQ
 use Rattle.um_air.specs.Air as A
-use Rattle.um_link.specs.BlockTaking as H
 
 -- ## Flipping: Each round of the loop in `invert_bits` inverts one more bit.
 
@@ -82,25 +80,6 @@ module _ (old : BothSides) (event_step : D.SideState → D.SideStep) (sapi : Sap
     network-step role is on follows =
         let h = rw on.network at (follows es.network st.network) in
         rw is (record { mobile = st.mobile; network = h.represents }, record { frames = h.frames; notices = h.notices })
-
--- ## Reading: A side receives the frame that is read from a block; if no frame is read, nothing changes.
-
-pub TakingFrame-read : (role : Role) (channel : Channel) (octets : Octets) (accepted : Option Octets) (f : Frame) (old new : BothSides)
-    (effects : Effects) (link : Sapi) → accepted ≡ Some octets → IsOnlyEncodedFrame channel f octets →
-    channel ≡ F.channel_of_ends old → F.StepRefines (F.channel_of_ends old) (E.step_for_read_frame role (Some f)) old effects new →
-    ((es : E.BothSides) → F.Represents old es → link ≡ (E.step_for_read_frame role (Some f) es).sapi) →
-    TakingFrameRefines role channel accepted old link effects new
-TakingFrame-read role channel octets accepted f old new effects link is only on follows sapi es st =
-    let g = follows es st in
-    record { read = Some f; reads_frame = rw is only.frame; represents = g.0; has_effects = rw on g.1; sapi = sapi es st }
-
-pub TakingFrame-none : (role : Role) (channel : Channel) (accepted : Option Octets) (old : BothSides) (effects : Effects) →
-    ReadsFrame channel accepted None → effects.frames ≡ [] → effects.notices ≡ [] →
-    TakingFrameRefines role channel accepted old Zero effects old
-TakingFrame-none Mobile channel accepted old effects reads frames notices es st =
-    record { read = None; reads_frame = reads; represents = st; has_effects = record { frames = frames; notices = notices }; sapi = refl }
-TakingFrame-none Network channel accepted old effects reads frames notices es st =
-    record { read = None; reads_frame = reads; represents = st; has_effects = record { frames = frames; notices = notices }; sapi = refl }
 
 -- ## SendingLoop: Each round of the loop in `send_frames` appends one more block.
 
@@ -373,25 +352,30 @@ lose-oldest sender w m effects h some no_frames no_notices a st =
 pub receive-oldest : (sender end : Role) (places : List ℕ) (w m w' : WorldState) (ends' : BothSides) (received : Option Received)
     (sapi : Sapi)
     (effects : Effects) (step : A.Step) → end ≡ E.other sender → ReceivesOldestBlockFrom sender places w received m →
-    TakingFrameRefines end m.channel (H.accepted_octets received) m.ends sapi effects ends' →
+    IsValidWorld m →
+    ((report : Received) → received ≡ Some report → F.TakesBlock end report.accepted m.ends sapi effects ends') →
     E.is_empty (length (queued_blocks sender w)) ≡ false → E.is_queue_full (length (queued_blocks end w)) ≡ false →
     AppendsToQueue end effects.frames (record m { ends = ends' }) w' → step ≡ step_by (E.BySide end) sapi received effects →
     (a : AirState) → Represents w a → (b : AirState) × Represents w' b × IsAirStep a (E.Deliver sender places) b (A.Accepts step)
-receive-oldest sender end places w m w' ends' received sapi effects step e h hears some room sends is a st =
+receive-oldest sender end places w m w' ends' received sapi effects step e h valid hears some room sends is a st =
     let i = Represents-rest sender w m a h.received.block h.received.queue_front h.rest_same st in
-    let heard : TakingFrameRefines (E.other sender) m.channel h.report.accepted m.ends sapi effects ends' =
-    subst (λ r. TakingFrameRefines r m.channel h.report.accepted m.ends sapi effects ends') e
-    (subst (λ o. TakingFrameRefines end m.channel (H.accepted_octets o) m.ends sapi effects ends') h.arrived_is_report hears) in
+    let heard : F.TakesBlock (E.other sender) h.report.accepted m.ends sapi effects ends' =
+    subst (λ r. F.TakesBlock r h.report.accepted m.ends sapi effects ends') e (hears h.report h.arrived_is_report) in
+    let read = frame_in_accepted a.channel h.report.accepted in
+    let reads = ReadsFrame-frame_in_accepted a.channel h.report.accepted (accepted_count _ h.report h.received.received) in
+    let on : F.channel_of_ends m.ends ≡ a.channel = sym valid.channel ∙ i.channel in
+    let on_its_channel : ReadsFrame (F.channel_of_ends m.ends) h.report.accepted read =
+    subst (λ c. ReadsFrame c h.report.accepted read) (sym on) reads in
+    let did = heard.refines read on_its_channel a.ends i.ends in
     let stepped : step ≡ step_by (E.BySide (E.other sender)) sapi (Some h.report) effects =
     subst (λ r. step ≡ step_by (E.BySide r) sapi (Some h.report) effects) e
     (subst (λ o. step ≡ step_by (E.BySide end) sapi o effects) h.arrived_is_report is) in
-    let t = heard a.ends i.ends in
-    let f = carries_out_event (E.Deliver sender places) a (record m { ends = ends' }) w' t.read effects (E.BySide (E.other sender)) sapi
+    let f = carries_out_event (E.Deliver sender places) a (record m { ends = ends' }) w' read effects (E.BySide (E.other sender)) sapi
     (Some h.report) (E.other sender) (record {
       tsc = i.tsc;
       channel = i.channel;
-      ends = t.represents;
-      has_effects = subst (λ c. F.HasEffects effects c (E.step_for_read_frame (E.other sender) t.read a.ends)) i.channel t.has_effects;
+      ends = did.0;
+      has_effects = subst (λ c. F.HasEffects effects c (E.step_for_read_frame (E.other sender) read a.ends)) on did.1;
       up = i.up;
       down = i.down;
     }) (rw e at sends) (record {
@@ -399,8 +383,8 @@ receive-oldest sender end places w m w' ends' received sapi effects step e h hea
       later_blocks = queued_blocks sender m;
       queue_front = sym (same-queue sender w a st) ∙ h.received.queue_front;
       received = h.received.received;
-      reads_frame = subst (λ c. ReadsFrame c h.report.accepted t.read) i.channel t.reads_frame;
-    }) refl refl t.sapi in (
+      reads_frame = reads;
+    }) refl refl (heard.sapi_matches read on_its_channel a.ends i.ends) in (
       f.0,
       f.1,
       (

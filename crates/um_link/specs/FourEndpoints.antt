@@ -1,10 +1,13 @@
 -- How `BothSides`, the four Rust endpoints, represents the state of both sides.
-use Rattle.std.specs.Prelude.{◌≡◌, map}
+use Rattle.std.specs.Prelude.{◌≡◌, ℕ, List, Option, map}
+use Rattle.lapdm_frame.specs.AcceptedBlocks.{ReadsFrame}
+use Rattle.lapdm_frame.specs.Content.{Frame}
 use Rattle.lapdm_frame.specs.declared.Channel.{Channel}
 use Rattle.lapdm_frame.specs.Frames.{octets_of}
 use Rattle.um_air.specs.lapdm_window.declared.effects.Effects.{Effects}
 use Rattle.lapdm_end.specs.Sides as S
-use Rattle.um_air.specs.lapdm_window.Ends.{Mobile, Network}
+use Rattle.um_air.specs.lapdm_window.declared.Sapi.{Sapi}
+use Rattle.um_air.specs.lapdm_window.Ends.{Role, Mobile, Network}
 use Rattle.um_air.specs.lapdm_link.Events as E
 use Rattle.um_link.specs.declared.ends.BothSides.{BothSides}
 
@@ -35,3 +38,12 @@ abbrev pub StepRefines : (channel : Channel) (event_step : (E.BothSides → E.Si
     (new : BothSides) → Type 0
 StepRefines channel event_step old effects new = (es : E.BothSides) → Represents old es → Represents new (event_step es).new_state
     × HasEffects effects channel (event_step es)
+
+-- the side with this role receives the frame that the accepted octets encode, or does nothing if there is none; the result is the SAPI of
+-- its endpoint
+pub record TakesBlock (role : Role) (accepted : Option (List ℕ)) (old : BothSides) (sapi : Sapi) (effects : Effects) (new : BothSides)
+    : Type 0 where
+  pub refines : (read : Option Frame) → ReadsFrame (channel_of_ends old) accepted read →
+      StepRefines (channel_of_ends old) (E.step_for_read_frame role read) old effects new
+  pub sapi_matches : (read : Option Frame) → ReadsFrame (channel_of_ends old) accepted read → (es : E.BothSides) →
+      Represents old es → sapi ≡ (E.step_for_read_frame role read es).sapi

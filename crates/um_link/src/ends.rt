@@ -1,16 +1,14 @@
 //! The endpoints of both sides, mobile and network, for SAPI 0 and 3.
 
-ghost use Rattle.std.specs.Prelude.{◌≡◌, OnOk, OnErr, Some};
+ghost use Rattle.std.specs.Prelude.{◌≡◌, OnOk, OnErr};
 ghost use Rattle.std.specs.Result.{result_err};
-ghost use Rattle.lapdm_frame.specs.Content.{frame_of_view};
-ghost use Rattle.lapdm_frame.specs.Frames.{FrameFits};
 ghost use Rattle.um_air.specs.lapdm_window.Calls.{endpoint_call_of, IsCallAllowedFor, refusal_of};
 ghost use Rattle.um_air.specs.lapdm_link.Events as E;
 ghost use Rattle.um_link.specs.Naming.{spec_role_of};
 
 use crate::events::End;
 use lapdm_end::{Call, Effects, Refused, Role, Sapi, Side};
-use lapdm_frame::{Channel, FrameView};
+use lapdm_frame::{BLOCK_OCTETS, Channel};
 
 /// The four endpoints: two sides, each with SAPI 0 and SAPI 3.
 #[derive(Drop)]
@@ -20,7 +18,7 @@ pub(crate) struct BothSides {
 }
 
 impl BothSides {
-    ghost use Rattle.um_link.specs.FourEndpoints.{AreSidesOn, Represents, StepRefines, channel_of_ends};
+    ghost use Rattle.um_link.specs.FourEndpoints.{AreSidesOn, Represents, StepRefines, TakesBlock, channel_of_ends};
 
     /// Creates the four endpoints, all in state Idle.
     pub(crate) fn new_on(channel: Channel) -> BothSides
@@ -58,20 +56,21 @@ impl BothSides {
         }
     }
 
-    /// Passes a frame to a side, whose endpoint with the frame's SAPI receives it. Returns that SAPI, or 0 if no endpoint has it.
-    pub(crate) fn take(&mut self, end: End, frame: &FrameView<'_>, effects: &mut Effects) -> Sapi
+    /// Passes the accepted octets of a block to a side, whose endpoint with the SAPI of their frame receives it. Returns that SAPI, or 0 if
+    /// no endpoint receives a frame.
+    pub(crate) fn take_block(
+        &mut self,
+        end: End,
+        accepted: &Option<[u8; BLOCK_OCTETS]>,
+        effects: &mut Effects,
+    ) -> Sapi
         requires on { AreSidesOn (channel_of_ends self.old) self.old }
-        requires fits { FrameFits (channel_of_ends self.old) (frame_of_view frame.now) }
-        ensures refines { StepRefines (channel_of_ends self.old) (E.step_for_read_frame (spec_role_of end) (Some
-            (frame_of_view frame.now))) self.old effects.new
-            self.new }
-        ensures sapi { (es : E.BothSides) → Represents self.old es →
-            result ≡ (E.step_for_read_frame (spec_role_of end) (Some (frame_of_view frame.now)) es).sapi }
+        ensures takes { TakesBlock (spec_role_of end) accepted.now self.old result effects.new self.new }
         ensures on { AreSidesOn (channel_of_ends self.old) self.new }
     {
         match end {
-            End::Mobile => self.mobile.take(frame, effects),
-            End::Network => self.network.take(frame, effects),
+            End::Mobile => self.mobile.take_block(accepted, effects),
+            End::Network => self.network.take_block(accepted, effects),
         }
     }
 }

@@ -16,7 +16,6 @@ ghost use Rattle.um_link.specs.Queues.{AreBitIndices};
 use crate::ends::BothSides;
 use crate::events::{Air, End, Event, No, Step, Way, Who};
 use crate::queue::{QUEUE_CAPACITY, drop_oldest_block, receive_oldest_block, send_frames};
-use crate::taking::take_received_block;
 use circular_buffer::HeapCircularBuffer;
 use lapdm_end::{Call, Effects, Refused, Sapi};
 use lapdm_frame::{Body, Channel, FrameView, write_on};
@@ -207,13 +206,10 @@ impl WorldState {
             return Err(No::AirFull);
         }
         self.receive(radio, sender, inverted_bits, &mut step.received);
-        step.sapi = take_received_block(
-            &mut self.ends,
-            self.channel,
-            end,
-            &step.received,
-            &mut step.effects,
-        );
+        let report = step.received.as_ref().unwrap();
+        step.sapi = self
+            .ends
+            .take_block(end, &report.accepted, &mut step.effects);
         self.send_step_frames(radio, end, step);
         Ok(())
     }
