@@ -29,6 +29,7 @@ mod RunsIdle
 mod RunsWorlds
 mod RunsQueues
 mod RunsLinks
-mod Runs
+pub mod Runs
 mod Lockstep
 mod LockstepRuns
+pub mod Kept

@@ -134,7 +134,7 @@ own_slot s l h = own_slot_by s l (slot_outcome l) h (is_slot l)
 -- ---- what arrives
 
 -- a UI frame changes nothing
-ui-same : (n : ℕ) (cr : Bool) (c : Content) (l : LinkState) → is_ui c ≡ true →
+pub ui-same : (n : ℕ) (cr : Bool) (c : Content) (l : LinkState) → is_ui c ≡ true →
     after_frame (record { sapi = n; cr = cr; content = c }) l ≡ l
 ui-same n cr (Ui p info) l h = grind arith
 ui-same n cr c l h = absurd cc

@@ -66,7 +66,7 @@ use Rattle.um_air.specs.lapdm_link.Claims as C
 
 -- ---- the notices and blocks in the effects of a call
 
-notice-read : (n : Notice) → notice_from_c (c_notice n) ≡ Some n
+pub notice-read : (n : Notice) → notice_from_c (c_notice n) ≡ Some n
 notice-read (N.Opened m) = rw (octets-c_struct m)
 notice-read (N.Got m) = rw (octets-c_struct m)
 notice-read (N.Unit m) = rw (octets-c_struct m)

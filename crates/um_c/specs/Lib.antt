@@ -9,6 +9,7 @@ pub mod EndCalls
 pub mod SideCalls
 pub mod DataLinkCalls
 pub mod Joined
+pub mod DataLinkRuns
 pub mod Opening
 pub mod TimeCalls
 pub mod SlotCalls

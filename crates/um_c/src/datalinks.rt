@@ -1,6 +1,6 @@
 //! C functions for a data link: one side of a channel with its loop. The caller holds the state.
-ghost use Rattle.std.specs.Prelude.{◌≡◌, ◌≢◌, ◌↔◌, ◌≤◌, ◌<◌, ◌==◌, ◌&&◌, not, ◌-◌, length};
-ghost use Rattle.std.specs.Prelude.{replicate, ◌++◌, if◌then◌else◌, Option, Some};
+ghost use Rattle.std.specs.Prelude.{ℕ, List, ◌≡◌, ◌≢◌, ◌↔◌, ◌≤◌, ◌<◌, ◌==◌, ◌&&◌, not, ◌-◌};
+ghost use Rattle.std.specs.Prelude.{length, replicate, ◌++◌, if◌then◌else◌, Option, Some};
 ghost use Rattle.std.specs.Prelude.{None, true, false, IsTrue, IsSome, IfSome, MatchOption};
 ghost use Rattle.lapdm_frame.specs.declared.Channel.{Channel as ChannelOf};
 ghost use Rattle.lapdm_frame.specs.Content.{fill_frame};
@@ -23,6 +23,10 @@ ghost use Rattle.um_c.specs.declared.datalinks.CDataLink.{CDataLink as Struct};
 ghost use Rattle.um_c.specs.Plain.{channel_of, is_nonzero};
 ghost use Rattle.um_c.specs.States.{role_of, sapi_number};
 ghost use Rattle.um_c.specs.Effects.{c_notice, blank_notice};
+ghost use Rattle.um_air.specs.lapdm_link.Claims.{Claims, AckedAtMostDelivered, HasNoticesInOrder};
+ghost use Rattle.um_air.specs.lapdm_window.Ends.{Role as SpecRole};
+ghost use Rattle.um_air.specs.lapdm_window.declared.Sapi.{Sapi as SapiOf};
+ghost use Rattle.um_c.specs.DataLinkRuns.{PairState, PairStep, IsPairStart, IsPairRun, pair_log};
 ghost use Rattle.um_c.specs.DataLinkCalls.{
   answer_from,
   link_values_from,
@@ -98,6 +102,17 @@ pub struct CReport {
 /// Law: two structs that calls wrote for the same data link are equal, octet by octet.
 pub fn law_equal_data_links_have_equal_structs()
     ensures { (a b : Struct) (s : DataLinkState) → IsWrittenFor s a → IsWrittenFor s b → a ≡ b }
+{}
+
+/// Law: in a program that connects two data links and opens no closed link again, in which each side takes the oldest block in transit to
+/// it or a fill frame, messages are delivered in order and before they are acknowledged.
+pub fn law_joined_data_links_deliver_in_order()
+    ensures delivery { (channel : ChannelOf) (t200 : SpecRole → SapiOf → ℕ) (a z : PairState) (steps : List PairStep)
+        → IsPairStart channel t200 a → IsPairRun a steps z → Claims (pair_log steps) }
+    ensures acked_at_most_delivered { (channel : ChannelOf) (t200 : SpecRole → SapiOf → ℕ) (a z : PairState) (steps : List PairStep)
+        → IsPairStart channel t200 a → IsPairRun a steps z → AckedAtMostDelivered (pair_log steps) }
+    ensures order { (channel : ChannelOf) (t200 : SpecRole → SapiOf → ℕ) (a z : PairState) (steps : List PairStep)
+        → IsPairStart channel t200 a → IsPairRun a steps z → HasNoticesInOrder (pair_log steps) }
 {}
 
 fn answer_of(c_struct: &CTimedEnd) -> Option<[u8; BLOCK_OCTETS]>

@@ -24,7 +24,9 @@ mod states;
 mod times;
 mod version;
 
-pub use datalinks::law_equal_data_links_have_equal_structs;
+pub use datalinks::{
+    law_equal_data_links_have_equal_structs, law_joined_data_links_deliver_in_order,
+};
 pub use joined::{
     law_damaged_bursts_deliver_in_order, law_endpoints_acked_at_most_delivered,
     law_joined_endpoints_deliver_in_order, law_joined_endpoints_log_is_ordered,
