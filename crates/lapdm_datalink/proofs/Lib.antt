@@ -24,3 +24,4 @@ pub mod Runs
 mod Lockstep
 mod LockstepRuns
 pub mod Kept
+mod LockstepWorked
