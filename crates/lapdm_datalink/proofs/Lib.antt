@@ -33,3 +33,4 @@ pub mod Runs
 mod Lockstep
 mod LockstepRuns
 pub mod Kept
+mod LockstepWorked
