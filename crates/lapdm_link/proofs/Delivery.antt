@@ -702,7 +702,7 @@ GoesInSession-event w ls event benign h = by_kind w (GoesInSession ls) (λ sende
     session-acts ls w rival x.role x.sapi refl refl (h.links _ _) (λ t n. h.links Mobile t)))
     _ (KnowsBy-oldest_sent_or_rr _ _ w benign)
 
-session-step : (w : World) (ls : List LogLine) (event : Event) → IsBenignEventExceptRrForRej (refusal event w) event w →
+pub session-step : (w : World) (ls : List LogLine) (event : Event) → IsBenignEventExceptRrForRej (refusal event w) event w →
     IsSession w ls →
     IsSession (world_after event w) (ls ++ answer_log_lines event (answer event w))
 session-step w ls event benign h =
@@ -718,7 +718,7 @@ session-run [] w ls benign h = (w, rw append-nil h)
 session-run (event ∷ events) w ls benign h =
     rw (← append_assoc) (session-run events (world_after event w) _ benign.1 (session-step w ls event benign.0 h))
 
-benign_allows_rr : (o : Option EventRefusal) (event : Event) (w : World) → IsBenignEvent o event w →
+pub benign_allows_rr : (o : Option EventRefusal) (event : Event) (w : World) → IsBenignEvent o event w →
     IsBenignEventExceptRrForRej o event w
 benign_allows_rr o event w h = grind arith
 
@@ -726,8 +726,27 @@ allows_rr : (events : List Event) (w : World) → IsBenign events w → IsBenign
 allows_rr [] w h = tt
 allows_rr (event ∷ events) w h = (benign_allows_rr (refusal event w) event w h.0, allows_rr events _ h.1)
 
+-- ---- what the invariant of a session says of its log
+
+module _ {w : World} {ls : List LogLine} (h : IsSession w ls) where
+  pub counts_of : AckedAtMostDelivered ls
+  counts_of r s = acked_most (h.reported r s) (h.reported (other r) s) (carried_by_link (h.links r s))
+
+  pub claims_of : Claims ls
+  claims_of =
+      let in_order : HasNoticesInOrder ls = order_of w ls h.reported in
+      record {
+        in_order = λ r s. delivered_in_order (h.reported r s) (h.reported (other r) s) (carried_by_link (h.links r s));
+        acked_in_order = λ r s n before place.
+            ((in_order.acked_in_order r s n before place).0, stands IsAfterDelivered ls before _ h.after_delivered place);
+        ui_in_order = λ r s. ui_in_order-claim (side r s w ls) (side (other r) s w ls) (ui_in_order (h.links r s));
+        establishment_trigger = λ r s info before place. stands IsOpenedAfter ls before _ h.after_cause place;
+        established_once = in_order.established_once;
+        no_oversize = λ r s. none_oversize (h.reported (other r) s) (h.reported r s) (carried_by_link (IsLink-swapped (h.links r s)));
+      }
+
 module _ (capacity : QueueCapacity) (channel : Channel) where
-  abbrev pub origin : World
+  abbrev origin : World
   origin = initial_world capacity channel
 
   abbrev first_side : Role → Sapi → Side
@@ -743,37 +762,23 @@ module _ (capacity : QueueCapacity) (channel : Channel) where
   initial-links Network Zero = initial-link _ _ _
   initial-links r s = initial-link _ _ _
 
-  IsSession-origin : IsSession origin []
-  IsSession-origin = record {
+  pub initial-session : IsSession origin []
+  initial-session = record {
     reported = initial-reported capacity _;
     links = initial-links;
     after_delivered = tt;
-    after_cause =
-        tt;
+    after_cause = tt;
   }
 
   module _ (events : List Event) where
-    abbrev pub log : List LogLine
+    abbrev log : List LogLine
     log = C.session_log events (answers events origin)
 
     pub counts_with_rr : IsBenignExceptRrForRej events origin → AckedAtMostDelivered log
-    counts_with_rr benign r s =
-        let (z, h) = session-run events origin [] benign IsSession-origin in
-        acked_most (h.reported r s) (h.reported (other r) s) (carried_by_link (h.links r s))
+    counts_with_rr benign = counts_of (session-run events origin [] benign initial-session).1
 
     pub claims_with_rr : IsBenignExceptRrForRej events origin → Claims log
-    claims_with_rr benign =
-        let in_order : HasNoticesInOrder log = order_claims capacity channel events in
-        let (z, h) = session-run events origin [] benign IsSession-origin in
-        record {
-          in_order = λ r s. delivered_in_order (h.reported r s) (h.reported (other r) s) (carried_by_link (h.links r s));
-          acked_in_order = λ r s n before place.
-              ((in_order.acked_in_order r s n before place).0, stands IsAfterDelivered log before _ h.after_delivered place);
-          ui_in_order = λ r s. ui_in_order-claim (side r s z log) (side (other r) s z log) (ui_in_order (h.links r s));
-          establishment_trigger = λ r s info before place. stands IsOpenedAfter log before _ h.after_cause place;
-          established_once = in_order.established_once;
-          no_oversize = λ r s. none_oversize (h.reported (other r) s) (h.reported r s) (carried_by_link (IsLink-swapped (h.links r s)));
-        }
+    claims_with_rr benign = claims_of (session-run events origin [] benign initial-session).1
 
     pub acked_at_most_delivered : IsBenign events origin → AckedAtMostDelivered log
     acked_at_most_delivered benign = counts_with_rr (allows_rr events origin benign)

@@ -767,13 +767,15 @@ in_order-run (event ∷ events) w ls h = rw (← append_assoc) (in_order-run eve
 pub initial-reported : (capacity : QueueCapacity) (channel : Channel) → AllReported (initial_world capacity channel) []
 initial-reported capacity channel = grind arith
 
+pub order_of : (w : World) (ls : List LogLine) → AllReported w ls → HasNoticesInOrder ls
+order_of w ls h = record {
+  acked_in_order = λ r s n before place. acknowledged (h r s) n before place;
+  established_once = λ r s. omega (arith, (h r s).notified.staged.0);
+  closed_once = λ r s. omega (arith, (h r s).notified.staged.1);
+  only_while_open = λ r s n before of place. only_while_open (h r s) n before of place;
+}
+
 pub order_claims : (capacity : QueueCapacity) (channel : Channel) (events : List Event) →
     HasNoticesInOrder (session_log events (answers events (initial_world capacity channel)))
 order_claims capacity channel events =
-    let run = in_order-run events (initial_world capacity channel) [] (initial-reported capacity channel) in
-    record {
-      acked_in_order = λ r s n before place. acknowledged (run.1 r s) n before place;
-      established_once = λ r s. omega (arith, (run.1 r s).notified.staged.0);
-      closed_once = λ r s. omega (arith, (run.1 r s).notified.staged.1);
-      only_while_open = λ r s n before of place. only_while_open (run.1 r s) n before of place;
-    }
+    let run = in_order-run events (initial_world capacity channel) [] (initial-reported capacity channel) in order_of run.0 _ run.1

@@ -231,9 +231,9 @@ KnowsBy None Known event = Knows Known event
 no_refusal : (b : Bool) (o : Option Refused) → refusal_if b AirFull (as_event_refusal o) ≡ None → o ≡ None
 no_refusal b o h = grind arith
 
-none_sent : (r : Role) (w : World) → with_frames r [] w ≡ w
-none_sent Mobile w = rw append-nil refl
-none_sent Network w = rw append-nil refl
+pub with_frames-none : (r : Role) (w : World) → with_frames r [] w ≡ w
+with_frames-none Mobile w = rw append-nil refl
+with_frames-none Network w = rw append-nil refl
 
 module _ (w : World) (P : World → List LogLine → Type 0) (Known : Role → Frame → Type 0) (refused : P w [])
     (called : (r : Role) (s : Sapi) (call : Call) → IsPlaced r s call → refusal_of call (end_of r s w) ≡ None →
@@ -252,7 +252,7 @@ module _ (w : World) (P : World → List LogLine → Type 0) (Known : Role → F
     either o event known h = grind arith
 
     quietly : (sender r : Role) → P (with_frames r [] (without_oldest_item sender w)) []
-    quietly sender r = subst (λ z. P z []) (sym (none_sent r _)) (lost sender)
+    quietly sender r = subst (λ z. P z []) (sym (with_frames-none r _)) (lost sender)
 
     -- `P` holds after the oldest frame arrives at side r, which then takes step d
     abbrev Arrives : Role → S.SideStep → Type 0
@@ -525,7 +525,7 @@ fits-step channel w event known h = holds-step _ _ (λ ls. Unit {0}) (λ sender 
 pub initial-fits : (capacity : QueueCapacity) (channel : Channel) → IsFitting channel (initial_world capacity channel)
 initial-fits capacity channel = grind arith
 
-with_items_appended-all : (F : Frame → Type 0) (r : Role) (fs : List Frame) (ws : Queues Frame) →
+pub with_items_appended-all : (F : Frame → Type 0) (r : Role) (fs : List Frame) (ws : Queues Frame) →
     ((r' : Role) → All F (W.queue_of r' (with_items_appended r fs ws))) → All F fs
 with_items_appended-all F Mobile fs ws h = rw drop-append_seam at (All-drop F (length ws.up) _ (h Mobile))
 with_items_appended-all F Network fs ws h = rw drop-append_seam at (All-drop F (length ws.down) _ (h Network))
