@@ -1,24 +1,41 @@
 -- Sessions over any carrier: what is in transit there encodes the frames in transit of a session of frames with the same log, so the
 -- claims about sessions of frames hold for it.
-use Rattle.lapdm_link.specs.Carriers.{IsRun, log_of_turns}
-use Rattle.lapdm_link.specs.Events.{Open, Repeat, SendUi, Idle, SessionEvent, unbounded_capacity}
-use Rattle.lapdm_link.specs.Worlds.{IsBenignEventExceptRrForRej, IsOldestSentOrRrForRej}
-use Rattle.lapdm_window.specs.lapdm_frame.Frames.{IsFrameCoding, octets_of}
-use Rattle.lapdm_window.proofs.lapdm_frame.Lemmas.{octets_canonical}
-use Rattle.std.specs.List.{AllZip, flat_map}
-use Rattle.lapdm_link.specs.Queues.{empty_queues}
-use Rattle.lapdm_link.specs.Queues as W
-use Rattle.lapdm_link.proofs.Delivery.{
-  ◌≡◌, refl, sym, ◌∙◌, arith, ◌++◌, true, false, List, [], ◌∷◌, map, drop, ℕ, All, nat_eq, nat_tests, append_assoc, append-nil, subst, ap,
-  Option, Some, None, Frame, FrameFits, Channel, Role, Mobile, Network, Sapi, Zero, Three, Call, Opens, OpensWithoutInfo, Sends, SendsUi,
-  Closes, T200Expires, Repeats, SendsFillFrame, call_outcome, refusal_of, frame_outcome, sapi_number, Send, Close, T200Expiry, Event,
-  OpenBare, Ask, Deliver, Lose, Rival, Request, endpoint_call_of, rival_sabm, rival_refusal, other, event_step, sending_role,
-  queues_after_removal, LogLine, Asked, Notified, RivalSabm, answer_log_lines, notice_log_lines, answer_unless_refused, World, initial_world,
-  refusal, world_after, world_after_possible_refusal, Claims, AckedAtMostDelivered, HasNoticesInOrder, Queues, with_items_appended, queue_of,
-  end_of, way, acted, with_frames, without_oldest_item, each_way, Knows, KnowsBy, IsPlaced, AllReported, IsFitting, AllFit, fits-step,
-  in_order-step, initial-fits, initial-reported, order_of, IsSession, session-step, initial-session, claims_of, counts_of, All-head, All-tail,
-  with_items_appended-all, Message, Outcome, with_frames-none,
+use Rattle.{
+  lapdm_link.{
+    proofs.{
+      Acting.ends,
+      Events.{IsPlaced, Knows, acted, by_event, each_way, end_of, way, with_frames-none, with_frames, without_oldest_item},
+      Fitting.{AllFit, IsFitting, fits-step, initial-fits, with_items_appended-all},
+      Links.{Step, lines},
+      Order.{AllReported, in_order-step, initial-reported, order_of},
+      Rules.{Known, known},
+      Sessions.{IsSession, claims_of, counts_of, initial-session, session-step},
+    },
+    specs.{
+      Carriers.{IsRun, log_of_turns},
+      Claims.{AckedAtMostDelivered, Asked, Claims, HasNoticesInOrder, LogLine, Notified, RivalSabm, answer_log_lines},
+      Events.{Ask, Close, Deliver, Event, Idle, Lose, OpenBare, Open, Repeat, Rival, SendUi, Send, SessionEvent, T200Expiry, event_step},
+      Events.{other, queues_after_removal, rival_refusal, rival_sabm, unbounded_capacity},
+      Queues.{Queues, empty_queues, queue_of, with_items_appended},
+      Worlds.{IsBenignEventExceptRrForRej, IsOldestSentOrRrForRej, World, answer_unless_refused, initial_world, refusal},
+      Worlds.world_after_possible_refusal,
+    },
+  },
+  lapdm_window.{
+    proofs.{Lemmas.Keeps, lapdm_frame.Lemmas.octets_canonical},
+    specs.{
+      Calls.{Call, Closes, OpensWithoutInfo, Opens, Repeats, SendsFillFrame, SendsUi, Sends, T200Expires, call_outcome, refusal_of},
+      Ends.{Mobile, Network, Outcome, Role, sapi_number},
+      Tables.frame_outcome,
+      declared.{Sapi.{TheVariants.{Three, Zero}, Sapi}, State.{TheVariants.{Idle, Open}, State}},
+      lapdm_frame.{Content.Frame, Frames.{FrameFits, IsFrameCoding, octets_of}, declared.Channel.Channel},
+      segmenting.Segments.Message,
+    },
+  },
+  std.proofs.Common.{List, None, Some, [], append_assoc, arith, drop, false, map, nat_eq, refl, true, ℕ, ◌++◌, ◌∷◌, ◌≡◌},
+  std.{proofs.lemmas.{Bool.Decides.nat_tests, List.{Elements.{All-head, All-tail}, append-nil}}, specs.List.AllZip},
 }
+use Rattle.lapdm_link.specs.Queues as W
 
 -- ## InTransit: Queues whose elements correspond one to one, and stay so when both lose their oldest element or gain corresponding ones.
 

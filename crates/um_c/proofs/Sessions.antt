@@ -43,7 +43,7 @@ use Rattle.{
     specs.{
       Effects.c_notice,
       EndCalls.{EndpointReceivesBlock, EndpointAnswersCall, SucceedsWithOutcome, call_refusal_number},
-      Joined.{AnyStepAllowed, Calls, DeliversOldestBlock, EncodeSameFrame, FirstBlockSatisfies, HasNoFrameOnSapi, ChangesOneEndpoint},
+      Joined.{AnyStepAllowed, Calls, DeliversOldestBlock, EncodeSameFrame, FirstSatisfies, HasNoFrameOnSapi, ChangesOneEndpoint},
       Joined.{IsNewEndpointOrNone, IsProgramRun, IsProgramStart, IsProgramStep, IsDecodedFromSentBlock, LosesOldestBlock, ProgramState},
       Joined.{ProgramStep, ReceivesOldestBlock, RivalSabm, TakesOldestBlock, TakesOtherSapiBlock, blocks_sent, session_log, notice_from_c},
       Joined.{notices_from_c, step_log_lines},
@@ -109,144 +109,13 @@ MayRepresent (Some x) e = StructRepresents x e
 abbrev pub AreStates : ProgramState → World → Type 0
 AreStates b w = (r : Role) (s : Sapi) → MayRepresent (b.state r s) (end_of r s w)
 
--- the blocks in transit encode these frames, in order
-abbrev pub AreCoded : Channel → Queues (List ℕ) → Queues Frame → Type 0
-AreCoded channel ws fs = (r : Role) → AllZip (IsFrameCoding channel) (W.queue_of r fs) (W.queue_of r ws)
-
--- the program state `a` corresponds to the session state `w`: its structs represent the endpoints of `w`, and its blocks in transit encode
--- the frames in transit of `w`
-pub record Matches (channel : Channel) (a : ProgramState) (w : World) : Type 0 where
-  pub capacity : w.capacity ≡ unbounded_capacity
-  pub represents : AreStates a w
-  pub queues : AreCoded channel a.queues w.queues
-  pub fit : IsFitting channel w
-  pub log : List LogLine
-  pub reported : AllReported w log
-
--- the step either has no effect on the session or corresponds to an event of the session
-pub data IsPlayed (channel : Channel) (a b : ProgramState) (turn : ProgramStep) (w : World) : Type 0 where
-  idle : Matches channel b w → step_log_lines turn ≡ [] → IsPlayed channel a b turn w
-  does : (event : Event) → (DeliversOldestBlock channel a turn → IsBenignEventExceptRrForRej (refusal event w) event w) →
-      Matches channel b (world_after event w) →
-      step_log_lines turn ≡ answer_log_lines event (answer event w) → IsPlayed channel a b turn w
-
--- ---- appending blocks to a queue and removing blocks from it
-
-module _ {T : Type 0} where
-  queue_of-append : (r : Role) (xs : List T) (ws : Queues T) → W.queue_of r (with_items_appended r xs ws) ≡ W.queue_of r ws ++ xs
-  queue_of-append r xs ws = grind arith
-
-  queue_of-append_other : (r : Role) (xs : List T) (ws : Queues T) →
-      W.queue_of (other r) (with_items_appended r xs ws) ≡ W.queue_of (other r) ws
-  queue_of-append_other r xs ws = grind arith
-
-  queue_of-append_none : (r r' : Role) (ws : Queues T) → W.queue_of r' (with_items_appended r [] ws) ≡ W.queue_of r' ws
-  queue_of-append_none Mobile Mobile ws = append-nil ws.up
-  queue_of-append_none Network Network ws = append-nil ws.down
-  queue_of-append_none r r' ws = refl
-
-module _ {X Y : Type 0} (R : X → Y → Type 0) where
-  AllZip-rest : (xs : List X) (ys : List Y) → AllZip R xs ys → AllZip R (drop 1 xs) (drop 1 ys)
-  AllZip-rest xs ys h = grind arith
-
-  AllZip-append : (xs xs' : List X) (ys ys' : List Y) → AllZip R xs ys → AllZip R xs' ys' → AllZip R (xs ++ xs') (ys ++ ys')
-  AllZip-append [] xs' [] ys' h g = g
-  AllZip-append (x ∷ xs) xs' (y ∷ ys) ys' h g = (h.0, AllZip-append xs xs' ys ys' h.1 g)
-  AllZip-append xs xs' ys ys' h g = absurd assumption
-
-module _ {channel : Channel} {ws : Queues (List ℕ)} {fs : Queues Frame} (h : AreCoded channel ws fs) where
-  AreCoded-rest : (sender : Role) → AreCoded channel (W.without_oldest_item sender ws) (W.without_oldest_item sender fs)
-  AreCoded-rest Mobile Mobile = AllZip-rest _ fs.up ws.up (h Mobile)
-  AreCoded-rest Network Network = AllZip-rest _ fs.down ws.down (h Network)
-  AreCoded-rest sender r = h r
-
-  AreCoded-append : (r : Role) (sent : List Frame) (blocks : List (List ℕ)) → AllZip (IsFrameCoding channel) sent blocks →
-      AreCoded channel (with_items_appended r blocks ws) (with_items_appended r sent fs)
-  AreCoded-append r sent blocks g =
-      let R : Frame → List ℕ → Type 0 = IsFrameCoding channel in
-      each_way (λ q. AllZip R (W.queue_of q (with_items_appended r sent fs)) (W.queue_of q (with_items_appended r blocks ws))) r
-      (rw (queue_of-append r sent fs, queue_of-append r blocks ws)
-      (AllZip-append R (W.queue_of r fs) sent (W.queue_of r ws) blocks (h r) g))
-      (rw (queue_of-append_other r sent fs, queue_of-append_other r blocks ws) (h (other r)))
-
--- if frames fit in blocks of the channel, their canonical octets encode them
-written : (channel : Channel) (fs : List Frame) → All (FrameFits channel) fs →
-    AllZip (IsFrameCoding channel) fs (map (octets_of channel) fs)
-written channel [] fit = tt
-written channel (f ∷ fs) fit =
-    ((octets_canonical channel f (All-head (FrameFits channel) f fs fit)).frame, written channel fs (All-tail (FrameFits channel) f fs fit))
+-- the program in state `a` has the log `ls`, and represents a session of frames with this log
+abbrev pub IsProgram : Type 0 → Channel → ProgramState → List LogLine → Type 0
+IsProgram Sound channel a ls = IsCarried Sound channel (AreStates a) a.queues ls
 
 each_state : (P : Role → Sapi → Type 0) (r : Role) (s : Sapi) → P r s →
     ((r' : Role) (s' : Sapi) → is_end r' s' r s ≡ false → P r' s') → (r' : Role) (s' : Sapi) → P r' s'
 each_state P r s h g r' s' = grind arith
-
--- ---- each call corresponds to an event of the session
-
-abbrev AllFit : Channel → Role → Frame → Type 0
-AllFit channel sender f = FrameFits channel f
-
--- the event makes the endpoint with this role and SAPI act with the outcome `o`
-record IsSideStep (channel : Channel) (r : Role) (s : Sapi) (o : Outcome) (asked : List LogLine) (w z : World) (event : Event) : Type 0
-  where
-    after : world_after_possible_refusal None event w ≡ acted r s o z
-    frames : (event_step event w.ends).frames ≡ o.frames
-    output : answer_log_lines event (answer_unless_refused None (event_step event w.ends)) ≡ asked ++ map (Notified r s) o.notices
-
-record IsAsked (channel : Channel) (r : Role) (s : Sapi) (call : Call) (w : World) (event : Event) : Type 0 where
-  refused : refusal event w ≡ as_event_refusal (refusal_of call (end_of r s w))
-  carried_out : IsSideStep channel r s (call_outcome call (end_of r s w)) (Asked r s call ∷ []) w w event
-  event_known : KnowsBy None (AllFit channel) event
-  benign : IsBenignEventExceptRrForRej None event w
-
-module _ (channel : Channel) (w : World) (room : w.capacity ≡ unbounded_capacity) where
-  by_request : (r : Role) (s : Sapi) (request : Request) →
-      (event : Event) × IsAsked channel r s (endpoint_call_of request) w event
-  by_request r s request = (
-    Ask r s request,
-    record {
-      refused = rw room refl;
-      carried_out = record { after = refl; frames = refl; output = refl };
-      event_known = tt;
-      benign = tt;
-    },
-  )
-
-  asked : (r : Role) (s : Sapi) (call : Call) → IsPlaced r s call → (event : Event) × IsAsked channel r s call w event
-  asked Mobile Zero (Opens info) placed = (
-    Open info,
-    record {
-      refused = rw room refl;
-      carried_out = record { after = refl; frames = refl; output = refl };
-      event_known = tt;
-      benign = tt;
-    },
-  )
-  asked r s (Opens info) placed = absurd (grind arith)
-  asked r Three OpensWithoutInfo placed = (
-    OpenBare r,
-    record {
-      refused = rw room refl;
-      carried_out = record { after = refl; frames = refl; output = refl };
-      event_known = tt;
-      benign = tt;
-    },
-  )
-  asked r Zero OpensWithoutInfo placed = absurd (grind arith)
-  asked r s (Sends m) placed = by_request r s (Send m)
-  asked r s (SendsUi m) placed = by_request r s (SendUi m)
-  asked r s Closes placed = by_request r s Close
-  asked r s T200Expires placed = by_request r s T200Expiry
-  asked r s Repeats placed = by_request r s Repeat
-  asked r s SendsFillFrame placed = by_request r s Idle
-
-  -- if a frame with the SAPI of an endpoint arrives, this endpoint receives the frame
-  delivered : (r : Role) (s : Sapi) (f : Frame) → nat_eq f.sapi (sapi_number s) ≡ true →
-      IsSideStep channel r s (frame_outcome f (end_of r s w)) [] w (without_oldest_item (other r) w) (Deliver (other r) (Some f))
-  delivered Mobile Zero f on = record { after = rw on refl; frames = rw on refl; output = rw on refl }
-  delivered Network Zero f on = record { after = rw on refl; frames = rw on refl; output = rw on refl }
-  delivered r s f on =
-      let no : nat_eq f.sapi 0 ≡ false = grind (arith, nat_tests) in
-      record { after = rw (no, on) refl; frames = rw (no, on) refl; output = rw (no, on) refl }
 
 -- an endpoint with this role and SAPI either supports this call or does not support it
 IsPlaced-or_not : (r : Role) (s : Sapi) (call : Call) → IsPlaced r s call ⊎ (IsPlaced r s call → ⊥)
@@ -269,133 +138,84 @@ module _ {r : Role} {s : Sapi} (e : EndpointState) (role : e.role ≡ r) (sapi :
 
 -- ---- one step of the program
 
--- each struct represents its endpoint of the session state `w`, and the blocks in transit encode the frames `left`
-record IsQuiet (channel : Channel) (b : ProgramState) (w : World) (left : Queues Frame) : Type 0 where
-  represents : AreStates b w
-  queues : AreCoded channel b.queues left
+module _ {Sound : Type 0} {channel : Channel} {a : ProgramState} {ls : List LogLine} (h : IsProgram Sound channel a ls) where
+  abbrev w : World
+  w = h.world
 
-module _ {channel : Channel} {a : ProgramState} {w : World} (m : Matches channel a w) where
-  -- in this module, the session does not refuse the event
-  module _ {b : ProgramState} (event : Event) (none : refusal event w ≡ None) where
-    next : KnowsBy None (AllFit channel) event →
-        (let z : World = world_after_possible_refusal None event w in (AreStates b z →
-        AreCoded channel b.queues z.queues → Matches channel b (world_after event w)))
-    next known represents queues =
-        record {
-          capacity = rw none m.capacity;
-          represents = rw none represents;
-          queues = rw none queues;
-          fit = fits-step channel w event (rw none known) m.fit;
-          log = m.log ++ answer_log_lines event (answer event w);
-          reported = in_order-step w m.log event m.reported;
-        }
-
-    -- a step corresponds to an event if the structs, the queues and the log lines after the step agree with the session after the event
-    plays : {turn : ProgramStep} → KnowsBy None (AllFit channel) event →
-        (DeliversOldestBlock channel a turn → IsBenignEventExceptRrForRej None event w) →
-        (let z : World = world_after_possible_refusal None event w in (AreStates b z → AreCoded channel b.queues z.queues →
-        step_log_lines turn ≡ answer_log_lines event (answer_unless_refused None (event_step event w.ends)) →
-        IsPlayed channel a b turn w))
-    plays known benign represents queues same =
-        does event (λ q. rw none (benign q)) (next known represents queues) (rw none same)
-
-  idles : {b : ProgramState} → IsQuiet channel b w w.queues → Matches channel b w
-  idles q = record {
-    capacity = m.capacity;
-    represents = q.represents;
-    queues = q.queues;
-    fit = m.fit;
-    log = m.log;
-    reported = m.reported;
-  }
-
-  -- a step that only removes the oldest block from a side corresponds to the loss of the oldest frame from that side
-  loses : {b : ProgramState} {turn : ProgramStep} (sender : Role) → IsQuiet channel b w (W.without_oldest_item sender w.queues) →
-      step_log_lines turn ≡ [] → IsPlayed channel a b turn w
-  loses sender q none =
-      plays (Lose sender) (rw m.capacity refl) tt (λ h. tt) q.represents
-      (λ r. rw (queue_of-append_none Mobile r (W.without_oldest_item sender w.queues)) (q.queues r)) none
+  on_channel : (r : Role) (s : Sapi) → (end_of r s w).channel ≡ channel
+  on_channel r s = (h.fit.ends r s).on_channel
 
   module _ {b : ProgramState} {r : Role} {s : Sapi} {old new : CEndpoint} {out : List (List ℕ)} {left : Queues (List ℕ)}
       (l : ChangesOneEndpoint r s old new out left a b) where
     here : StructRepresents old (end_of r s w)
-    here = rw l.old_state at (m.represents r s)
+    here = rw l.old_state at (h.is r s)
 
-    -- if the new struct represents the same endpoint as before and the call sends no block, all structs represent the same endpoints as
-    -- before
-    quiet : (fs : Queues Frame) → AreCoded channel left fs → out ≡ [] → StructRepresents new (end_of r s w) →
-        IsQuiet channel b w fs
-    quiet fs same none represents = record {
-      represents = each_state (λ r' s'. MayRepresent (b.state r' s') (end_of r' s' w)) r s (rw l.new_state represents)
-          (λ r' s' n. rw (l.others_unchanged r' s' n) (m.represents r' s'));
-      queues = rw (l.queues, none) (λ q. rw (queue_of-append_none r q left) (same q));
-    }
+    -- if the new struct represents the same endpoint as before and the call sends no block, so do all structs, and no block is added
+    quiet : out ≡ [] → StructRepresents new (end_of r s w) → AreStates b w × (b.queues ≡ left)
+    quiet none represents = (
+      each_state (λ r' s'. MayRepresent (b.state r' s') (end_of r' s' w)) r s (rw l.new_state represents)
+          (λ r' s' n. rw (l.others_unchanged r' s' n) (h.is r' s')),
+      l.queues ∙ rw none (with_items_appended-none r left),
+    )
 
-    -- a call that succeeds corresponds to an event in which the endpoint acts and its frames are sent
-    acts : {turn : ProgramStep} {o : Outcome} {answer : ℕ} {output : CEffects} {z : World} (event : Event) {asked : List LogLine} →
-        out ≡ blocks_sent answer output → refusal event w ≡ None → KnowsBy None (AllFit channel) event →
-        IsSideStep channel r s o asked w z event → AreStates a z →
-        AreCoded channel left z.queues → SucceedsWithOutcome channel o answer new output →
-        (DeliversOldestBlock channel a turn → IsBenignEventExceptRrForRej None event w) →
-        step_log_lines turn ≡ asked ++ map (Notified r s) o.notices → IsPlayed channel a b turn w
-    acts {o} {z} event sent none known d represents queues c benign same =
-        let fit : All (FrameFits channel) o.frames = rw d.frames at (event_step-fits channel w event (rw none known) m.fit none) in
-        plays event none known benign
-        (subst (AreStates b) (sym d.after) (ends_do (λ r' s' e. MayRepresent (b.state r' s') e) r s o z (rw l.new_state c.represents)
-        (λ r' s' n. rw (l.others_unchanged r' s' n) (represents r' s'))))
-        (subst (λ (v : World). AreCoded channel b.queues v.queues) (sym d.after)
-        (rw (l.queues, sent, output-blocks c) (AreCoded-append queues r o.frames _ (written channel o.frames fit))))
-        (same ∙ sym d.output)
+    -- if the call succeeds, the structs represent the endpoints after its outcome
+    acts : {answer : ℕ} {output : CEffects} {o : Outcome} (z : World) → AreStates a z → SucceedsWithOutcome channel o answer new output →
+        AreStates b (acted r s o z)
+    acts {o = o} z states c = ends_do (λ r' s' e. MayRepresent (b.state r' s') e) r s o z (rw l.new_state c.represents)
+        (λ r' s' n. rw (l.others_unchanged r' s' n) (states r' s'))
 
-  on_channel : (r : Role) (s : Sapi) → (end_of r s w).channel ≡ channel
-  on_channel r s = (m.fit.ends r s).on_channel
+    acts-coded : {answer : ℕ} {output : CEffects} {o : Outcome} (z : World) → out ≡ blocks_sent answer output →
+        AreCoded channel z.queues left → SucceedsWithOutcome channel o answer new output → IsFitting channel (acted r s o z) →
+        AreCoded channel (acted r s o z).queues b.queues
+    acts-coded {o = o} z sent coded c fit = rw (l.queues, sent, output-blocks c) (coded-acted z coded r s o fit)
 
   module _ {b : ProgramState} {r : Role} {s : Sapi} {old new : CEndpoint} {call : Call} {answer : ℕ} {output output_old : CEffects}
       (answers_call : EndpointAnswersCall call answer old new output_old output)
       (l : ChangesOneEndpoint r s old new (blocks_sent answer output) a.queues a b) where
-    not_called : answer ≢ 0 → IsPlayed channel a b (Calls r s call answer output) w
-    not_called other =
-        idle (idles (quiet l w.queues m.queues (blocks_sent-refused output other) (rw (answers_call.unchanged other).0 (here l))))
-        (grind (arith, nat_tests))
+    abbrev Called : Type 0
+    Called = IsProgram Sound channel b (ls ++ step_log_lines (Calls r s call answer output))
 
-    called : IsPlaced r s call → (o : Option Refused) → refusal_of call (end_of r s w) ≡ o →
-        IsPlayed channel a b (Calls r s call answer output) w
+    not_called : answer ≢ 0 → Called
+    not_called other =
+        let k = quiet l (blocks_sent-refused output other) (rw (answers_call.unchanged other).0 (here l)) in
+        let none : step_log_lines (Calls r s call answer output) ≡ [] = grind (arith, nat_tests) in
+        rw none (stays h (AreStates b) b.queues k.0 (rw k.1 h.coded))
+
+    called : IsPlaced r s call → (o : Option Refused) → refusal_of call (end_of r s w) ≡ o → Called
     called is (Some reason) e =
-        let asks = allowed (end_of r s w) (m.reported r s).role (m.reported r s).sapi call is in
+        let asks = allowed (end_of r s w) (h.reported r s).role (h.reported r s).sapi call is in
         let refused = answers_call.refused _ (here l) asks reason e in
         not_called (λ zero. refuses reason cc)
     called is None e =
         let x : EndpointState = end_of r s w in
         let c : SucceedsWithOutcome channel (call_outcome call x) answer new output =
         subst (λ k. SucceedsWithOutcome k (call_outcome call x) answer new output) (on_channel r s)
-        (answers_call.carried_out x (here l) (allowed (end_of r s w) (m.reported r s).role (m.reported r s).sapi call is) e) in
-        let event = asked channel w m.capacity r s call is in
-        acts l event.0 refl (event.1.refused ∙ ap as_event_refusal e) event.1.event_known event.1.carried_out m.represents m.queues c
-        (λ q. event.1.benign) (rw (c.answer_is_0, output-notices c) refl)
+        (answers_call.carried_out x (here l) (allowed x (h.reported r s).role (h.reported r s).sapi call is) e) in
+        let lines : step_log_lines (Calls r s call answer output) ≡ Asked r s call ∷ map (Notified r s) (call_outcome call x).notices =
+        rw (c.answer_is_0, output-notices c) refl in
+        rw lines (calls h (AreStates b) b.queues r s call is e (acts l w h.is c) (acts-coded l w refl h.coded c))
 
-    calls : IsPlaced r s call ⊎ (IsPlaced r s call → ⊥) → IsPlayed channel a b (Calls r s call answer output) w
-    calls (inl is) = called is (refusal_of call (end_of r s w)) refl
-    calls (inr never) =
+    answered : IsPlaced r s call ⊎ (IsPlaced r s call → ⊥) → Called
+    answered (inl is) = called is (refusal_of call (end_of r s w)) refl
+    answered (inr never) =
         let unsupported = answers_call.unsupported_call _ (here l)
-        (λ asks. never (placed (end_of r s w) (m.reported r s).role (m.reported r s).sapi call asks)) in
+        (λ asks. never (placed (end_of r s w) (h.reported r s).role (h.reported r s).sapi call asks)) in
         not_called (λ zero. omega arith)
 
   -- in this module, an endpoint receives a block
   module _ {b : ProgramState} {r : Role} {s : Sapi} {old new : CEndpoint} {block : List ℕ} {answer : ℕ} {output output_old : CEffects}
       (answers_block : EndpointReceivesBlock block answer old new output_old output) where
-    module _ {left : Queues (List ℕ)} (l : ChangesOneEndpoint r s old new (blocks_sent answer output) left a b) (fs : Queues Frame)
-        (queues : AreCoded channel left fs) where
+    module _ {left : Queues (List ℕ)} (l : ChangesOneEndpoint r s old new (blocks_sent answer output) left a b) where
       abbrev HasNoEffect : Type 0
-      HasNoEffect = IsQuiet channel b w fs × (step_log_lines (TakesOldestBlock r s block answer output) ≡ [])
+      HasNoEffect = AreStates b w × (b.queues ≡ left) × (step_log_lines (TakesOldestBlock r s block answer output) ≡ [])
 
       -- a block that encodes no frame has no effect
       no_frame : (reason : Refusal) → IsOnlyRefusalReason channel block reason → HasNoEffect
       no_frame reason only =
           let invalid = answers_block.invalid_frame _ (here l) reason (rw (on_channel r s) only) in
-          let other : answer ≢ 0 = λ zero. omega arith in (
-            quiet l fs queues (blocks_sent-refused output other) (rw (answers_block.unchanged other).0 (here l)),
-            grind (arith, nat_tests),
-          )
+          let other : answer ≢ 0 = λ zero. omega arith in
+          let k = quiet l (blocks_sent-refused output other) (rw (answers_block.unchanged other).0 (here l)) in
+          (k.0, k.1, grind (arith, nat_tests))
 
       module _ (f : Frame) (only : IsOnlyEncodedFrame channel f block) where
         carried : SucceedsWithOutcome channel (frame_outcome f (end_of r s w)) answer new output
@@ -407,31 +227,40 @@ module _ {channel : Channel} {a : ProgramState} {w : World} (m : Matches channel
         passes_by : nat_eq f.sapi (sapi_number s) ≡ false → HasNoEffect
         passes_by off =
             let x : EndpointState = end_of r s w in
-            let no : nat_eq f.sapi (sapi_number x.sapi) ≡ false = rw (m.reported r s).sapi off in
+            let no : nat_eq f.sapi (sapi_number x.sapi) ≡ false = rw (h.reported r s).sapi off in
             let c : SucceedsWithOutcome channel (no_effect x) answer new output =
             subst (λ o. SucceedsWithOutcome channel o answer new output) (rw no refl) carried in
-            (quiet l fs queues (output-blocks c) c.represents, rw (c.answer_is_0, output-notices c) refl)
+            let k = quiet l (output-blocks c) c.represents in (k.0, k.1, rw (c.answer_is_0, output-notices c) refl)
 
       unheard : HasUniqueReading channel block → HasNoFrameOnSapi channel s block → HasNoEffect
       unheard (inl (f, only)) none =
           let no : f.sapi ≢ sapi_number s = none f only.frame in passes_by f only (grind (arith, nat_tests, no))
       unheard (inr (reason, only)) none = no_frame reason only
 
-    -- if an endpoint receives a block without a frame on its SAPI, and no block leaves its queue, the step has no effect on the session
-    shows : ChangesOneEndpoint r s old new (blocks_sent answer output) a.queues a b → length block ≡ 23 →
+    -- if an endpoint receives a block without a frame on its SAPI, and no block leaves its queue, nothing happens in the session
+    shown : ChangesOneEndpoint r s old new (blocks_sent answer output) a.queues a b → length block ≡ 23 →
         HasNoFrameOnSapi channel s block →
-        IsPlayed channel a b (TakesOtherSapiBlock r s block answer output) w
-    shows l size none = let h = unheard l w.queues m.queues (one_reading channel block size) none in idle (idles h.0) h.1
+        IsProgram Sound channel b (ls ++ step_log_lines (TakesOtherSapiBlock r s block answer output))
+    shown l size none =
+        let k = unheard l (one_reading channel block size) none in
+        rw k.2 (stays h (AreStates b) b.queues k.0 (rw k.1 h.coded))
 
     -- in this module, the oldest block in transit to this side leaves its queue
     module _ (l : ChangesOneEndpoint r s old new (blocks_sent answer output) (W.without_oldest_item (other r) a.queues) a b) where
-      abbrev fewer : Queues Frame
-      fewer = W.without_oldest_item (other r) w.queues
+      abbrev Taken : Type 0
+      Taken = IsProgram Sound channel b (ls ++ step_log_lines (TakesOldestBlock r s block answer output))
+
+      fewer : AreCoded channel (without_oldest_item (other r) w).queues (W.without_oldest_item (other r) a.queues)
+      fewer = coded-rest w h.coded (other r)
+
+      -- a block without effect is lost in the session
+      lost : HasNoEffect l → Taken
+      lost k = rw k.2 (loses h (AreStates b) b.queues (other r) k.0 (λ fit. rw k.1 fewer))
 
       module _ (f : Frame) (only : IsOnlyEncodedFrame channel f block) where
         -- the frame that the block encodes is the oldest frame in transit, or an RR in place of a REJ
         first : (fs : List Frame) (os : List (List ℕ)) → AllZip (IsFrameCoding channel) fs os →
-            FirstBlockSatisfies (λ sent. EncodeSameFrame channel sent block) os → IsOldestSentOrRrForRej (Some f) fs
+            FirstSatisfies (λ sent. EncodeSameFrame channel sent block) os → IsOldestSentOrRrForRej (Some f) fs
         first (g ∷ gs) (o ∷ os) same sent = elim (sent g same.0) [
           | inl is ↦ inl (same_frame channel block f g only.frame is)
           | inr rr ↦ inr (same_frame channel block f (record g { content = rej_replaced_by_rr g.content }) only.frame rr)
@@ -439,64 +268,34 @@ module _ {channel : Channel} {a : ProgramState} {w : World} (m : Matches channel
         first fs [] same sent = absurd sent
         first fs os same sent = absurd assumption
 
-        by_link : (on : Bool) → nat_eq f.sapi (sapi_number s) ≡ on → IsPlayed channel a b (TakesOldestBlock r s block answer output) w
-        by_link true on =
-            let d = delivered channel w m.capacity r s f on in
-            let c = carried l fewer (AreCoded-rest m.queues (other r)) f only in
-            acts l (Deliver (other r) (Some f)) refl (rw m.capacity refl) only.frame.fits d m.represents (AreCoded-rest m.queues (other r))
-            c
-            (first (W.queue_of (other r) w.queues) (W.queue_of (other r) a.queues) (m.queues (other r)))
-            (rw (c.answer_is_0, output-notices c) refl)
-        by_link false off =
-            let h = passes_by l fewer (AreCoded-rest m.queues (other r)) f only off in loses (other r) h.0 h.1
+        by_link : (Sound → DeliversOldestBlock channel a (TakesOldestBlock r s block answer output)) → (on : Bool) →
+            nat_eq f.sapi (sapi_number s) ≡ on → Taken
+        by_link delivers true on =
+            let c = carried l f only in
+            let lines : step_log_lines (TakesOldestBlock r s block answer output) ≡ map (Notified r s)
+            (frame_outcome f (end_of r s w)).notices = rw (c.answer_is_0, output-notices c) refl in
+            let read : Sound → IsOldestSentOrRrForRej (Some f) (W.queue_of (other r) w.queues) =
+            λ sound. first (W.queue_of (other r) w.queues) (W.queue_of (other r) a.queues) (h.coded (other r)) (delivers sound) in
+            rw lines (takes h (AreStates b) b.queues r s f on (only.frame.fits, read) (acts l (without_oldest_item (other r) w) h.is c)
+            (acts-coded l (without_oldest_item (other r) w) refl fewer c))
+        by_link delivers false off = lost (passes_by l f only off)
 
-      gives : HasUniqueReading channel block → IsPlayed channel a b (TakesOldestBlock r s block answer output) w
-      gives (inl (f, only)) = by_link f only (nat_eq f.sapi (sapi_number s)) refl
-      gives (inr (reason, only)) =
-          let h = no_frame l fewer (AreCoded-rest m.queues (other r)) reason only in loses (other r) h.0 h.1
+      given : (Sound → DeliversOldestBlock channel a (TakesOldestBlock r s block answer output)) → HasUniqueReading channel block → Taken
+      given delivers (inl (f, only)) = by_link f only delivers (nat_eq f.sapi (sapi_number s)) refl
+      given delivers (inr (reason, only)) = lost (no_frame l reason only)
 
-  turn-step : (turn : ProgramStep) (b : ProgramState) → IsProgramStep channel a turn b → IsPlayed channel a b turn w
-  turn-step (Calls r s call answer output) b t = calls t.3 t.4 (IsPlaced-or_not r s call)
-  turn-step (TakesOldestBlock r s block answer output) b t = gives t.3 t.4 (one_reading channel block t.5)
-  turn-step (TakesOtherSapiBlock r s block answer output) b t = shows t.3 t.4 t.5 t.6
-  turn-step (LosesOldestBlock sender) b t =
-      rw t (loses sender (record { represents = m.represents; queues = AreCoded-rest m.queues sender }) refl)
-  turn-step (RivalSabm info block) b t =
-      rw t.0 (plays (Rival info) (rw (m.capacity, m.fit.on_channel, t.2) refl) tt (λ q. tt) m.represents
-      (AreCoded-append m.queues Mobile (rival_sabm info ∷ []) (block ∷ []) (t.1, tt)) refl)
+  turn-step : (turn : ProgramStep) (b : ProgramState) → IsProgramStep channel a turn b →
+      (Sound → DeliversOldestBlock channel a turn) → IsProgram Sound channel b (ls ++ step_log_lines turn)
+  turn-step (Calls r s call answer output) b t delivers = answered t.3 t.4 (IsPlaced-or_not r s call)
+  turn-step (TakesOldestBlock r s block answer output) b t delivers = given t.3 t.4 delivers (one_reading channel block t.5)
+  turn-step (TakesOtherSapiBlock r s block answer output) b t delivers = shown t.3 t.4 t.5 t.6
+  turn-step (LosesOldestBlock sender) b t delivers =
+      rw t (loses h (AreStates a) (W.without_oldest_item sender a.queues) sender h.is (λ fit. coded-rest w h.coded sender))
+  turn-step (RivalSabm info block) b t delivers =
+      rw t.0 (hears_rival h (AreStates a) (with_items_appended Mobile (block ∷ []) a.queues) info (rw h.fit.on_channel t.2) h.is
+      (λ fit. alike-more (IsFrameCoding channel) Mobile (rival_sabm info ∷ []) (block ∷ []) w.queues a.queues h.coded (t.1, tt)))
 
 -- ---- several steps of the program
-
--- the steps have the same log as a session of frames; if each endpoint receives only the oldest block in transit to it (`Sound`), each
--- receiver in the session reads the oldest frame in transit, or none, or an RR in place of a REJ
-record IsSession (turns : List ProgramStep) (w : World) (Sound : Type 0) : Type 0 where
-  events : List Event
-  same_lines : session_log turns ≡ C.session_log events (answers events w)
-  benign : Sound → IsBenignExceptRrForRej events w
-
-module _ (channel : Channel) (May : Channel → ProgramState → ProgramStep → Type 0) where
-  abbrev Sound : Type 0
-  Sound = (a : ProgramState) (turn : ProgramStep) → May channel a turn → DeliversOldestBlock channel a turn
-
-  goes : (a b : ProgramState) (turn : ProgramStep) (turns : List ProgramStep) (w : World) → May channel a turn →
-      IsPlayed channel a b turn w → ((z : World) → Matches channel b z → IsSession turns z Sound) →
-      IsSession (turn ∷ turns) w Sound
-  goes a b turn turns w allowed (idle m none) rest =
-      let r = rest w m in
-      record { events = r.events; same_lines = rw none r.same_lines; benign = r.benign }
-  goes a b turn turns w allowed (does event benign m same) rest =
-      let r = rest (world_after event w) m in
-      record {
-        events = event ∷ r.events;
-        same_lines = rw (same, r.same_lines) refl;
-        benign = λ q. (benign (q a turn allowed), r.benign q);
-      }
-
-  session : (turns : List ProgramStep) (a z : ProgramState) (w : World) → Matches channel a w → IsProgramRun channel May a turns z →
-      IsSession turns w Sound
-  session [] a z w m run = record { events = []; same_lines = refl; benign = λ q. tt }
-  session (turn ∷ turns) a z w m run =
-      goes a run.1 turn turns w run.0 (turn-step m turn run.1 run.2) (λ next n. session turns run.1 z next n run.3)
 
 begun-initial : (channel : Channel) (r : Role) (s : Sapi) (x : Option CEndpoint) → IsNewEndpointOrNone channel r s x →
     MayRepresent x (initial_endpoint r s channel)
@@ -507,43 +306,34 @@ begun-initial Sacch Mobile Zero (Some new) h = h.1.1
 begun-initial Sacch Network Zero (Some new) h = h.1.1
 begun-initial channel r s (Some new) h = h.1.1
 
-Matches-initial : (channel : Channel) (a : ProgramState) → IsProgramStart channel a →
-    Matches channel a (initial_world unbounded_capacity channel)
-Matches-initial channel a h = record {
-  capacity = refl;
-  represents = each_start (λ r s e. MayRepresent (a.state r s) e) unbounded_capacity channel
-      (λ r s. begun-initial channel r s (a.state r s) (h.new_endpoint r s));
-  queues = rw h.queues (each_way _ Mobile tt tt);
-  fit = initial-fits unbounded_capacity channel;
-  log = [];
-  reported = initial-reported unbounded_capacity channel;
-}
-
--- in this module, each block that an endpoint receives is the oldest in transit to it; then the claims about delivery and acknowledgement
--- hold for the steps
-module _ (May : Channel → ProgramState → ProgramStep → Type 0) (channel : Channel) (sound : Sound channel May) (a z : ProgramState)
-    (turns : List ProgramStep) (h : IsProgramStart channel a) (run : IsProgramRun channel May a turns z) where
-  pub claims_of : Claims (session_log turns)
-  claims_of =
-      let x = session channel May turns a z _ (Matches-initial channel a h) run in
-      rw x.same_lines (claims_with_rr unbounded_capacity channel x.events (x.benign sound))
-
-  pub counts_of : AckedAtMostDelivered (session_log turns)
-  counts_of =
-      let x = session channel May turns a z _ (Matches-initial channel a h) run in
-      rw x.same_lines (counts_with_rr unbounded_capacity channel x.events (x.benign sound))
+-- in this module, `Sound` implies that each block that an endpoint receives is the oldest in transit to it
+module _ (Sound : Type 0) (May : Channel → ProgramState → ProgramStep → Type 0) (channel : Channel)
+    (delivers : Sound → (a : ProgramState) (turn : ProgramStep) → May channel a turn → DeliversOldestBlock channel a turn)
+    (a z : ProgramState) (turns : List ProgramStep) (h : IsProgramStart channel a) (run : IsProgramRun channel May a turns z) where
+  pub joined : IsProgram Sound channel z (session_log turns)
+  joined =
+      let start : IsProgram Sound channel a [] =
+      rw h.queues (carried-start Sound channel (AreStates a) (each_start (λ r s e. MayRepresent (a.state r s) e) unbounded_capacity channel
+      (λ r s. begun-initial channel r s (a.state r s) (h.new_endpoint r s)))) in
+      run-keeps (IsProgramStep channel) (May channel) step_log_lines (IsProgram Sound channel)
+      (λ a b turn ls k may step. turn-step k turn b step (λ sound. delivers sound a turn may)) turns a z [] start run
 
 pub joined_claims : (channel : Channel) (a z : ProgramState) (turns : List ProgramStep) → IsProgramStart channel a →
     IsProgramRun channel DeliversOldestBlock a turns z →
     Claims (session_log turns)
-joined_claims channel = claims_of DeliversOldestBlock channel (λ a turn allowed. allowed)
+joined_claims channel a z turns h run =
+    carried_claims (joined (Unit {0}) DeliversOldestBlock channel (λ sound a turn may. may) a z turns h run) tt
 
 pub joined_order : (channel : Channel) (a z : ProgramState) (turns : List ProgramStep) → IsProgramStart channel a →
     IsProgramRun channel AnyStepAllowed a turns z →
     HasNoticesInOrder (session_log turns)
 joined_order channel a z turns h run =
-    let x = session channel AnyStepAllowed turns a z _ (Matches-initial channel a h) run in
-    rw x.same_lines (order_claims unbounded_capacity channel x.events)
+    carried_order (joined ⊥ AnyStepAllowed channel (λ sound. absurd sound) a z turns h run)
+
+pub joined_counts : (channel : Channel) (a z : ProgramState) (turns : List ProgramStep) → IsProgramStart channel a →
+    IsProgramRun channel DeliversOldestBlock a turns z → AckedAtMostDelivered (session_log turns)
+joined_counts channel a z turns h run =
+    carried_counts (joined (Unit {0}) DeliversOldestBlock channel (λ sound a turn may. may) a z turns h run) tt
 
 -- ---- blocks that are decoded from bursts
 
@@ -571,8 +361,8 @@ module _ (sent block : List ℕ) (h : IsDecodedFromSentBlock sent block) where
       (ap (λ (r : ListDecodedBlock). r.report.accepted) same ∙ accepted)
 
 heard-first : (channel : Channel) (sent : List (List ℕ)) (block : List ℕ) →
-    FirstBlockSatisfies (λ first. IsDecodedFromSentBlock first block) sent →
-    FirstBlockSatisfies (λ first. EncodeSameFrame channel first block) sent
+    FirstSatisfies (λ first. IsDecodedFromSentBlock first block) sent →
+    FirstSatisfies (λ first. EncodeSameFrame channel first block) sent
 heard-first channel (first ∷ others) block h = λ f is. inl (rw (h.octets, output-sent first block h h.received) is)
 heard-first channel [] block h = absurd h
 
@@ -757,7 +547,7 @@ take_1-first_block [] n one some = absurd (omega arith)
 
 -- if a call sent one block, the receiver gets that block unchanged
 arrives_unchanged : (channel : Channel) {answer : ℕ} {output : CEffects} → SentOneBlock answer output →
-    FirstBlockSatisfies (λ first. EncodeSameFrame channel first (first_block output)) (blocks_sent 0 output)
+    FirstSatisfies (λ first. EncodeSameFrame channel first (first_block output)) (blocks_sent 0 output)
 arrives_unchanged channel {output} h =
     rw (take_1-first_block output.frames output.frame_count h.count (omega (arith, h.capacity))) (λ f is. inl is)
 

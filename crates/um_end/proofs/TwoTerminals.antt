@@ -67,7 +67,7 @@ module _ {Sound : Type 0} {Is : World → Type 0} {octets : Queues Octets} {ls :
   acts side d event left from new none known coded later lines =
       let b = state_after_step side d.new_state (map (octets_of Sdcch) d.frames) from (terminals w octets) in
       let goes = rw (later, lines) at (happens h (λ z. terminals z b.queues ≡ b) b.queues event none known) in
-      goes refl (coded-sent {w = record left { ends = with_side_replaced side d.new_state w.ends }} coded side d.frames)
+      goes refl (coded-sent (record left { ends = with_side_replaced side d.new_state w.ends }) coded side d.frames)
 
   -- a call to a side is an event of the session, or is refused
   asked_call : (side : Role) (sapi : Sapi) (call : Call) (event : Event) (e : E.Event) (refused : Option EventRefusal) →
@@ -115,7 +115,7 @@ module _ {Sound : Type 0} {Is : World → Type 0} {octets : Queues Octets} {ls :
         (λ sound. IsOldestSent-received bursts (queue_of (other side) octets) r.report r.received (delivers sound)) in
         rw (r.new_state_is, r.step_is_terminal_step)
         (acts side d event (without_oldest_item (other side) w) (W.without_oldest_item (other side) octets) _ (rw h.capacity refl) known.0
-        (coded-rest {w = w} h.coded (other side)) later lines)
+        (coded-rest w h.coded (other side)) later lines)
 
   brought : (side : Role) (bursts : List (List ℤ)) (step : Step) (links : SideState) →
       ReceivesBursts side (side_with_role side w.ends) bursts links step →
@@ -131,7 +131,7 @@ module _ {Sound : Type 0} {Is : World → Type 0} {octets : Queues Octets} {ls :
   turn-step (TakesBurst side bursts step) b t delivers = rw t.2 (brought side bursts step t.0 t.1 delivers)
   turn-step (Loses sender) b t delivers =
       let left = W.without_oldest_item sender octets in
-      rw t (loses h (λ z. terminals z left ≡ terminals w left) left sender refl (λ fit. coded-rest {w = w} h.coded sender))
+      rw t (loses h (λ z. terminals z left ≡ terminals w left) left sender refl (λ fit. coded-rest w h.coded sender))
 
 -- ---- several steps of the two terminals
 
