@@ -476,13 +476,13 @@ module _ (channel : Channel) (t200 : Role → Sapi → ℕ) (events : List RunEv
   ran s = let t = run_at events (initial_run channel t200) [] (initial_at channel t200) run in (t.0, t.1 s)
 
   claims_of : (s : Sapi) → Claims (log_lines_of_sapi s log)
-  claims_of s = let a = (ran s).1 in rw a.seen_lines at (claims-seen a.lines (session_claims a.reaches.session))
+  claims_of s = let a = (ran s).1 in rw a.seen_lines at (claims-seen a.lines (session_claims (a.reaches.reached.session tt)))
 
   counts_of : (s : Sapi) → AckedAtMostDelivered (log_lines_of_sapi s log)
-  counts_of s = let a = (ran s).1 in rw a.seen_lines at (counts-seen a.lines (session_counts a.reaches.session))
+  counts_of s = let a = (ran s).1 in rw a.seen_lines at (counts-seen a.lines (session_counts (a.reaches.reached.session tt)))
 
   order_of : (s : Sapi) → HasNoticesInOrder (log_lines_of_sapi s log)
-  order_of s = let a = (ran s).1 in rw a.seen_lines at (order-seen a.lines (session_order a.world a.lines a.reaches.session.reported))
+  order_of s = let a = (ran s).1 in rw a.seen_lines at (order-seen a.lines (session_order a.world a.lines a.reaches.reached.reported))
 
   pub data_links_deliver : Claims log
   data_links_deliver = delivery_by_link log (claims_of Zero) (claims_of Three)

@@ -112,10 +112,10 @@ module _ {s : Sapi} {r : Role} {air air' : List Frame} {l l' : LinkState} {log :
     (k : LinkAt s r air l air' l' log)
   where
     pub own_sapi : l.endpoint.sapi ≡ s
-    own_sapi = ap (λ (e : EndpointState). e.sapi) (sym k.here.endpoint) ∙ (k.reaches.session.reported r s).sapi
+    own_sapi = ap (λ (e : EndpointState). e.sapi) (sym k.here.endpoint) ∙ (k.reaches.reached.reported r s).sapi
 
     window : HasWindowOfOne l.endpoint
-    window = rw k.here.endpoint at (k.reaches.session.reported r s).window_of_one
+    window = rw k.here.endpoint at (k.reaches.reached.reported r s).window_of_one
 
     -- nothing happens in the session
     pub stays : {air2 : List Frame} {l2 : LinkState} → l2.endpoint ≡ l.endpoint → IsSub (air2 ++ pending l2) (way r k.world) →

@@ -9,7 +9,7 @@ use Rattle.{
       Links.{Step, lines},
       Order.{AllReported, in_order-step, initial-reported, order_of},
       Rules.{Known, known},
-      Sessions.{IsSession, claims_of, counts_of, initial-session, session-step},
+      Sessions.{IsSession, initial-session, session-step},
     },
     specs.{
       Carriers.{IsRun, log_of_turns},
@@ -32,8 +32,8 @@ use Rattle.{
       segmenting.Segments.Message,
     },
   },
-  std.proofs.Common.{List, None, Some, [], append_assoc, arith, drop, false, map, nat_eq, refl, true, ℕ, ◌++◌, ◌∷◌, ◌≡◌},
-  std.{proofs.lemmas.{Bool.Decides.nat_tests, List.{Elements.{All-head, All-tail}, append-nil}}, specs.List.AllZip},
+  std.proofs.Common.{List, None, Option, Some, [], append_assoc, arith, drop, false, map, nat_eq, refl, true, ℕ, ◌++◌, ◌∷◌},
+  std.{proofs.{Common.◌≡◌, lemmas.{Bool.Decides.nat_tests, List.{Elements.{All-head, All-tail}, append-nil}}}, specs.List.AllZip},
 }
 use Rattle.lapdm_link.specs.Queues as W
 
@@ -43,7 +43,7 @@ module _ {X Y : Type 0} (R : X → Y → Type 0) where
   zip-rest : (xs : List X) (ys : List Y) → AllZip R xs ys → AllZip R (drop 1 xs) (drop 1 ys)
   zip-rest xs ys h = grind arith
 
-  pub zip-append : (xs zs : List X) (ys ws : List Y) → AllZip R xs ys → AllZip R zs ws → AllZip R (xs ++ zs) (ys ++ ws)
+  zip-append : (xs zs : List X) (ys ws : List Y) → AllZip R xs ys → AllZip R zs ws → AllZip R (xs ++ zs) (ys ++ ws)
   zip-append [] zs [] ws h g = g
   zip-append (x ∷ xs) zs (y ∷ ys) ws h g = (h.0, zip-append xs zs ys ws h.1 g)
   zip-append xs zs ys ws h g = absurd assumption
@@ -55,10 +55,6 @@ module _ {X Y : Type 0} (R : X → Y → Type 0) where
       AreAlike (with_items_appended sender x xs) (with_items_appended sender y ys)
   alike-more sender x y xs ys h g = grind (arith, zip-append)
 
-  pub alike-rest : (sender : Role) (xs : Queues X) (ys : Queues Y) → AreAlike xs ys →
-      AreAlike (W.without_oldest_item sender xs) (W.without_oldest_item sender ys)
-  alike-rest sender xs ys h = grind (arith, zip-rest)
-
   pub alike-taken : {A : Type 0} (event : SessionEvent A) (xs : Queues X) (ys : Queues Y) → AreAlike xs ys →
       AreAlike (queues_after_removal event xs) (queues_after_removal event ys)
   alike-taken event xs ys h = grind (arith, zip-rest)
@@ -68,7 +64,7 @@ abbrev pub AreCoded : Channel → Queues Frame → Queues (List ℕ) → Type 0
 AreCoded channel fs os = AreAlike (IsFrameCoding channel) fs os
 
 -- the canonical octets of frames that fit in blocks encode them
-pub coded-canonical : (channel : Channel) (fs : List Frame) → AllFit channel fs →
+coded-canonical : (channel : Channel) (fs : List Frame) → AllFit channel fs →
     AllZip (IsFrameCoding channel) fs (map (octets_of channel) fs)
 coded-canonical channel [] fit = tt
 coded-canonical channel (f ∷ fs) fit = (
@@ -76,176 +72,97 @@ coded-canonical channel (f ∷ fs) fit = (
   coded-canonical channel fs (All-tail (FrameFits channel) f fs fit),
 )
 
-module _ {channel : Channel} (w : World) {os : Queues (List ℕ)} (h : AreCoded channel w.queues os) where
-  pub coded-rest : (sender : Role) → AreCoded channel (W.without_oldest_item sender w.queues) (W.without_oldest_item sender os)
-  coded-rest sender = alike-rest (IsFrameCoding channel) sender w.queues os h
+module _ {channel : Channel} (fs : Queues Frame) {os : Queues (List ℕ)} (h : AreCoded channel fs os) where
+  pub coded-rest : (sender : Role) → AreCoded channel (W.without_oldest_item sender fs) (W.without_oldest_item sender os)
+  coded-rest sender = let event : Event = Lose sender in alike-taken (IsFrameCoding channel) event fs os h
 
-  -- an endpoint sends frames: their canonical octets join those in transit
-  pub coded-sent : (r : Role) (fs : List Frame) → IsFitting channel (with_frames r fs w) →
-      AreCoded channel (with_items_appended r fs w.queues) (with_items_appended r (map (octets_of channel) fs) os)
-  coded-sent r fs fit =
-      alike-more (IsFrameCoding channel) r fs (map (octets_of channel) fs) w.queues os h
-      (coded-canonical channel fs (with_items_appended-all (FrameFits channel) r fs w.queues fit.queues))
-
-  pub coded-acted : (r : Role) (s : Sapi) (o : Outcome) → IsFitting channel (acted r s o w) →
-      AreCoded channel (acted r s o w).queues (with_items_appended r (map (octets_of channel) o.frames) os)
-  coded-acted r s o fit =
-      alike-more (IsFrameCoding channel) r o.frames (map (octets_of channel) o.frames) w.queues os h
-      (coded-canonical channel o.frames (with_items_appended-all (FrameFits channel) r o.frames w.queues fit.queues))
+  -- a side sends frames: their canonical octets join those in transit
+  pub coded-sent : (r : Role) (sent : List Frame) → ((r' : Role) → AllFit channel (queue_of r' (with_items_appended r sent fs))) →
+      AreCoded channel (with_items_appended r sent fs) (with_items_appended r (map (octets_of channel) sent) os)
+  coded-sent r sent fit =
+      alike-more (IsFrameCoding channel) r sent (map (octets_of channel) sent) fs os h
+      (coded-canonical channel sent (with_items_appended-all (FrameFits channel) r sent fs fit))
 
 pub with_items_appended-none : {T : Type 0} (r : Role) (ws : Queues T) → with_items_appended r [] ws ≡ ws
 with_items_appended-none Mobile ws = rw append-nil refl
 with_items_appended-none Network ws = rw append-nil refl
 
--- ## Kinds: What holds after each event that is not refused holds after each call, received frame, loss and SABM of another mobile. This is
--- the converse of `by_kind`, for queues of unlimited length.
+-- ## Reached: A session of frames that a carrier represents goes on with each event that is not refused.
 
-module _ (w : World) (capacity : w.capacity ≡ unbounded_capacity) (P : World → List LogLine → Type 0) (Known : Role → Frame → Type 0)
-    (by_event : (event : Event) → refusal event w ≡ None → Knows Known event →
-    P (world_after_possible_refusal None event w) (answer_log_lines event (answer_unless_refused None (event_step event w.ends))))
-  where
-    goes : (event : Event) {z : World} {new : List LogLine} → refusal event w ≡ None → Knows Known event →
-        world_after_possible_refusal None event w ≡ z →
-        answer_log_lines event (answer_unless_refused None (event_step event w.ends)) ≡ new → P z new
-    goes event none known e e' = rw (e, e') at (by_event event none known)
+-- A session on this channel, in queues of unlimited length, reaches the state `w` with the log `ls`. If `Sound`, each frame arrived in order
+-- or was lost.
+pub record IsReached (Sound : Type 0) (channel : Channel) (w : World) (ls : List LogLine) : Type 0 where
+  pub capacity : w.capacity ≡ unbounded_capacity
+  pub fit : IsFitting channel w
+  pub reported : AllReported w ls
+  pub session : Sound → IsSession w ls
 
-    pub called : (r : Role) (s : Sapi) (call : Call) → IsPlaced r s call → refusal_of call (end_of r s w) ≡ None →
-        P (acted r s (call_outcome call (end_of r s w)) w)
-        (Asked r s call ∷ map (Notified r s) (call_outcome call (end_of r s w)).notices)
-    called Mobile Zero (Opens info) placed ok = goes (Open info) (rw (capacity, ok) refl) tt refl refl
-    called r s (Opens info) placed ok = absurd (grind arith)
-    called r Three OpensWithoutInfo placed ok = goes (OpenBare r) (rw (capacity, ok) refl) tt refl refl
-    called r Zero OpensWithoutInfo placed ok = absurd (grind arith)
-    called r s (Sends m) placed ok = goes (Ask r s (Send m)) (rw (capacity, ok) refl) tt refl refl
-    called r s (SendsUi m) placed ok = goes (Ask r s (SendUi m)) (rw (capacity, ok) refl) tt refl refl
-    called r s Closes placed ok = goes (Ask r s Close) (rw (capacity, ok) refl) tt refl refl
-    called r s T200Expires placed ok = goes (Ask r s T200Expiry) (rw (capacity, ok) refl) tt refl refl
-    called r s Repeats placed ok = goes (Ask r s Repeat) (rw (capacity, ok) refl) tt refl refl
-    called r s SendsFillFrame placed ok = goes (Ask r s Idle) (rw capacity refl) tt refl refl
-
-    pub taken : (r : Role) (s : Sapi) (f : Frame) → nat_eq f.sapi (sapi_number s) ≡ true → Known (other r) f →
-        P (acted r s (frame_outcome f (end_of r s w)) (without_oldest_item (other r) w))
-        (map (Notified r s) (frame_outcome f (end_of r s w)).notices)
-    taken Mobile Zero f on known = goes (Deliver Network (Some f)) (rw capacity refl) known (rw on refl) (rw on refl)
-    taken Network Zero f on known = goes (Deliver Mobile (Some f)) (rw capacity refl) known (rw on refl) (rw on refl)
-    taken r s f on known =
-        let no : nat_eq f.sapi 0 ≡ false = grind (arith, nat_tests) in
-        goes (Deliver (other r) (Some f)) (rw capacity refl) known (rw (no, on) refl) (rw (no, on) refl)
-
-    pub lost : (sender : Role) → P (without_oldest_item sender w) []
-    lost sender = goes (Lose sender) (rw capacity refl) tt (with_frames-none Mobile (without_oldest_item sender w)) refl
-
-    pub rival : (info : Message) → rival_refusal w.channel info ≡ None →
-        P (with_frames Mobile (rival_sabm info ∷ []) w) (RivalSabm info ∷ [])
-    rival info ok = goes (Rival info) (rw (capacity, ok) refl) tt refl refl
-
--- an event in which the oldest frame, or an RR in place of a REJ, is read is benign
-pub benign-read : (event : Event) (w : World) → Knows (λ sender f. IsOldestSentOrRrForRej (Some f) (way sender w)) event →
-    IsBenignEventExceptRrForRej None event w
-benign-read (Deliver sender (Some f)) w known = known
-benign-read event w known = tt
-
--- ## Carried: A session over a carrier goes on as the session of frames that it represents.
-
--- A session over a carrier on this channel has the log `ls`, and these octets are in transit. It represents a session of frames, in queues
--- of unlimited length, that has this log and whose state satisfies `Is`. If `Sound`, each frame arrived in order or was lost.
-pub record IsCarried (Sound : Type 0) (channel : Channel) (Is : World → Type 0) (octets : Queues (List ℕ)) (ls : List LogLine) : Type 0
-  where
-    pub world : World
-    pub capacity : world.capacity ≡ unbounded_capacity
-    pub is : Is world
-    pub coded : AreCoded channel world.queues octets
-    pub fit : IsFitting channel world
-    pub reported : AllReported world ls
-    pub session : Sound → IsSession world ls
-
-pub carried-start : (Sound : Type 0) (channel : Channel) (Is : World → Type 0) → Is (initial_world unbounded_capacity channel) →
-    IsCarried Sound channel Is empty_queues []
-carried-start Sound channel Is is = record {
-  world = initial_world unbounded_capacity channel;
+pub reached-start : (Sound : Type 0) (channel : Channel) → IsReached Sound channel (initial_world unbounded_capacity channel) []
+reached-start Sound channel = record {
   capacity = refl;
-  is = is;
-  coded = each_way (λ r. AllZip (IsFrameCoding channel) (queue_of r empty_queues) (queue_of r empty_queues)) Mobile tt tt;
   fit = initial-fits unbounded_capacity channel;
   reported = initial-reported unbounded_capacity channel;
   session = λ sound. initial-session unbounded_capacity channel;
 }
 
-module _ {Sound : Type 0} {channel : Channel} {Is : World → Type 0} {octets : Queues (List ℕ)} {ls : List LogLine}
-    (h : IsCarried Sound channel Is octets ls) where
-  pub carried_claims : Sound → Claims ls
-  carried_claims sound = claims_of (h.session sound)
-
-  pub carried_counts : Sound → AckedAtMostDelivered ls
-  carried_counts sound = counts_of (h.session sound)
-
-  pub carried_order : HasNoticesInOrder ls
-  carried_order = order_of h.world ls h.reported
-
+module _ {Sound : Type 0} {channel : Channel} {w : World} {ls : List LogLine} (h : IsReached Sound channel w ls) where
   -- a receiver may read this frame: it fits in a block, and if `Sound`, it is the oldest in transit, or an RR in place of a REJ
   abbrev pub MayRead : Role → Frame → Type 0
-  MayRead sender f = FrameFits channel f × (Sound → IsOldestSentOrRrForRej (Some f) (way sender h.world))
+  MayRead sender f = FrameFits channel f × (Sound → IsOldestSentOrRrForRej (Some f) (way sender w))
 
-  -- the carrier goes on to `Is'` and `octets'` if the session of frames goes on to the state `z` with the log lines `new`
-  abbrev pub Goes : (World → Type 0) → Queues (List ℕ) → World → List LogLine → Type 0
-  Goes Is' octets' z new = Is' z → (IsFitting channel z → AreCoded channel z.queues octets') →
-      IsCarried Sound channel Is' octets' (ls ++ new)
+  pub read-fits : (event : Event) → Knows MayRead event → Knows (λ sender f. FrameFits channel f) event
+  read-fits (Deliver sender (Some f)) known = known.0
+  read-fits event known = tt
 
-  pub knows-fits : (event : Event) → Knows MayRead event → Knows (λ sender f. FrameFits channel f) event
-  knows-fits (Deliver sender (Some f)) known = known.0
-  knows-fits event known = tt
+  read-benign : (event : Event) → Knows MayRead event → Sound → IsBenignEventExceptRrForRej None event w
+  read-benign (Deliver sender (Some f)) known sound = known.1 sound
+  read-benign event known sound = tt
 
-  knows-oldest : (event : Event) → Knows MayRead event → Sound →
-      Knows (λ sender f. IsOldestSentOrRrForRej (Some f) (way sender h.world)) event
-  knows-oldest (Deliver sender (Some f)) known sound = known.1 sound
-  knows-oldest event known sound = tt
+  pub happens : (event : Event) → refusal event w ≡ None → Knows MayRead event →
+      IsReached Sound channel (world_after_possible_refusal None event w)
+      (ls ++ answer_log_lines event (answer_unless_refused None (event_step event w.ends)))
+  happens event none known = record {
+    capacity = h.capacity;
+    fit = rw none at (fits-step channel w event (rw none (read-fits event known)) h.fit);
+    reported = rw none at (in_order-step w ls event h.reported);
+    session = λ sound. rw none at (session-step w ls event (rw none (read-benign event known sound)) (h.session sound));
+  }
 
-  module _ (Is' : World → Type 0) (octets' : Queues (List ℕ)) where
-    pub happens : (event : Event) → refusal event h.world ≡ None → Knows MayRead event →
-        Goes Is' octets' (world_after_possible_refusal None event h.world)
-        (answer_log_lines event (answer_unless_refused None (event_step event h.world.ends)))
-    happens event none known is coded =
-        let fit : IsFitting channel (world_after_possible_refusal None event h.world) =
-        rw none at (fits-step channel h.world event (rw none (knows-fits event known)) h.fit) in
-        record {
-          world = world_after_possible_refusal None event h.world;
-          capacity = h.capacity;
-          is = is;
-          coded = coded fit;
-          fit = fit;
-          reported = rw none at (in_order-step h.world ls event h.reported);
-          session = λ sound. rw none
-              at (session-step h.world ls event (rw none (benign-read event h.world (knows-oldest event known sound))) (h.session sound));
-        }
+  goes : (event : Event) {z : World} {new : List LogLine} → refusal event w ≡ None → Knows MayRead event →
+      world_after_possible_refusal None event w ≡ z →
+      answer_log_lines event (answer_unless_refused None (event_step event w.ends)) ≡ new → IsReached Sound channel z (ls ++ new)
+  goes event none known e e' = rw (e, e') at (happens event none known)
 
-    -- nothing happens in the session of frames
-    pub stays : Is' h.world → AreCoded channel h.world.queues octets' → IsCarried Sound channel Is' octets' (ls ++ [])
-    stays is coded = rw append-nil (record {
-      world = h.world;
-      capacity = h.capacity;
-      is = is;
-      coded = coded;
-      fit = h.fit;
-      reported = h.reported;
-      session = h.session;
-    })
+  pub calls : (r : Role) (s : Sapi) (call : Call) → IsPlaced r s call → refusal_of call (end_of r s w) ≡ None →
+      IsReached Sound channel (acted r s (call_outcome call (end_of r s w)) w)
+      (ls ++ Asked r s call ∷ map (Notified r s) (call_outcome call (end_of r s w)).notices)
+  calls Mobile Zero (Opens info) placed ok = goes (Open info) (rw (h.capacity, ok) refl) tt refl refl
+  calls r s (Opens info) placed ok = absurd (grind arith)
+  calls r Three OpensWithoutInfo placed ok = goes (OpenBare r) (rw (h.capacity, ok) refl) tt refl refl
+  calls r Zero OpensWithoutInfo placed ok = absurd (grind arith)
+  calls r s (Sends m) placed ok = goes (Ask r s (Send m)) (rw (h.capacity, ok) refl) tt refl refl
+  calls r s (SendsUi m) placed ok = goes (Ask r s (SendUi m)) (rw (h.capacity, ok) refl) tt refl refl
+  calls r s Closes placed ok = goes (Ask r s Close) (rw (h.capacity, ok) refl) tt refl refl
+  calls r s T200Expires placed ok = goes (Ask r s T200Expiry) (rw (h.capacity, ok) refl) tt refl refl
+  calls r s Repeats placed ok = goes (Ask r s Repeat) (rw (h.capacity, ok) refl) tt refl refl
+  calls r s SendsFillFrame placed ok = goes (Ask r s Idle) (rw h.capacity refl) tt refl refl
 
-    pub calls : (r : Role) (s : Sapi) (call : Call) → IsPlaced r s call → refusal_of call (end_of r s h.world) ≡ None →
-        Goes Is' octets' (acted r s (call_outcome call (end_of r s h.world)) h.world)
-        (Asked r s call ∷ map (Notified r s) (call_outcome call (end_of r s h.world)).notices)
-    calls = called h.world h.capacity (Goes Is' octets') MayRead happens
+  pub takes : (r : Role) (s : Sapi) (f : Frame) → nat_eq f.sapi (sapi_number s) ≡ true → MayRead (other r) f →
+      IsReached Sound channel (acted r s (frame_outcome f (end_of r s w)) (without_oldest_item (other r) w))
+      (ls ++ map (Notified r s) (frame_outcome f (end_of r s w)).notices)
+  takes Mobile Zero f on known = goes (Deliver Network (Some f)) (rw h.capacity refl) known (rw on refl) (rw on refl)
+  takes Network Zero f on known = goes (Deliver Mobile (Some f)) (rw h.capacity refl) known (rw on refl) (rw on refl)
+  takes r s f on known =
+      let no : nat_eq f.sapi 0 ≡ false = grind (arith, nat_tests) in
+      goes (Deliver (other r) (Some f)) (rw h.capacity refl) known (rw (no, on) refl) (rw (no, on) refl)
 
-    pub takes : (r : Role) (s : Sapi) (f : Frame) → nat_eq f.sapi (sapi_number s) ≡ true → MayRead (other r) f →
-        Goes Is' octets' (acted r s (frame_outcome f (end_of r s h.world)) (without_oldest_item (other r) h.world))
-        (map (Notified r s) (frame_outcome f (end_of r s h.world)).notices)
-    takes = taken h.world h.capacity (Goes Is' octets') MayRead happens
+  pub loses : (sender : Role) → IsReached Sound channel (without_oldest_item sender w) ls
+  loses sender = rw append-nil
+      at (goes (Lose sender) (rw h.capacity refl) tt (with_frames-none Mobile (without_oldest_item sender w)) refl)
 
-    pub loses : (sender : Role) → Goes Is' octets' (without_oldest_item sender h.world) []
-    loses = lost h.world h.capacity (Goes Is' octets') MayRead happens
-
-    pub hears_rival : (info : Message) → rival_refusal h.world.channel info ≡ None →
-        Goes Is' octets' (with_frames Mobile (rival_sabm info ∷ []) h.world) (RivalSabm info ∷ [])
-    hears_rival = rival h.world h.capacity (Goes Is' octets') MayRead happens
+  pub hears_rival : (info : Message) → rival_refusal w.channel info ≡ None →
+      IsReached Sound channel (with_frames Mobile (rival_sabm info ∷ []) w) (ls ++ RivalSabm info ∷ [])
+  hears_rival info ok = goes (Rival info) (rw (h.capacity, ok) refl) tt refl refl
 
 -- ## Runs: A run of turns represents a session of frames if each turn keeps that.
 

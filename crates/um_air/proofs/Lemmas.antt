@@ -1,5 +1,48 @@
 -- Sessions over blocks: every event has an answer, the events determine the session, and its log is that of a session of frames.
-use Rattle.{lapdm_link.{proofs.{Lemmas.{AllFit, AllSay, EndOctets, LineOctets, SaysOctets, WorldOctets}, Lemmas.{event_step-fits, event_step-holds, initial-octets}, Lemmas.{octets-step, Knows, each_way}, lapdm_frame.Lemmas.{bit_bound, information_bound, octets_canonical, one_reading, same_frame}, Carriers.{AreAlike, IsCarried, MayRead, alike-more, alike-taken, carried-start, carried_claims, carried_counts, carried_order}, Carriers.{coded-sent, happens, knows-fits, stays}}, specs.{Claims.{AckedAtMostDelivered, Claims, HasNoticesInOrder, LogLine, answer_log_lines, notice_log_lines}, Claims.event_log_lines, Events.{BySide, Deliver, EventRefusal, Nothing, Who, bounded_capacity, event_step, queues_after_removal, refusal_if, sending_role}, Events.{AirFull, BothSides, unbounded_capacity, refusal_with_bounded_queues, refusal_with_capacity, Open, OpenBare, Ask, Lose, Rival}, Queues.{IsOldestSentOrNone, Queues, empty_queues, queue_of, queue_length}, Worlds.{World, IsOldestSentOrRrForRej, initial_world}, lapdm_frame.{Content.{Frame, information}, Frames.{FrameFits, IsFrameCoding, octets_of}, Refusals.IsRefused}, lapdm_frame.{declared.{Channel.Channel, Refusal.Refusal}, Readings.HasUniqueReading}, lapdm_window.{Ends.{Mobile, Role}, declared.{Notice.Notice, Sapi.Sapi}}}}, std.{specs.{List.AllZip, Prelude.{IfSome, unsigned_abs}}, proofs.{Common.{All, List, None, Option, Some, [], ap, arith, false, get_or, get_or-set_same, inl, inr, length, map, nat_eq, pos, refl}, Common.{sym, ℕ, ℤ, ◌%◌, ◌++◌, ◌-◌, ◌/◌, ◌<◌, ◌∙◌, ◌∷◌, ◌≡◌, ◌≢◌, ◌≤◌}, Common.{◌⊎◌, Bool, append_assoc, subst}, Math.ListN.get_or-map, lemmas.{Bool.{Decides.nat_tests, cases_eq}, List.{get_or-append_right, get_or-set_other, get_or_append_left}}, lemmas.List.{get_or_default, length-map, length-set, set_past, Elements.{All-append, All-cons, All-drop, All-head, All-map, All-nil}}, lemmas.List.{Elements.{All-replicate, All-set, All-tail, All-take}, append-nil}}}, um_air.specs.{Air.{Accepts, AirState, Answer, AreBlocksOfFrames, Block, Event, EventDelivers, IsAirRun, IsAirStep, Octets, ReadsFrame, ReceivesBlock}, Air.{Refuses, Step, event_with_frame, initial_session, refusal, with_bit_inverted, with_bits_inverted, CarriesOutEvent}, Damage.AreCorrectableBursts, Sessions.{AllEventsInvertFewBits, AreOctets, EventInvertsFewBits, EventMessageIsOctets, IsBenign, IsBenignFrom, IsBenignStep}, Sessions.{answer_without_blocks, queues_after_event, session_log}, Computed.{air_step, frame_in, frame_in_accepted, frame_in_report, report_of, report_on_oldest}}, um_block.{proofs.Lemmas.{accepted_count, accepted_octets, clean_gathered, coded_block_bits, few_listed_positions, listed, received_block-only}, proofs.Lemmas.{received_place, sent_block-only, restored_block, sent_block_bits, some_received_block, some_sent_block}, proofs.{interleave.Lemmas.position_in_four_bursts-below, weight_bound.Lemmas.IsCorrectable-equal}, specs.{Received.{IsReceivedBlock, coded_soft_bits, joined_bursts, soft_bit_of, soft_bits}, Sent.IsSentBlock, bit_blocks.Octets.IsOctet}, specs.{declared.received.Received.Received, interleave.{Bursts.IsInterleaved, Positions.position_in_four_bursts}}, specs.Computed.{sent_block}}}
+use Rattle.{
+  lapdm_link.{
+    proofs.{
+      Carriers.{AreAlike, AreCoded, IsReached, MayRead, alike-more, alike-taken, coded-sent, happens, read-fits, reached-start},
+      Lemmas.{claims_of, counts_of, order_of, AllFit, AllSay, EndOctets, LineOctets, SaysOctets, WorldOctets, event_step-fits},
+      Lemmas.{event_step-holds, initial-octets, octets-step, Knows, each_way},
+      lapdm_frame.Lemmas.{bit_bound, information_bound, octets_canonical, one_reading, same_frame},
+    },
+    specs.{
+      Claims.{AckedAtMostDelivered, Claims, HasNoticesInOrder, LogLine, answer_log_lines, notice_log_lines, event_log_lines},
+      Events.{BySide, Deliver, EventRefusal, Nothing, Who, bounded_capacity, event_step, queues_after_removal, refusal_if, sending_role},
+      Events.{AirFull, BothSides, unbounded_capacity, refusal_with_bounded_queues, refusal_with_capacity, Open, OpenBare, Ask, Lose, Rival},
+      Queues.{IsOldestSentOrNone, Queues, empty_queues, queue_of, queue_length},
+      Worlds.{World, IsOldestSentOrRrForRej, initial_world},
+      lapdm_frame.{Content.{Frame, information}, Frames.{FrameFits, IsFrameCoding, octets_of}, Refusals.IsRefused},
+      lapdm_frame.{declared.{Channel.Channel, Refusal.Refusal}, Readings.HasUniqueReading},
+      lapdm_window.{Ends.{Mobile, Role}, declared.{Notice.Notice, Sapi.Sapi}},
+    },
+  },
+  std.{
+    specs.{List.AllZip, Prelude.{IfSome, unsigned_abs}},
+    proofs.Common.{All, List, None, Option, Some, [], ap, arith, false, get_or, get_or-set_same, inl, inr, length, map, nat_eq, pos, refl},
+    proofs.Common.{sym, ℕ, ℤ, ◌%◌, ◌++◌, ◌-◌, ◌/◌, ◌<◌, ◌∙◌, ◌∷◌, ◌≡◌, ◌≢◌, ◌≤◌},
+    proofs.{Common.{◌⊎◌, Bool, append_assoc, subst}, Math.ListN.get_or-map, lemmas.Bool.{Decides.nat_tests, cases_eq}},
+    proofs.lemmas.List.{get_or-append_right, get_or-set_other, get_or_append_left, get_or_default, length-map, length-set, set_past},
+    proofs.lemmas.List.Elements.{All-append, All-cons, All-drop, All-head, All-map, All-nil, All-replicate, All-set, All-tail, All-take},
+    proofs.lemmas.List.append-nil,
+  },
+  um_air.specs.{
+    Air.{Accepts, AirState, Answer, AreBlocksOfFrames, Block, Event, EventDelivers, IsAirRun, IsAirStep, Octets, ReadsFrame, ReceivesBlock},
+    Air.{Refuses, Step, event_with_frame, initial_session, refusal, with_bit_inverted, with_bits_inverted, CarriesOutEvent},
+    Damage.AreCorrectableBursts,
+    Sessions.{AllEventsInvertFewBits, AreOctets, EventInvertsFewBits, EventMessageIsOctets, IsBenign, IsBenignFrom, IsBenignStep},
+    Sessions.{answer_without_blocks, queues_after_event, session_log},
+    Computed.{air_step, frame_in, frame_in_accepted, frame_in_report, report_of, report_on_oldest},
+  },
+  um_block.{
+    proofs.Lemmas.{accepted_count, accepted_octets, clean_gathered, coded_block_bits, few_listed_positions, listed, received_block-only},
+    proofs.Lemmas.{received_place, sent_block-only, restored_block, sent_block_bits, some_received_block, some_sent_block},
+    proofs.{interleave.Lemmas.position_in_four_bursts-below, weight_bound.Lemmas.IsCorrectable-equal},
+    specs.{Received.{IsReceivedBlock, coded_soft_bits, joined_bursts, soft_bit_of, soft_bits}, Sent.IsSentBlock, bit_blocks.Octets.IsOctet},
+    specs.{declared.received.Received.Received, interleave.{Bursts.IsInterleaved, Positions.position_in_four_bursts}, Computed.sent_block},
+  },
+}
 use Rattle.lapdm_link.specs.Events as E
 use Rattle.lapdm_link.specs.Worlds as W
 
@@ -233,17 +276,16 @@ read_back channel accepted None fs os z h s = tt
 read_back channel accepted read fs os z h s = absurd assumption
 
 -- what a receiver reads from accepted octets, which if `Sound` are those that were sent
-pub may_read : {Sound : Type 0} {channel : Channel} {Is : World → Type 0} {octets : Queues Octets} {ls : List LogLine}
-    (h : IsCarried Sound channel Is octets ls) (sender : Role) (accepted : Option Octets) (read : Option Frame) →
+pub may_read : {Sound : Type 0} {channel : Channel} {w : World} {ls : List LogLine} (h : IsReached Sound channel w ls)
+    (octets : Queues Octets) → AreCoded channel w.queues octets → (sender : Role) (accepted : Option Octets) (read : Option Frame) →
     IfSome accepted AreOctets → ReadsFrame channel accepted read → (Sound → IsOldestSentOrNone accepted (queue_of sender octets)) →
     Knows (MayRead h) (Deliver sender read) × Knows (λ r f. SaysOctets f) (Deliver sender read)
-may_read h sender accepted None small reads oldest = (tt, tt)
-may_read {channel = channel} {octets = octets} h sender accepted (Some f) small reads oldest =
+may_read h octets coded sender accepted None small reads oldest = (tt, tt)
+may_read {channel = channel} {w = w} h octets coded sender accepted (Some f) small reads oldest =
     let well = reads-well channel accepted f small reads in (
       (
         well.0,
-        λ sound. read_back channel accepted (Some f) (queue_of sender h.world.queues) (queue_of sender octets) (h.coded sender) reads
-            (oldest sound),
+        λ sound. read_back channel accepted (Some f) (queue_of sender w.queues) (queue_of sender octets) (coded sender) reads (oldest sound),
       ),
       well.1,
     )
@@ -304,7 +346,11 @@ few_inverted-run (event ∷ events) (answer ∷ answers) a b octets h run few = 
 -- A session over blocks in state `a`, with the octets in transit and the log `ls`. `More` holds of the state of the session of frames. If
 -- `Sound`, each block was accepted with the octets that were sent, or not at all.
 record IsAir (Sound : Type 0) (More : World → Type 0) (a : AirState) (octets : Queues Octets) (ls : List LogLine) : Type 0 where
-  session : IsCarried Sound a.channel (λ w. (w.ends ≡ a.ends) × More w) octets ls
+  world : World
+  reached : IsReached Sound a.channel world ls
+  ends : world.ends ≡ a.ends
+  more : More world
+  coded : AreCoded a.channel world.queues octets
   sent : AreSent a.tsc octets a.queues
 
 -- an event that is accepted with room for 64 blocks is accepted with room for any number
@@ -326,20 +372,20 @@ same-lines read event = grind arith
 module _ {Sound : Type 0} {More : World → Type 0} {a : AirState} {octets : Queues Octets} {ls : List LogLine}
     (h : IsAir Sound More a octets ls) where
   abbrev w : World
-  w = h.session.world
+  w = h.world
 
   accepted : (event : Event) (read : Option Frame) → refusal event a ≡ None → W.refusal (event_with_frame read event) w ≡ None
   accepted event read none =
-      accepted-unbounded w (queue_length a.queues) event read h.session.capacity
-      (subst (λ channel. refusal_with_bounded_queues channel (queue_length a.queues) event w.ends ≡ None) (sym h.session.fit.on_channel)
-      (subst (λ es. refusal_with_bounded_queues a.channel (queue_length a.queues) event es ≡ None) (sym h.session.is.0) none))
+      accepted-unbounded w (queue_length a.queues) event read h.reached.capacity
+      (subst (λ channel. refusal_with_bounded_queues channel (queue_length a.queues) event w.ends ≡ None) (sym h.reached.fit.on_channel)
+      (subst (λ es. refusal_with_bounded_queues a.channel (queue_length a.queues) event es ≡ None) (sym h.ends) none))
 
   -- the frame that a receiver reads
   reads : (event : Event) (report : Option Received) (read : Option Frame) (step : Step) → EventDelivers a event report read →
       step.received ≡ report → (Sound → IsBenignStep event (Accepts step) octets) → (let e = event_with_frame read event in
-      Knows (MayRead h.session) e × Knows (λ r f. SaysOctets f) e)
+      Knows (MayRead h.reached) e × Knows (λ r f. SaysOctets f) e)
   reads (Deliver sender places) (Some report) read step t same benign =
-      may_read h.session sender report.accepted read (accepted_octets _ report t.received) t.reads_frame
+      may_read h.reached octets h.coded sender report.accepted read (accepted_octets _ report t.received) t.reads_frame
       (λ sound. rw same at (benign sound))
   reads (Deliver sender places) None read step t same benign = absurd t
   reads event report read step t same benign = (tt, tt)
@@ -348,31 +394,37 @@ module _ {Sound : Type 0} {More : World → Type 0} {a : AirState} {octets : Que
       ((read : Option Frame) → (let e = event_with_frame read event in W.refusal e w ≡ None → Knows (λ r f. SaysOctets f) e →
       More (W.world_after_possible_refusal None e w))) →
       IsAir Sound More b (queues_after_event event answer octets) (ls ++ answer_log_lines event (answer_without_blocks answer))
-  air-step event (Refuses why) b t benign more =
-      rw t.1 (record { session = stays h.session _ octets h.session.is h.session.coded; sent = h.sent })
-  air-step event (Accepts step) b t benign more = record {
-    session = go t.1;
-    sent = (sent-step a b octets event (Accepts step) h.sent t).1;
-  }
+  air-step event (Refuses why) b t benign more = rw (t.1, append-nil) h
+  air-step event (Accepts step) b t benign more = go t.1
     where
-      go : (s : CarriesOutEvent a event b step) →
-          IsCarried Sound b.channel (λ z. (z.ends ≡ b.ends) × More z) (queues_after_event event (Accepts step) octets)
+      go : CarriesOutEvent a event b step → IsAir Sound More b (queues_after_event event (Accepts step) octets)
           (ls ++ answer_log_lines event (answer_without_blocks (Accepts step)))
       go s =
           let e = event_with_frame s.read event in
           let none = accepted event s.read t.0 in
           let known = reads event step.received s.read step s.delivery refl benign in
           let d = event_step e w.ends in
-          let left : World = record w { ends = d.new_state; queues = queues_after_removal e w.queues } in
-          rw (s.step_matches, s.new_state_is, ← h.session.is.0, ← same-lines s.read event, ← removed-same s.read event octets)
-          (happens h.session _ _ e none known.0 (refl, more s.read none known.1)
-          (coded-sent left (alike-taken (IsFrameCoding a.channel) e w.queues octets h.session.coded) (sending_role d.who) d.frames))
+          let reached = happens h.reached e none known.0 in
+          let sent = (sent-step a b octets event (Accepts step) h.sent t).1 in
+          rw (s.step_matches, s.new_state_is, ← h.ends, ← same-lines s.read event, ← removed-same s.read event octets) (record {
+            world = W.world_after_possible_refusal None e w;
+            reached = reached;
+            ends = refl;
+            more = more s.read none known.1;
+            coded = coded-sent (queues_after_removal e w.queues) (alike-taken (IsFrameCoding a.channel) e w.queues octets h.coded)
+                (sending_role d.who) d.frames reached.fit.queues;
+            sent = rw (s.step_matches, s.new_state_is, ← h.ends, ← removed-same s.read event octets) at sent;
+          })
 
 initial-air : (Sound : Type 0) (More : World → Type 0) (tsc : ℕ) (channel : Channel) → More (initial_world unbounded_capacity channel) →
     IsAir Sound More (initial_session tsc channel) empty_queues []
 initial-air Sound More tsc channel more = record {
-  session = carried-start Sound channel _ (refl, more);
-  sent = each_way (λ r. AllZip (λ o block. IsSentBlock o tsc block) (queue_of r empty_queues) (queue_of r empty_queues)) Mobile tt tt;
+  world = initial_world unbounded_capacity channel;
+  reached = reached-start Sound channel;
+  ends = refl;
+  more = more;
+  coded = grind arith;
+  sent = grind arith;
 }
 
 -- ---- a session of several steps
@@ -395,13 +447,13 @@ module _ (tsc : ℕ) (channel : Channel) (events : List Event) (answers : List A
   air = air-run _ events answers (initial_session tsc channel) b empty_queues [] (initial-air _ Any tsc channel tt) run (λ benign. benign)
 
   pub air_claims : IsBenign events answers → Claims (session_log events answers)
-  air_claims benign = carried_claims air.1.session benign
+  air_claims benign = claims_of (air.1.reached.session benign)
 
   pub air_counts : IsBenign events answers → AckedAtMostDelivered (session_log events answers)
-  air_counts benign = carried_counts air.1.session benign
+  air_counts benign = counts_of (air.1.reached.session benign)
 
   pub air_order : HasNoticesInOrder (session_log events answers)
-  air_order = carried_order air.1.session
+  air_order = order_of air.1.world _ air.1.reached.reported
 
   pub few_inverted_is_benign : AllEventsInvertFewBits events → IsBenign events answers
   few_inverted_is_benign =
@@ -488,12 +540,12 @@ initial-octet_session tsc channel known = record {
 }
 
 module _ (a : AirState) (h : IsOctetSession a) (event : Event) (says : EventMessageIsOctets event) where
-  octets-next : (read : Option Frame) → (let e = event_with_frame read event in let w = h.air.session.world in
+  octets-next : (read : Option Frame) → (let e = event_with_frame read event in let w = h.air.world in
       W.refusal e w ≡ None → Knows (λ r f. SaysOctets f) e → WorldOctets (W.world_after_possible_refusal None e w))
   octets-next read none reads =
       let e = event_with_frame read event in
-      let w = h.air.session.world in
-      rw none at (octets-step w h.log e h.air.session.reported (rw none reads) h.air.session.is.1 (line_octets read event (W.answer e w) says))
+      let w = h.air.world in
+      rw none at (octets-step w h.log e h.air.reached.reported (rw none reads) h.air.more (line_octets read event (W.answer e w) says))
 
   spoken-next : (answer : Answer) (b : AirState) → IsAirStep a event b answer → IsOctetSession b
   spoken-next answer b t = record {
@@ -508,13 +560,13 @@ module _ (a : AirState) (h : IsOctetSession a) (event : Event) (says : EventMess
   some_answer_at None is =
       let (report, read, delivery) = some_arrival a h.octets event h.air.sent is in
       let e = event_with_frame read event in
-      let w = h.air.session.world in
+      let w = h.air.world in
       let none = accepted h.air event read is in
       let known = reads h.air event report read (done a e report) delivery refl (λ sound. absurd sound) in
-      let fits = event_step-fits a.channel w e (rw none (knows-fits h.air.session e known.0)) h.air.session.fit none in
+      let fits = event_step-fits a.channel w e (rw none (read-fits h.air.reached e known.0)) h.air.reached.fit none in
       let says = event_step-holds (λ r s x. EndOctets x) SaysOctets _ w e None refl (octets-next read none known.1).1 in
-      let bs = some_blocks a.channel a.tsc (event_step e a.ends).frames h.valid_tsc (rw h.air.session.is.0 at fits)
-      (rw h.air.session.is.0 at says) in (
+      let bs = some_blocks a.channel a.tsc (event_step e a.ends).frames h.valid_tsc (rw h.air.ends at fits)
+      (rw h.air.ends at says) in (
         _,
         Accepts (done a e report),
         (is, record { read = read; blocks = bs.0; delivery = delivery; sent = bs.1; new_state_is = refl; step_matches = refl }),

@@ -1,4 +1,5 @@
 mod Calls
 mod DataLinkCalls
 mod Sessions
+mod Establishing
 pub mod ErasingReports

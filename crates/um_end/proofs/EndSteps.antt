@@ -1,43 +1,64 @@
 -- What a terminal does with a call or with bursts, and the rules of `end`, agree with the relations that are their laws.
 use Rattle.{
   lapdm_end.specs.{Sides.CarriesOutStep, declared.sides.Side.Side},
-  std.proofs.{Common.{Err, Ok, Result, append-nil, append_assoc, get_or, take, ◌⊎◌}, lemmas.Bool.{cases_lt, le-ltb, lt-ltb}},
-  std.{proofs.lemmas.List.{Elements.{All-head, All-nil, All-push, All-tail}, take_more}, specs.{List.All, Result.IfErr}},
-  um_driver.{proofs.Outputs.{meaning_of_answer, step_of_answer}, specs.Rules.Runs},
-  um_end.specs.{
-    Abstraction.role_of_terminal,
-    Commands.CommandRepresents,
-    EndLines.{Calls, Nothing as NoLine, TakesBurst, end_command_line, end_command_line_fault},
-    EndRuns.{EndCommandState, answer_to_end_command_line, burst_lines_of_frames, end_answer_text, end_command_rules},
-    EndRuns.initial_end_command_state,
-    EndTurns.{AnswersLineByStep, AnswersLinesBySteps, IsTerminalStepOfLine},
-    Terminals.{SideStep, answer_of_endpoint, answer_to_block, layer3_call_step, with_sapi_endpoint_replaced},
-    TwoTerminals.{TwoTerminals, state_after_step},
-    declared.command.EndCommand.EndCommand,
+  std.{
+    proofs.{
+      Common.{All, Err, List, None, Ok, Option, Result, Some, [], append-nil, append_assoc, ap, arith, get_or, inl, inr, length-append},
+      Common.{length, map, refl, subst, sym, take, ℕ, ℤ, ◌++◌, ◌+◌, ◌<◌, ◌∙◌, ◌∷◌, ◌≡◌, ◌≤◌},
+      Common.◌⊎◌,
+      lemmas.{Bool.{cases_lt, le-ltb, lt-ltb}, List.{Elements.{All-head, All-nil, All-push, All-tail}, take_more}},
+    },
+    specs.{List.All, Prelude.IfSome, Result.IfErr},
   },
-  um_formats.specs.BurstTexts.bursts_text,
+  um_driver.{proofs.Outputs.{meaning_of_answer, step_of_answer}, specs.Rules.Runs},
+  um_end.{
+    proofs.{
+      AnswerSizes.{IsBlock, accepted, next},
+      EndLineLaws.{CanBeCarriedOut, blocks, end_command_line_meaning, end_command_line_means, end_command_line_refused, line-possible},
+    },
+    specs.{
+      Abstraction.role_of_terminal,
+      Commands.CommandRepresents,
+      EndLines.{Calls, EndCommandLineMeaning, EndCommandLineMeans, TakesBurst, end_command_line_fault, end_command_line},
+      EndRuns.{EndCommandState, IsAnswerText, answer_to_end_command_line, burst_lines_of_frames, end_answer_text, end_command_rules},
+      EndRuns.{frames_in_answer, initial_end_command_state},
+      EndTurns.{AnswersLineByStep, AnswersLinesBySteps, IsTerminalStepOfLine},
+      Terminals.{IsCallOfRole, ReceivesBursts, SideState, SideStep, answer_of_endpoint, answer_to_block, answer_to_call},
+      Terminals.{call_answer_unless, endpoint_step, endpoint_with_sapi, layer3_call_step, no_op_step, step_for_read_frame},
+      Terminals.{terminal_step_of, with_sapi_endpoint_replaced},
+      TwoTerminals.{TwoTerminals, state_after_step},
+      declared.command.EndCommand.EndCommand,
+    },
+  },
+  um_formats.{proofs.Lemmas.soft, specs.BurstTexts.bursts_text},
   um_lines.specs.declared.fault.LineFault.LineFault,
   um_link.{
     proofs.{
       lapdm_frame.Lemmas.octets_canonical,
-      lapdm_link.Lemmas.{AllSay, CallOctets, EndOctets, OutcomeOctets, SaysOctets, call-octets, frame-octets},
-      lapdm_window.Lemmas.{IsValidEndpoint-initial, Keeps, keeps-call, keeps-frame},
-      um_air.Lemmas.{ReadsFrame-frame_in_accepted, frame_in-only, frame_in-refused, octets_small, same_step},
-      um_block.Lemmas.{IsSentBlock-sent_block, accepted_count, received_block-only, some_received_block},
+      lapdm_link.Lemmas.{AllSay, AreOctets, CallOctets, EndOctets, OutcomeOctets, SaysOctets, call-octets, frame-octets},
+      lapdm_window.Lemmas.{IsValidEndpoint-initial, Keeps, by_sapi, keeps-call, keeps-frame},
+      um_air.Lemmas.{ReadsFrame-frame_in_accepted, frame_in-only, frame_in-refused, octets_small, reads-well, same_step},
+      um_block.Lemmas.{IsSentBlock-sent_block, accepted_count, accepted_octets, received_block-only, some_received_block},
     },
     specs.{
-      lapdm_window.{Calls.IsCallAllowedForEndpoint, Ends.{IsValidEndpoint, initial_endpoint}, declared.Refused.Refused},
-      lapdm_window.declared.effects.Effects.Effects,
-      um_air.Computed.frame_in_accepted,
-      lapdm_link.{Events.{BothSides, other, side_with_role, with_side_replaced}, Queues.without_oldest_item},
-      um_block.{Computed.{received_block, sent_block}, Received.IsReceivedBlock},
-      lapdm_frame.{Readings.IsOnlyRefusalReason, declared.Refusal.Refusal},
+      Coded.AreCodedBlocks,
+      lapdm_frame.{Content.{Frame, information}, Frames.{FrameFits, octets_of}, Readings.IsOnlyRefusalReason},
+      lapdm_frame.declared.{Channel.TheVariants.Sdcch, Refusal.Refusal},
+      lapdm_link.Events.{Ask, BothSides, BySide, OpenBare, Open, Request, as_event_refusal, endpoint_call_of, other, side_with_role},
+      lapdm_link.{Events.with_side_replaced, Queues.without_oldest_item},
+      lapdm_window.{
+        Calls.{Call, IsCallAllowedForEndpoint, OpensWithoutInfo, Opens, refusal_of},
+        Ends.{EndpointState, IsValidEndpoint, Outcome, Role, initial_endpoint},
+        Tables.frame_outcome,
+        declared.{Refused.Refused, Sapi.{TheVariants.{Three, Zero}, Sapi}, effects.Effects.Effects},
+      },
+      um_air.{Air.{Accepts, Answer, Block, Event, Octets, ReadsFrame, Step}, Computed.frame_in_accepted, Sessions.EventMessageIsOctets},
+      um_block.{Computed.{received_block, sent_block}, Received.IsReceivedBlock, declared.received.Received.Received},
     },
   },
 }
+use Rattle.um_end.specs.EndLines.Nothing as NoLine
 use Rattle.um_end.specs.TwoTerminals as T
-pub use EndLineLaws.*
-pub mod EndLineLaws
 
 -- ## SideSteps: The step of an endpoint determines the answer of its terminal.
 
