@@ -97,13 +97,13 @@ by_test P false o p h g = g
 
 -- ---- the notices that the rules of the window report
 
-pub next : (e : EndpointState) → (sends_next_segment e).notices ≡ []
+next : (e : EndpointState) → (sends_next_segment e).notices ≡ []
 next e = grind arith
 
 acked : (nr : ℕ) (e : EndpointState) → IsAcked (evaluates_nr nr e).notices
 acked nr e = grind arith
 
-pub accepted : (segment : Segment) (e : EndpointState) → IsOne (accepts_segment segment e).notices
+accepted : (segment : Segment) (e : EndpointState) → IsOne (accepts_segment segment e).notices
 accepted segment e = grind (arith, nat_tests)
 
 answered : (p : Bool) (e : EndpointState) → (answers_segment p e).notices ≡ []

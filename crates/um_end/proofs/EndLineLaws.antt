@@ -1,8 +1,8 @@
 -- The line forms of `end`, derived from those of a script and of `replay`: a line that begins with an endpoint of this side is a line of a
 -- script, and every other line is a burst.
 use Rattle.{
-  std.proofs.Common.{Bool, Err, List, None, Ok, Option, Some, [], ap, arith, codes, false, if◌then◌else◌, inl, inr, length, map, not},
-  std.proofs.Common.{option_map, refl, subst, sym, true, ℕ, ℤ, ◌&&◌, ◌++◌, ◌==◌, ◌∙◌, ◌∷◌, ◌≡◌},
+  std.proofs.Common.{◌||◌, Bool, Err, List, None, Ok, Option, Some, [], ap, arith, codes, false, if◌then◌else◌, inl, inr, length},
+  std.proofs.Common.{map, not, option_map, refl, subst, sym, true, ℕ, ℤ, ◌&&◌, ◌++◌, ◌==◌, ◌∙◌, ◌∷◌, ◌≡◌},
   std.{proofs.{Common.◌≤◌, lemmas.{Bool.{cases_Bool, le-ltb}, Slice.Eq.bytes_eq-Decides}}, specs.Str.bytes_eq},
   um_end.specs.{
     EndLines.{Calls, EndCommandLineMeaning, EndCommandLineMeans, Nothing, TakesBurst, TerminalCanCarryOutLine},
@@ -12,7 +12,7 @@ use Rattle.{
     declared.lines.EndCommandLine.EndCommandLine,
   },
   um_formats.{
-    proofs.Lemmas.{AreSoft, hard, lost, soft},
+    proofs.Lemmas.{AreSoft, hard, lost, soft, one_burst_meaning as one_burst},
     specs.{BurstLines.{BurstLineMeans, burst_line_fault, burst_line_of_meaning}, declared.burst_lines.BurstLine.BurstLine},
   },
   um_lines.{
@@ -35,7 +35,6 @@ use Rattle.{
   um_script.specs.ScriptLines.{ScriptLineMeans, event_of_script_line_meaning},
 }
 use Rattle.um_end.specs.declared.lines.EndCommandLine.TheVariants as V
-use Rattle.um_formats.proofs.Lemmas.one_burst_meaning as one_burst
 use Rattle.um_lines.specs.LinkForms as L
 
 -- ---- lines that have no fault, for any table of line forms
@@ -171,7 +170,7 @@ module _ (held : ℕ) (ws : List (List ℕ)) where
   singles [] all = record { fault = refl; same_meaning = λ good. absurd (cc good) }
   singles (entry ∷ table) all = by_single entry.0 entry.1 (words_fit_form ws entry.1) _ all.0 (singles table all.1)
 
-  pub blocks : (table single : LineForms BurstLineKind) (rest : LineForms EndCommandLineKind) → AreBlocks table →
+  blocks : (table single : LineForms BurstLineKind) (rest : LineForms EndCommandLineKind) → AreBlocks table →
       IsSameBurst held ws (form_of_words rest ws) (form_of_words single ws) →
       IsSameBurst held ws (form_of_words (renamed L.Burst table ++ rest) ws) (form_of_words (table ++ single) ws)
   blocks [] single rest all h = h

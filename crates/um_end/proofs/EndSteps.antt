@@ -13,13 +13,13 @@ use Rattle.{
   um_driver.{proofs.Outputs.{meaning_of_answer, step_of_answer}, specs.Rules.Runs},
   um_end.{
     proofs.{
-      AnswerSizes.{IsBlock, accepted, next},
-      EndLineLaws.{CanBeCarriedOut, blocks, end_command_line_meaning, end_command_line_means, end_command_line_refused, line-possible},
+      AnswerSizes.IsBlock,
+      EndLineLaws.{CanBeCarriedOut, end_command_line_meaning, end_command_line_means, end_command_line_refused, line-possible},
     },
     specs.{
       Abstraction.role_of_terminal,
       Commands.CommandRepresents,
-      EndLines.{Calls, EndCommandLineMeaning, EndCommandLineMeans, TakesBurst, end_command_line_fault, end_command_line},
+      EndLines.{Calls, EndCommandLineMeaning, EndCommandLineMeans, TakesBurst, end_command_line_fault, end_command_line, Nothing as NoLine},
       EndRuns.{EndCommandState, IsAnswerText, answer_to_end_command_line, burst_lines_of_frames, end_answer_text, end_command_rules},
       EndRuns.{frames_in_answer, initial_end_command_state},
       EndTurns.{AnswersLineByStep, AnswersLinesBySteps, IsTerminalStepOfLine},
@@ -57,7 +57,6 @@ use Rattle.{
     },
   },
 }
-use Rattle.um_end.specs.EndLines.Nothing as NoLine
 use Rattle.um_end.specs.TwoTerminals as T
 
 -- ## SideSteps: The step of an endpoint determines the answer of its terminal.
