@@ -19,7 +19,8 @@ use Rattle.lapdm_datalink.specs.Runs.{arrival_lines}
 use Rattle.lapdm_datalink.specs.Runs.{after_slot_of, taking_lines, OpensNoClosedLink}
 use Rattle.lapdm_datalink.proofs.Lemmas.{passed}
 use Rattle.lapdm_datalink.proofs.RunsClaims.{seen, claims-seen, counts-seen, order-seen}
-use Rattle.lapdm_datalink.proofs.RunsWorlds.{Reaches, at_start, start, reached_claims, reached_counts, reached_order}
+use Rattle.lapdm_datalink.proofs.RunsWorlds.{Reaches, at_start, start}
+use Rattle.lapdm_link.proofs.Lemmas.{claims_of as session_claims, counts_of as session_counts, order_of as session_order}
 use Rattle.lapdm_datalink.proofs.RunsQueues.{empty, pending}
 use Rattle.lapdm_datalink.proofs.RunsLinks.{LinkAt, Fits, call_step, passes_slot, slot_step, slot-on, is_slot, unit_step, free-waits}
 use Rattle.lapdm_datalink.proofs.RunsLinks.{IsSound, lose_step, take_step, own_sapi, on_own}
@@ -36,20 +37,20 @@ abbrev pub air_of : Role → Sapi → RunState → List Frame
 air_of r s c = on s (queue_of r c.air)
 
 -- for this SAPI, a session reaches a state that both sides of the run fit
-pub record At (channel : Channel) (s : Sapi) (c : RunState) (log : List LogLine) : Type 0 where
+pub record At (s : Sapi) (c : RunState) (log : List LogLine) : Type 0 where
   pub world : World
   pub lines : List LogLine
-  pub reaches : Reaches channel s world lines
+  pub reaches : Reaches s world lines
   pub seen_lines : seen lines ≡ log_lines_of_sapi s log
   pub fits : (r : Role) → Fits r s (air_of r s c) (link_at r s c) world
 
 -- so it does for each
-abbrev pub IsAt : Channel → RunState → List LogLine → Type 0
-IsAt channel c log = (s : Sapi) → At channel s c log
+abbrev pub IsAt : RunState → List LogLine → Type 0
+IsAt c log = (s : Sapi) → At s c log
 
 -- the same seen from the link of one side
-of_side : {channel : Channel} {s : Sapi} {c : RunState} {log : List LogLine} (r : Role) → At channel s c log →
-    LinkAt channel s r (air_of r s c) (link_at r s c) (air_of (other r) s c) (link_at (other r) s c) (log_lines_of_sapi s log)
+of_side : {s : Sapi} {c : RunState} {log : List LogLine} (r : Role) → At s c log →
+    LinkAt s r (air_of r s c) (link_at r s c) (air_of (other r) s c) (link_at (other r) s c) (log_lines_of_sapi s log)
 of_side r a = record {
   world = a.world;
   lines = a.lines;
@@ -60,9 +61,9 @@ of_side r a = record {
 }
 
 -- and back, for the run after a step
-of_link : {channel : Channel} {s : Sapi} {air air' : List Frame} {l l' : LinkState} {lines : List LogLine} (r : Role) (c : RunState)
-    (log : List LogLine) → LinkAt channel s r air l air' l' lines → air ≡ air_of r s c → l ≡ link_at r s c →
-    air' ≡ air_of (other r) s c → l' ≡ link_at (other r) s c → lines ≡ log_lines_of_sapi s log → At channel s c log
+of_link : {s : Sapi} {air air' : List Frame} {l l' : LinkState} {lines : List LogLine} (r : Role) (c : RunState)
+    (log : List LogLine) → LinkAt s r air l air' l' lines → air ≡ air_of r s c → l ≡ link_at r s c →
+    air' ≡ air_of (other r) s c → l' ≡ link_at (other r) s c → lines ≡ log_lines_of_sapi s log → At s c log
 of_link {s = s} r c log k e f e' f' g = record {
   world = k.world;
   lines = k.lines;
@@ -109,17 +110,17 @@ notified-else r s t (n ∷ ns) e = rw e (notified-else r s t ns e)
 
 -- ---- an event that does nothing for this SAPI
 
-module _ {channel : Channel} {s : Sapi} {c : RunState} {log : List LogLine} (a : At channel s c log) where
+module _ {s : Sapi} {c : RunState} {log : List LogLine} (a : At s c log) where
   -- in this module, side `r` acts and the run is in state `z` after it
   module _ (r : Role) (z : RunState) (lines : List LogLine) where
     goes_to : {air air' : List Frame} {l l' : LinkState} (new : List LogLine) →
-        LinkAt channel s r air l air' l' (log_lines_of_sapi s log ++ new) → air ≡ air_of r s z → l ≡ link_at r s z →
+        LinkAt s r air l air' l' (log_lines_of_sapi s log ++ new) → air ≡ air_of r s z → l ≡ link_at r s z →
         air' ≡ air_of (other r) s z → l' ≡ link_at (other r) s z → log_lines_of_sapi s lines ≡ new →
-        At channel s z (log ++ lines)
+        At s z (log ++ lines)
     goes_to new k e f e' f' g = of_link r z (log ++ lines) k e f e' f' (sym (lines-append s log lines ∙ rw g refl))
 
     unchanged : air_of r s c ≡ air_of r s z → link_at r s c ≡ link_at r s z → air_of (other r) s c ≡ air_of (other r) s z →
-        link_at (other r) s c ≡ link_at (other r) s z → log_lines_of_sapi s lines ≡ [] → At channel s z (log ++ lines)
+        link_at (other r) s c ≡ link_at (other r) s z → log_lines_of_sapi s lines ≡ [] → At s z (log ++ lines)
     unchanged e f e' f' g = goes_to [] (rw append-nil (of_side r a)) e f e' f' g
 
 -- ---- calls of layer 3
@@ -134,9 +135,9 @@ peer-kept r s d c = ap (link_with_sapi s) (sym (replaced-other r d c))
 placed : (r : Role) (s : Sapi) (call : Call) → IsCallAllowedFor r s call → IsPlaced r s call
 placed r s call h = grind arith
 
-module _ {channel : Channel} {c : RunState} {log : List LogLine} (r : Role) (call : Call) where
-  call_own : (s : Sapi) → At channel s c log → IsPossible (Calls r s call) c →
-      At channel s (after_event (Calls r s call) c) (log ++ Asked r s call ∷ [])
+module _ {c : RunState} {log : List LogLine} (r : Role) (call : Call) where
+  call_own : (s : Sapi) → At s c log → IsPossible (Calls r s call) c →
+      At s (after_event (Calls r s call) c) (log ++ Asked r s call ∷ [])
   call_own s a (own, allowed, ok) =
       let d = with_link s (after_call call (link_at r s c)) (data_link_of r c) in
       goes_to a r (with_data_link r d c) (Asked r s call ∷ []) (Asked r s call ∷ [])
@@ -144,16 +145,16 @@ module _ {channel : Channel} {c : RunState} {log : List LogLine} (r : Role) (cal
       (sym (ap (link_with_sapi s) (replaced-own r d c) ∙ link-own s (after_call call (link_at r s c)) (data_link_of r c)))
       (air-kept (other r) r s d c) (peer-kept r s d c) (rw (same_sapi s) refl)
 
-  call_else : (s t : Sapi) → is_same_sapi s t ≡ false → At channel s c log →
-      At channel s (after_event (Calls r t call) c) (log ++ Asked r t call ∷ [])
+  call_else : (s t : Sapi) → is_same_sapi s t ≡ false → At s c log →
+      At s (after_event (Calls r t call) c) (log ++ Asked r t call ∷ [])
   call_else s t e a =
       let d = with_link t (after_call call (link_at r t c)) (data_link_of r c) in
       unchanged a r (with_data_link r d c) (Asked r t call ∷ []) (air-kept r r s d c)
       (sym (ap (link_with_sapi s) (replaced-own r d c) ∙ link-else s t (after_call call (link_at r t c)) (data_link_of r c) e))
       (air-kept (other r) r s d c) (peer-kept r s d c) (rw e refl)
 
-  call_at : (t : Sapi) → IsAt channel c log → IsPossible (Calls r t call) c →
-      IsAt channel (after_event (Calls r t call) c) (log ++ Asked r t call ∷ [])
+  call_at : (t : Sapi) → IsAt c log → IsPossible (Calls r t call) c →
+      IsAt (after_event (Calls r t call) c) (log ++ Asked r t call ∷ [])
   call_at Zero all may Zero = call_own Zero (all Zero) may
   call_at Three all may Three = call_own Three (all Three) may
   call_at t all may s = call_else s t refl (all s)
@@ -175,17 +176,17 @@ on-else : (s t : Sapi) (a : Option Frame) → is_same_sapi s t ≡ false → IfS
 on-else s t None e h = refl
 on-else s t (Some f) e h = rw (is_on-else s t f e h) refl
 
-module _ {channel : Channel} {s : Sapi} {r : Role} {air air' : List Frame} {l l' : LinkState} {log : List LogLine}
-    (k : LinkAt channel s r air l air' l' log)
+module _ {s : Sapi} {r : Role} {air air' : List Frame} {l l' : LinkState} {log : List LogLine}
+    (k : LinkAt s r air l air' l' log)
   where
     slot_frame-on : IfSome (slot_outcome l).frame (λ f. is_on s f ≡ true)
     slot_frame-on = slot-on s l (slot_outcome l) (own_sapi k) k.here.sound (is_slot l)
 
-    clock_moved : (heard : Bool) → LinkAt channel s r air (if heard then l else after_slot l) air' l' log
+    clock_moved : (heard : Bool) → LinkAt s r air (if heard then l else after_slot l) air' l' log
     clock_moved true = k
     clock_moved false = passes_slot k
 
-module _ {channel : Channel} {c : RunState} {log : List LogLine} (r : Role) (all : IsAt channel c log) where
+module _ {c : RunState} {log : List LogLine} (r : Role) (all : IsAt c log) where
   abbrev slot : DataLinkOutcome
   slot = data_link_outcome (data_link_of r c)
 
@@ -198,10 +199,10 @@ module _ {channel : Channel} {c : RunState} {log : List LogLine} (r : Role) (all
   abbrev slot3 : SlotOutcome
   slot3 = slot_outcome moved.link3
 
-  k0 : LinkAt channel Zero r (air_of r Zero c) moved.link0 (air_of (other r) Zero c) (link_at (other r) Zero c) (log_lines_of_sapi Zero log)
+  k0 : LinkAt Zero r (air_of r Zero c) moved.link0 (air_of (other r) Zero c) (link_at (other r) Zero c) (log_lines_of_sapi Zero log)
   k0 = passes_slot (of_side r (all Zero))
 
-  k3 : LinkAt channel Three r (air_of r Three c) moved.link3 (air_of (other r) Three c) (link_at (other r) Three c)
+  k3 : LinkAt Three r (air_of r Three c) moved.link3 (air_of (other r) Three c) (link_at (other r) Three c)
       (log_lines_of_sapi Three log)
   k3 = clock_moved (of_side r (all Three)) (data_link_of r c).heard_sapi0
 
@@ -210,7 +211,7 @@ module _ {channel : Channel} {c : RunState} {log : List LogLine} (r : Role) (all
 
   -- what the slot is for the link of a SAPI
   abbrev IsSlotOf : Sapi → DataLinkOutcome → Type 0
-  IsSlotOf s o = LinkAt channel s r (air_of r s c ++ on s (cons_option o.frame [])) (link_with_sapi s o.new_state)
+  IsSlotOf s o = LinkAt s r (air_of r s c ++ on s (cons_option o.frame [])) (link_with_sapi s o.new_state)
       (air_of (other r) s c) (link_at (other r) s c) (log_lines_of_sapi s log ++ log_lines_of_sapi s (lines_of o))
 
   slot_of : (a : Option Frame) → slot0.frame ≡ a → (s : Sapi) → IsSlotOf s (with_sapi3 slot0 a moved)
@@ -249,9 +250,9 @@ module _ {channel : Channel} {c : RunState} {log : List LogLine} (r : Role) (all
 
   -- the run after the slot, in which these frames are sent
   sent_at : {s : Sapi} {air : List Frame} (fs : List Frame) (lines : List LogLine) →
-      LinkAt channel s r air (link_with_sapi s slot.new_state)
+      LinkAt s r air (link_with_sapi s slot.new_state)
       (air_of (other r) s c) (link_at (other r) s c) (log_lines_of_sapi s log ++ log_lines_of_sapi s lines) →
-      air ≡ air_of r s c ++ on s fs → At channel s (after_slot_of r fs c) (log ++ lines)
+      air ≡ air_of r s c ++ on s fs → At s (after_slot_of r fs c) (log ++ lines)
   sent_at {s} fs lines k e =
       goes_to (all s) r (after_slot_of r fs c) lines (log_lines_of_sapi s lines) k (e ∙ sym (sent-own r s fs)) (sym (sent-link r s fs))
       (sym (sent-other r s fs)) (sym (sent-peer r s fs)) refl
@@ -273,7 +274,7 @@ module _ {channel : Channel} {c : RunState} {log : List LogLine} (r : Role) (all
       sent-peer Mobile s fs = refl
       sent-peer Network s fs = refl
 
-  slot_at : IsAt channel (after_event (Slot r) c) (log ++ slot_lines r c)
+  slot_at : IsAt (after_event (Slot r) c) (log ++ slot_lines r c)
   slot_at s = sent_at (cons_option slot.frame []) (slot_lines r c) (slot_link s) refl
 
   -- ---- a UI frame in a free slot
@@ -288,7 +289,7 @@ module _ {channel : Channel} {c : RunState} {log : List LogLine} (r : Role) (all
     abbrev unit : Frame
     unit = ui_frame m (link_with_sapi t slot.new_state).endpoint
 
-    free_link : (s : Sapi) → LinkAt channel s r (air_of r s c) (link_with_sapi s slot.new_state) (air_of (other r) s c)
+    free_link : (s : Sapi) → LinkAt s r (air_of r s c) (link_with_sapi s slot.new_state) (air_of (other r) s c)
         (link_at (other r) s c) (log_lines_of_sapi s log ++ log_lines_of_sapi s (slot_lines r c))
     free_link s = rw (may.0, append-nil) at (slot_link s)
 
@@ -298,7 +299,7 @@ module _ {channel : Channel} {c : RunState} {log : List LogLine} (r : Role) (all
     abbrev unit_lines : List LogLine
     unit_lines = slot_lines r c ++ Asked r t (SendsUi m) ∷ []
 
-    unit_own : At channel t (after_slot_of r (unit ∷ []) c) (log ++ unit_lines)
+    unit_own : At t (after_slot_of r (unit ∷ []) c) (log ++ unit_lines)
     unit_own =
         let k = unit_step (free_link t) m (free_of slot0.frame refl may.0 t) may.1 in
         sent_at {s = t} {air = air_of r t c ++ unit ∷ []} (unit ∷ []) unit_lines
@@ -309,7 +310,7 @@ module _ {channel : Channel} {c : RunState} {log : List LogLine} (r : Role) (all
         ) k)
         (rw unit-on refl)
 
-    unit_else : (s : Sapi) → is_same_sapi s t ≡ false → At channel s (after_slot_of r (unit ∷ []) c) (log ++ unit_lines)
+    unit_else : (s : Sapi) → is_same_sapi s t ≡ false → At s (after_slot_of r (unit ∷ []) c) (log ++ unit_lines)
     unit_else s e =
         sent_at {s = s} {air = air_of r s c} (unit ∷ []) unit_lines
         (rw (lines-append s (slot_lines r c) (Asked r t (SendsUi m) ∷ []), e, append-nil (log_lines_of_sapi s (slot_lines r c)))
@@ -317,7 +318,7 @@ module _ {channel : Channel} {c : RunState} {log : List LogLine} (r : Role) (all
         (rw (is_on-else s t unit e unit-on, append-nil) refl)
 
   unit_at : (t : Sapi) (m : Message) → IsPossible (UnitSlot r t m) c →
-      IsAt channel (after_event (UnitSlot r t m) c) (log ++ (slot_lines r c ++ Asked r t (SendsUi m) ∷ []))
+      IsAt (after_event (UnitSlot r t m) c) (log ++ (slot_lines r c ++ Asked r t (SendsUi m) ∷ []))
   unit_at Zero m may Zero = unit_own Zero m may
   unit_at Three m may Three = unit_own Three m may
   unit_at t m may s = unit_else t m may s refl
@@ -351,7 +352,7 @@ on-here s f fs e = rw e refl
 on-there : (s : Sapi) (f : Frame) (fs : List Frame) → is_on s f ≡ false → on s (f ∷ fs) ≡ on s fs
 on-there s f fs e = rw e refl
 
-module _ {channel : Channel} {c : RunState} {log : List LogLine} (r : Role) (all : IsAt channel c log) where
+module _ {c : RunState} {log : List LogLine} (r : Role) (all : IsAt c log) where
   abbrev q : List Frame
   q = queue_of (other r) c.air
 
@@ -362,14 +363,14 @@ module _ {channel : Channel} {c : RunState} {log : List LogLine} (r : Role) (all
 
     -- the link does not change
     gone : link_with_sapi s (data_link_of r c) ≡ link_with_sapi s d → (fs : List Frame) → q ≡ fs → (lines : List LogLine) →
-        log_lines_of_sapi s lines ≡ [] → At channel s (arrived_at r d c) (log ++ lines)
+        log_lines_of_sapi s lines ≡ [] → At s (arrived_at r d c) (log ++ lines)
     gone same [] e lines silent =
         unchanged (all s) r (arrived_at r d c) lines (sym (arrived-air r d s c))
         (same ∙ sym (ap (link_with_sapi s) (arrived-own r d s c)))
         (ap (on s) e ∙ left [] (ap (λ xs. drop 1 xs) e)) (sym (ap (link_with_sapi s) (arrived-peer r d s c))) silent
     gone same (f ∷ fs) e lines silent = by_on (is_on s f) refl
       where
-        by_on : (b : Bool) → is_on s f ≡ b → At channel s (arrived_at r d c) (log ++ lines)
+        by_on : (b : Bool) → is_on s f ≡ b → At s (arrived_at r d c) (log ++ lines)
         by_on true on_f =
             let k = of_side r (all s) in
             let front : air_of (other r) s c ≡ f ∷ on s fs = ap (on s) e ∙ on-here s f fs on_f in
@@ -386,7 +387,7 @@ module _ {channel : Channel} {c : RunState} {log : List LogLine} (r : Role) (all
     takes_own : (f : Frame) (fs : List Frame) → q ≡ f ∷ fs → is_on s f ≡ true →
         is_reopened_by_frame f (link_at r s c) ≡ false →
         after_frame f (link_at r s c) ≡ link_with_sapi s d →
-        At channel s (arrived_at r d c) (log ++ map (Notified r s) (frame_notices f (link_at r s c)))
+        At s (arrived_at r d c) (log ++ map (Notified r s) (frame_notices f (link_at r s c)))
     takes_own f fs e on_f once is =
         let k = of_side r (all s) in
         let ns = frame_notices f (link_at r s c) in
@@ -397,7 +398,7 @@ module _ {channel : Channel} {c : RunState} {log : List LogLine} (r : Role) (all
 
   takes_at : (f : Frame) (fs : List Frame) → q ≡ f ∷ fs → (t s : Sapi) → is_on t f ≡ true →
       is_reopened_by_frame f (link_at r t c) ≡ false →
-      At channel s (arrived_at r (taken_by (Some t) f (data_link_of r c)) c) (log ++ taking_lines r (Some t) f (data_link_of r c))
+      At s (arrived_at r (taken_by (Some t) f (data_link_of r c)) c) (log ++ taking_lines r (Some t) f (data_link_of r c))
   takes_at f fs e Zero Zero on_f once = takes_own _ Zero f fs e on_f once refl
   takes_at f fs e Three Three on_f once = takes_own _ Three f fs e on_f once refl
   takes_at f fs e t s on_f once =
@@ -406,24 +407,24 @@ module _ {channel : Channel} {c : RunState} {log : List LogLine} (r : Role) (all
 
   taker_at : (f : Frame) (fs : List Frame) → q ≡ f ∷ fs → (a : Option Sapi) → sapi_for_frame f (data_link_of r c) ≡ a →
       IfSome a (λ t. is_reopened_by_frame f (link_at r t c) ≡ false) → (s : Sapi) →
-      At channel s (arrived_at r (taken_by a f (data_link_of r c)) c) (log ++ taking_lines r a f (data_link_of r c))
+      At s (arrived_at r (taken_by a f (data_link_of r c)) c) (log ++ taking_lines r a f (data_link_of r c))
   taker_at f fs e None is once s = gone (taken_by None f (data_link_of r c)) s (passed s f (data_link_of r c)) (f ∷ fs) e [] refl
   taker_at f fs e (Some t) is once s = takes_at f fs e t s (taker-on f (data_link_of r c) t is) once
 
   frame_at : (f : Frame) (fs : List Frame) → q ≡ fs → IsOldestSentOrNone (Some f) fs →
       OpensNoClosedLink (Some f) (data_link_of r c) → (s : Sapi) →
-      At channel s (arrived_at r (after_arrival f (data_link_of r c)) c) (log ++ arrival_lines r (Some f) (data_link_of r c))
+      At s (arrived_at r (after_arrival f (data_link_of r c)) c) (log ++ arrival_lines r (Some f) (data_link_of r c))
   frame_at f [] e sent once s = absurd sent
   frame_at f (g ∷ gs) e sent once s =
       taker_at f gs (e ∙ ap (λ x. x ∷ gs) (sym sent)) (sapi_for_frame f (data_link_of r c)) refl once s
 
-  nothing_at : (s : Sapi) → At channel s (arrived_at r (data_link_of r c) c) (log ++ [])
+  nothing_at : (s : Sapi) → At s (arrived_at r (data_link_of r c) c) (log ++ [])
   nothing_at s = gone (data_link_of r c) s refl q refl [] refl
 
 -- ---- a run
 
-module _ {channel : Channel} {c : RunState} {log : List LogLine} (all : IsAt channel c log) where
-  main_at : (r : Role) (established : Bool) → IsAt channel (after_event (HasMain r established) c) (log ++ [])
+module _ {c : RunState} {log : List LogLine} (all : IsAt c log) where
+  main_at : (r : Role) (established : Bool) → IsAt (after_event (HasMain r established) c) (log ++ [])
   main_at r established s =
       let d = having_main established (data_link_of r c) in
       unchanged (all s) r (with_data_link r d c) [] (air-kept r r s d c) (main-link s ∙ sym (ap (link_with_sapi s) (replaced-own r d c)))
@@ -433,7 +434,7 @@ module _ {channel : Channel} {c : RunState} {log : List LogLine} (all : IsAt cha
       main-link Zero = refl
       main-link Three = refl
 
-  step_at : (event : RunEvent) → IsPossible event c → IsAt channel (after_event event c) (log ++ event_lines event c)
+  step_at : (event : RunEvent) → IsPossible event c → IsAt (after_event event c) (log ++ event_lines event c)
   step_at (Calls r t call) may = call_at r call t all may
   step_at (Slot r) may = slot_at r all
   step_at (UnitSlot r t m) may = unit_at r all t m may
@@ -443,8 +444,8 @@ module _ {channel : Channel} {c : RunState} {log : List LogLine} (all : IsAt cha
   step_at (Arrives Network None) may = nothing_at Mobile all
   step_at (HasMain r established) may = main_at r established
 
-run_at : {channel : Channel} (events : List RunEvent) (c : RunState) (log : List LogLine) → IsAt channel c log → IsRun events c →
-    (z : RunState) × IsAt channel z (log ++ run_log events c)
+run_at : (events : List RunEvent) (c : RunState) (log : List LogLine) → IsAt c log → IsRun events c →
+    (z : RunState) × IsAt z (log ++ run_log events c)
 run_at [] c log all run = (c, rw append-nil all)
 run_at (event ∷ events) c log all run =
     rw (← append_assoc) (run_at events (after_event event c) (log ++ event_lines event c) (step_at all event run.0) run.1)
@@ -458,7 +459,7 @@ initial_fits channel t200 Zero Mobile = record { endpoint = refl; queue = empty;
 initial_fits channel t200 Three Mobile = record { endpoint = refl; queue = empty; sound = new_link_sound refl refl }
 initial_fits channel t200 s r = record { endpoint = refl; queue = empty; sound = new_link_sound refl refl }
 
-initial_at : (channel : Channel) (t200 : Role → Sapi → ℕ) → IsAt channel (initial_run channel t200) []
+initial_at : (channel : Channel) (t200 : Role → Sapi → ℕ) → IsAt (initial_run channel t200) []
 initial_at channel t200 s = record {
   world = start channel;
   lines = [];
@@ -471,17 +472,17 @@ module _ (channel : Channel) (t200 : Role → Sapi → ℕ) (events : List RunEv
   abbrev log : List LogLine
   log = run_log events (initial_run channel t200)
 
-  ran : (s : Sapi) → (z : RunState) × At channel s z log
+  ran : (s : Sapi) → (z : RunState) × At s z log
   ran s = let t = run_at events (initial_run channel t200) [] (initial_at channel t200) run in (t.0, t.1 s)
 
   claims_of : (s : Sapi) → Claims (log_lines_of_sapi s log)
-  claims_of s = let a = (ran s).1 in rw a.seen_lines at (claims-seen a.lines (reached_claims a.reaches))
+  claims_of s = let a = (ran s).1 in rw a.seen_lines at (claims-seen a.lines (session_claims (a.reaches.reached.session tt)))
 
   counts_of : (s : Sapi) → AckedAtMostDelivered (log_lines_of_sapi s log)
-  counts_of s = let a = (ran s).1 in rw a.seen_lines at (counts-seen a.lines (reached_counts a.reaches))
+  counts_of s = let a = (ran s).1 in rw a.seen_lines at (counts-seen a.lines (session_counts (a.reaches.reached.session tt)))
 
   order_of : (s : Sapi) → HasNoticesInOrder (log_lines_of_sapi s log)
-  order_of s = let a = (ran s).1 in rw a.seen_lines at (order-seen a.lines (reached_order a.reaches))
+  order_of s = let a = (ran s).1 in rw a.seen_lines at (order-seen a.lines (session_order a.world a.lines a.reaches.reached.reported))
 
   pub data_links_deliver : Claims log
   data_links_deliver = delivery_by_link log (claims_of Zero) (claims_of Three)

@@ -45,11 +45,11 @@ pub record Fits (r : Role) (s : Sapi) (air : List Frame) (l : LinkState) (w : Wo
   pub sound : IsSound s l
 
 -- a session reaches a state that both ends of a link fit; layer 3 has seen `log`
-pub record LinkAt (channel : Channel) (s : Sapi) (r : Role) (air : List Frame) (l : LinkState) (air' : List Frame) (l' : LinkState)
+pub record LinkAt (s : Sapi) (r : Role) (air : List Frame) (l : LinkState) (air' : List Frame) (l' : LinkState)
     (log : List LogLine) : Type 0 where
   pub world : World
   pub lines : List LogLine
-  pub reaches : Reaches channel s world lines
+  pub reaches : Reaches s world lines
   pub seen_lines : seen lines ≡ log
   pub here : Fits r s air l world
   pub there : Fits (other r) s air' l' world
@@ -108,18 +108,18 @@ seen-asked r s Closes own e = rw e refl
 seen-asked r s call own e = absurd own
 
 -- in this module, a session reaches a state that both ends of a link fit
-module _ {channel : Channel} {s : Sapi} {r : Role} {air air' : List Frame} {l l' : LinkState} {log : List LogLine}
-    (k : LinkAt channel s r air l air' l' log)
+module _ {s : Sapi} {r : Role} {air air' : List Frame} {l l' : LinkState} {log : List LogLine}
+    (k : LinkAt s r air l air' l' log)
   where
     pub own_sapi : l.endpoint.sapi ≡ s
-    own_sapi = ap (λ (e : EndpointState). e.sapi) (sym k.here.endpoint) ∙ (k.reaches.reported r s).sapi
+    own_sapi = ap (λ (e : EndpointState). e.sapi) (sym k.here.endpoint) ∙ (k.reaches.reached.reported r s).sapi
 
     window : HasWindowOfOne l.endpoint
-    window = rw k.here.endpoint at (k.reaches.reported r s).window_of_one
+    window = rw k.here.endpoint at (k.reaches.reached.reported r s).window_of_one
 
     -- nothing happens in the session
     pub stays : {air2 : List Frame} {l2 : LinkState} → l2.endpoint ≡ l.endpoint → IsSub (air2 ++ pending l2) (way r k.world) →
-        IsSound s l2 → LinkAt channel s r air2 l2 air' l' log
+        IsSound s l2 → LinkAt s r air2 l2 air' l' log
     stays e queue sound = record {
       world = k.world;
       lines = k.lines;
@@ -131,9 +131,9 @@ module _ {channel : Channel} {s : Sapi} {r : Role} {air air' : List Frame} {l l'
 
     -- the endpoint acts in a state in which the other end fits
     acts : {air2 there_air : List Frame} {l2 : LinkState} (v : World) (o : Outcome) (new seen_new : List LogLine) →
-        Reaches channel s (acted r s o v) (k.lines ++ new) → seen new ≡ seen_new → Fits (other r) s there_air l' v →
+        Reaches s (acted r s o v) (k.lines ++ new) → seen new ≡ seen_new → Fits (other r) s there_air l' v →
         l2.endpoint ≡ o.new_state → IsSub (air2 ++ pending l2) (way r v ++ o.frames) → IsSound s l2 →
-        LinkAt channel s r air2 l2 there_air l' (log ++ seen_new)
+        LinkAt s r air2 l2 there_air l' (log ++ seen_new)
     acts v o new seen_new reaches is there e queue sound = record {
       world = acted r s o v;
       lines = k.lines ++ new;
@@ -153,17 +153,17 @@ module _ {channel : Channel} {s : Sapi} {r : Role} {air air' : List Frame} {l l'
         seen (Asked r s call ∷ map (Notified r s) (call_outcome call l.endpoint).notices) ≡ seen_new →
         l2.endpoint ≡ (call_outcome call l.endpoint).new_state →
         IsSub (air2 ++ pending l2) (way r k.world ++ (call_outcome call l.endpoint).frames) → IsSound s l2 →
-        LinkAt channel s r air2 l2 air' l' (log ++ seen_new)
+        LinkAt s r air2 l2 air' l' (log ++ seen_new)
     calls_with call seen_new placed ok is e queue sound =
         acts k.world (call_outcome call l.endpoint) (Asked r s call ∷ map (Notified r s) (call_outcome call l.endpoint).notices) seen_new
         (rw k.here.endpoint at (calls k.reaches r call placed (rw k.here.endpoint ok))) is k.there e queue sound
 
     -- ---- a slot passes
 
-    pub passes_slot : LinkAt channel s r air (after_slot l) air' l' log
+    pub passes_slot : LinkAt s r air (after_slot l) air' l' log
     passes_slot = by_sent l.is_sent refl
       where
-        by_sent : (b : Bool) → l.is_sent ≡ b → LinkAt channel s r air (after_slot l) air' l' log
+        by_sent : (b : Bool) → l.is_sent ≡ b → LinkAt s r air (after_slot l) air' l' log
         by_sent true e = stays refl
             (rw (unsent-sent (after_slot l) e) (rw (unsent-sent l e) at k.here.queue)) (record {
               clock = λ n. absurd cc;
@@ -183,7 +183,7 @@ module _ {channel : Channel} {s : Sapi} {r : Role} {air air' : List Frame} {l l'
         refusal_of call l.endpoint ≡ None →
         seen (Asked r s call ∷ map (Notified r s) (call_outcome call l.endpoint).notices) ≡ seen_new →
         l2.endpoint ≡ (call_outcome call l.endpoint).new_state → l2.is_sent ≡ true → l2.answer ≡ None →
-        IsSub frames (call_outcome call l.endpoint).frames → LinkAt channel s r (air ++ frames) l2 air' l' (log ++ seen_new)
+        IsSub frames (call_outcome call l.endpoint).frames → LinkAt s r (air ++ frames) l2 air' l' (log ++ seen_new)
     sends_now call {l2} frames seen_new placed ok is e sent owes_none sub =
         calls_with call seen_new placed ok is e
         (rw (unsent-sent l2 sent, owes_none, append-nil) (append (on_air air (pending l) k.here.queue) sub))
@@ -282,11 +282,11 @@ slot-on s l o same h (expiring awaits sent) = by_count (nat_lt l.endpoint.retrie
     by_count true = awaited-on s l same true
     by_count false = tt
 
-module _ {channel : Channel} {s : Sapi} {r : Role} {air air' : List Frame} {l l' : LinkState} {log : List LogLine}
-    (k : LinkAt channel s r air l air' l' log)
+module _ {s : Sapi} {r : Role} {air air' : List Frame} {l l' : LinkState} {log : List LogLine}
+    (k : LinkAt s r air l air' l' log)
   where
     slot_of : (o : SlotOutcome) → IsSlot l o →
-        LinkAt channel s r (air ++ cons_option o.frame []) o.link air' l' (log ++ map (Notified r s) o.notices)
+        LinkAt s r (air ++ cons_option o.frame []) o.link air' l' (log ++ map (Notified r s) o.notices)
     slot_of o (sabm_first opening first) = rw (append-nil log) (stays k refl
         (rw (awaited-sabm false l.endpoint.state l.endpoint opening, unsent-sent o.link refl, append_assoc)
         (rw first at k.here.queue))
@@ -302,14 +302,14 @@ module _ {channel : Channel} {s : Sapi} {r : Role} {air air' : List Frame} {l l'
         (map (Notified r s) (t200_expiry l.endpoint).notices) tt
         (rw awaits refl) (notices-seen r s (t200_expiry l.endpoint).notices) refl sent refl (first-some (t200_expiry l.endpoint).frames)
 
-    pub slot_step : LinkAt channel s r (air ++ cons_option (slot_outcome l).frame []) (slot_outcome l).link air' l'
+    pub slot_step : LinkAt s r (air ++ cons_option (slot_outcome l).frame []) (slot_outcome l).link air' l'
         (log ++ map (Notified r s) (slot_outcome l).notices)
     slot_step = slot_of (slot_outcome l) (is_slot l)
 
     -- ---- a UI frame in a free slot
 
     pub unit_step : (m : List ℕ) → pending l ≡ [] → refusal_of (SendsUi m) l.endpoint ≡ None →
-        LinkAt channel s r (air ++ ui_frame m l.endpoint ∷ []) l air' l' (log ++ Asked r s (SendsUi m) ∷ [])
+        LinkAt s r (air ++ ui_frame m l.endpoint ∷ []) l air' l' (log ++ Asked r s (SendsUi m) ∷ [])
     unit_step m waits ok =
         calls_with k (SendsUi m) (Asked r s (SendsUi m) ∷ []) tt ok refl refl
         (rw (waits, append-nil) (append (on_air air (pending l) k.here.queue) (all (ui_frame m l.endpoint ∷ [])))) k.here.sound
@@ -403,17 +403,17 @@ way-lost_other Mobile w = refl
 way-lost_other Network w = refl
 
 -- the session goes on until this frame is the oldest in transit to side `r`
-record IsInFront (channel : Channel) (s : Sapi) (r : Role) (w : World) (lines : List LogLine) (f : Frame) (xs : List Frame) : Type 0 where
+record IsInFront (s : Sapi) (r : Role) (w : World) (lines : List LogLine) (f : Frame) (xs : List Frame) : Type 0 where
   world : World
   left : List Frame
-  reaches : Reaches channel s world lines
+  reaches : Reaches s world lines
   front : way (other r) world ≡ f ∷ left
   sub : IsSub xs left
   ends : world.ends ≡ w.ends
   same_way : way r world ≡ way r w
 
-in_front : {channel : Channel} {s : Sapi} (r : Role) (w : World) {lines : List LogLine} (f : Frame) (xs q : List Frame) →
-    Reaches channel s w lines → way (other r) w ≡ q → IsSub (f ∷ xs) q → IsInFront channel s r w lines f xs
+in_front : {s : Sapi} (r : Role) (w : World) {lines : List LogLine} (f : Frame) (xs q : List Frame) →
+    Reaches s w lines → way (other r) w ≡ q → IsSub (f ∷ xs) q → IsInFront s r w lines f xs
 in_front r w f xs [] h e g = elim g [ ]
 in_front r w f xs (y ∷ ys) h e (kept g) = record {
   world = w;
@@ -454,11 +454,11 @@ module _ (l : LinkState) (air : List Frame) where
       by_state Closes own (inr e) = pending-outcome air (call_outcome Closes l.endpoint) l q (elsewhere refl) h
       by_state call own (inr e) = absurd own
 
-module _ {channel : Channel} {s : Sapi} {r : Role} {air air' : List Frame} {l l' : LinkState} {log : List LogLine}
-    (k : LinkAt channel s r air l air' l' log)
+module _ {s : Sapi} {r : Role} {air air' : List Frame} {l l' : LinkState} {log : List LogLine}
+    (k : LinkAt s r air l air' l' log)
   where
     call_with : (call : Call) → IsLinkCall call → IsPlaced r s call → refusal_of call l.endpoint ≡ None →
-        LinkAt channel s r air (with_outcome (call_outcome call l.endpoint) l) air' l' (log ++ Asked r s call ∷ [])
+        LinkAt s r air (with_outcome (call_outcome call l.endpoint) l) air' l' (log ++ Asked r s call ∷ [])
     call_with call own placed ok =
         let o = call_outcome call l.endpoint in
         let on : AllOn s o.frames = frames-on (Some call) l.endpoint o.new_state s (layer3-no_ui l call own) (layer3-no_fill l call own)
@@ -472,16 +472,16 @@ module _ {channel : Channel} {s : Sapi} {r : Role} {air air' : List Frame} {l l'
 
     -- layer 3 calls the link
     pub call_step : (call : Call) → IsLinkCall call → IsPlaced r s call → refusal_of call l.endpoint ≡ None →
-        LinkAt channel s r air (after_call call l) air' l' (log ++ Asked r s call ∷ [])
+        LinkAt s r air (after_call call l) air' l' (log ++ Asked r s call ∷ [])
     call_step call own placed ok =
         let e : after_call call l ≡ with_outcome (call_outcome call l.endpoint) l =
         ap (λ (b : Bool). let m = if b then afresh l else l in with_outcome (call_outcome call m.endpoint) m) (not_reopened l call ok) in
         rw e (call_with call own placed ok)
 
-module _ {channel : Channel} {s : Sapi} {r : Role} {air rest : List Frame} {l l' : LinkState} {f : Frame} {log : List LogLine}
-    (k : LinkAt channel s r air l (f ∷ rest) l' log)
+module _ {s : Sapi} {r : Role} {air rest : List Frame} {l l' : LinkState} {f : Frame} {log : List LogLine}
+    (k : LinkAt s r air l (f ∷ rest) l' log)
   where
-    abbrev at_front : IsInFront channel s r k.world k.lines f (rest ++ pending l')
+    abbrev at_front : IsInFront s r k.world k.lines f (rest ++ pending l')
     at_front = in_front r k.world f (rest ++ pending l') (way (other r) k.world) k.reaches refl k.there.queue
 
     -- the other end once the frame has left the queue
@@ -493,7 +493,7 @@ module _ {channel : Channel} {s : Sapi} {r : Role} {air rest : List Frame} {l l'
     }
 
     -- the frame is lost
-    pub lose_step : LinkAt channel s r air l rest l' log
+    pub lose_step : LinkAt s r air l rest l' log
     lose_step = record {
       world = without_oldest_item (other r) at_front.world;
       lines = k.lines;
@@ -508,7 +508,7 @@ module _ {channel : Channel} {s : Sapi} {r : Role} {air rest : List Frame} {l l'
     }
 
     take_with : is_on s f ≡ true →
-        LinkAt channel s r air (with_outcome (received_outcome f l) l) rest l'
+        LinkAt s r air (with_outcome (received_outcome f l) l) rest l'
         (log ++ map (Notified r s) (received_outcome f l).notices)
     take_with on =
         let g : Frame = record f { content = rej_replaced_by_rr f.content } in
@@ -532,11 +532,11 @@ module _ {channel : Channel} {s : Sapi} {r : Role} {air rest : List Frame} {l l'
 
     -- the frame arrives at the link
     pub take_step : is_on s f ≡ true → is_reopened_by_frame f l ≡ false →
-        LinkAt channel s r air (after_frame f l) rest l' (log ++ map (Notified r s) (frame_notices f l))
+        LinkAt s r air (after_frame f l) rest l' (log ++ map (Notified r s) (frame_notices f l))
     take_step on same = by_tests (ignores f l) (is_reopened_by_frame f l) same
       where
         by_tests : (b c : Bool) → c ≡ false → (let m = if c then afresh l else l in
-            LinkAt channel s r air (if b then l else with_outcome (received_outcome f m) m) rest l'
+            LinkAt s r air (if b then l else with_outcome (received_outcome f m) m) rest l'
             (log ++ map (Notified r s) (if b then [] else (received_outcome f m).notices)))
         by_tests b true e = absurd cc
         by_tests true false e = rw append-nil lose_step

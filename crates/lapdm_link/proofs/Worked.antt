@@ -1,15 +1,19 @@
 -- Worked examples of sessions, and for each claim a log that violates it.
 use Rattle.{
-  lapdm_link.{
-    proofs.Delivery.Steps.Events.Words.{◌≡◌, refl, arith, ℕ, false, List, [], ◌∷◌, ◌++◌, replicate, Option, Some, None},
-    proofs.Delivery.Steps.Events.Words.{Sdcch, I, Ui, Frame, Message, Zero, Three, Role, Mobile, Network, Opens, OpensWithoutInfo, Sends},
-    proofs.Delivery.Steps.Events.Words.{SendsUi, Closes, T200Expires, queue_of, Event, Send, Close, T200Expiry, Open, OpenBare, Ask},
-    proofs.Delivery.Steps.Events.Words.{Deliver, Lose, Rival, World, initial_world, initial_session, world_after, answers, IsBenign},
-    proofs.Delivery.Steps.Events.Words.{LogLine, Asked, RivalSabm, Notified, session_log, Claims, HasNoticesInOrder},
-    specs.Events.{SendUi, unbounded_capacity},
+  std.proofs.Common.{◌≡◌, refl, arith, ℕ, false, List, [], ◌∷◌, ◌++◌, replicate, Option, Some, None, true},
+  lapdm_window.specs.{
+    lapdm_frame.{declared.Channel.TheVariants.Sdcch, Content.{I, Ui, Frame}},
+    segmenting.{Segments.Message, lapdm_frame.{Content.Sabm, Frames.{IsFrameCoding, octets_of}, declared.Channel.TheVariants.Sacch}},
+    declared.Sapi.TheVariants.{Zero, Three},
+    Ends.{Role, Mobile, Network},
+    Calls.{Opens, OpensWithoutInfo, Sends, SendsUi, Closes, T200Expires},
   },
-  lapdm_window.specs.segmenting.lapdm_frame.{Content.Sabm, Frames.{IsFrameCoding, octets_of}, declared.Channel.TheVariants.Sacch},
-  std.proofs.Common.true,
+  lapdm_link.specs.{
+    Queues.queue_of,
+    Events.{Event, Send, Close, T200Expiry, Open, OpenBare, Ask, Deliver, Lose, Rival, SendUi, unbounded_capacity},
+    Worlds.{World, initial_world, initial_session, world_after, answers, IsBenign},
+    Claims.{LogLine, Asked, RivalSabm, Notified, session_log, Claims, HasNoticesInOrder},
+  },
 }
 use Rattle.lapdm_window.specs.declared.Notice.TheVariants as N
 use Rattle.lapdm_window.specs.declared.Reason.TheVariants as R

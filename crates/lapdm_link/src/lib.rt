@@ -12,7 +12,7 @@ ghost use Rattle.lapdm_link.specs.Claims.{LogLine, log_lines_of_sapi, session_lo
 /// Law: if each frame arrives in order and unchanged, or is lost, each endpoint delivers a prefix of the messages that its peer sent, and
 /// each message is delivered before it is reported as acknowledged. The queues may have any capacity, and other mobiles may send SABM
 /// frames at any time.
-#[tactic(auto, using(crate::proofs::Delivery::claims))]
+#[tactic(auto, using(crate::proofs::Sessions::claims))]
 pub fn law_lapdm_delivers_in_order()
     ensures { (capacity : QueueCapacity) (channel : Channel) (events : List Event) → IsBenign events (initial_world capacity channel)
         → Claims (session_log events (answers events (initial_world capacity channel))) }
@@ -31,7 +31,7 @@ pub fn law_rr_may_replace_rej()
 
 /// Law: whatever frames arrive, an endpoint reports a message as acknowledged only after the message was sent. Its link is established at
 /// most once, and it reports deliveries and acknowledgements only while the link is open.
-#[tactic(auto, using(crate::proofs::Steps::order_claims))]
+#[tactic(auto, using(crate::proofs::Order::order_claims))]
 pub fn law_lapdm_log_is_ordered()
     ensures { (capacity : QueueCapacity) (channel : Channel) (events : List Event)
         → HasNoticesInOrder (session_log events (answers events (initial_world capacity channel))) }
@@ -46,7 +46,7 @@ pub fn law_lapdm_acked_at_most_delivered()
 
 /// Law: if each arriving frame fits in a block, each step sends at most two frames, which also fit in blocks, and reports at most two
 /// notices.
-#[tactic(auto, using(crate::proofs::Events::small_answers))]
+#[tactic(auto, using(crate::proofs::Fitting::small_answers))]
 pub fn law_session_frames_fit_blocks()
     ensures { (capacity : QueueCapacity) (channel : Channel) (events : List Event) → All (ArrivingFrameFits channel) events
         → All (SentFramesFit channel) (answers events (initial_world capacity channel)) }

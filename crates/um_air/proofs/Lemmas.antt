@@ -2,31 +2,34 @@
 use Rattle.{
   lapdm_link.{
     proofs.{
-      Lemmas.{AllFit, AllReported, AllSay, EndOctets, IsFitting, KnowsBy, LineOctets, SaysOctets, WorldOctets, acked_at_most_delivered},
-      Lemmas.{claims, event_step-fits, event_step-holds, fits-step, in_order-step, initial-fits, initial-octets, initial-reported},
-      Lemmas.{octets-step, order_claims},
+      Lemmas.{AllFit, AllSay, EndOctets, LineOctets, SaysOctets, WorldOctets, event_step-fits, event_step-holds, initial-octets},
+      Lemmas.{octets-step, claims_of, counts_of, order_of, Knows},
       lapdm_frame.{Lemmas.{bit_bound, information_bound, octets_canonical, one_reading, same_frame}, OneRead.one_read},
+      Carriers.{AreAlike, AreCoded, IsReached, MayRead, alike-more, alike-taken, coded-sent, happens, read-fits, reached-start},
     },
     specs.{
-      Claims.{AckedAtMostDelivered, Claims, HasNoticesInOrder, LogLine, answer_log_lines, notice_log_lines, session_log as frame_log},
-      Events.{BySide, Deliver, EventRefusal, Nothing, Who, bounded_capacity, event_step, queues_after_removal, refusal_if, sending_role},
-      Queues.{IsOldestSentOrNone, Queues, empty_queues, queue_of, with_items_appended},
-      Worlds.World,
-      lapdm_frame.{Content.{Frame, information}, Frames.{FrameFits, octets_of}, declared.Channel.Channel, Readings.HasUniqueReading},
-      lapdm_window.{Ends.{Mobile, Network, Role}, declared.{Notice.Notice, Sapi.Sapi}},
+      Claims.{AckedAtMostDelivered, Claims, HasNoticesInOrder, LogLine, answer_log_lines, notice_log_lines, event_log_lines},
+      Events.{BySide, Deliver, EventRefusal, Nothing, Who, event_step, queues_after_removal, refusal_if, sending_role, AirFull},
+      Events.{unbounded_capacity, refusal_with_bounded_queues, Open, OpenBare, Ask, Lose, Rival},
+      Queues.{IsOldestSentOrNone, Queues, empty_queues, queue_of, queue_length},
+      Worlds.{World, IsOldestSentOrRrForRej, initial_world},
+      lapdm_frame.{Content.{Frame, information}, Frames.{FrameFits, octets_of, IsFrameCoding}, declared.Channel.Channel},
+      lapdm_frame.Readings.HasUniqueReading,
+      lapdm_window.{Ends.Role, declared.{Notice.Notice, Sapi.Sapi}},
     },
   },
   std.{
     specs.{List.AllZip, Prelude.{IfSome, unsigned_abs}},
-    proofs.Common.{All, List, None, Option, Some, [], ap, arith, drop, false, get_or, get_or-set_same, inl, inr, length, map, nat_eq, pos},
-    proofs.Common.{refl, sym, ℕ, ℤ, ◌%◌, ◌++◌, ◌-◌, ◌/◌, ◌<◌, ◌∙◌, ◌∷◌, ◌≡◌, ◌≢◌},
-    proofs.{Common.{◌≤◌, ◌⊎◌}, Math.ListN.get_or-map, lemmas.{Bool.{Decides.nat_tests, cases_eq}, Slice.Zip.AllZip-long}},
+    proofs.Common.{All, List, None, Option, Some, [], ap, arith, false, get_or, get_or-set_same, inl, inr, length, map, nat_eq, pos, refl},
+    proofs.Common.{sym, ℕ, ℤ, ◌%◌, ◌++◌, ◌-◌, ◌/◌, ◌<◌, ◌∙◌, ◌∷◌, ◌≡◌, ◌≢◌, ◌≤◌},
+    proofs.{Common.{◌⊎◌, Bool, append_assoc, subst}, Math.ListN.get_or-map, lemmas.Bool.{Decides.nat_tests, cases_eq}},
     proofs.lemmas.List.{get_or-append_right, get_or-set_other, get_or_append_left, get_or_default, length-map, length-set, set_past},
     proofs.lemmas.List.Elements.{All-append, All-cons, All-drop, All-head, All-map, All-nil, All-replicate, All-set, All-tail, All-take},
+    proofs.lemmas.List.append-nil,
   },
   um_air.specs.{
     Air.{Accepts, AirState, Answer, AreBlocksOfFrames, Block, Event, EventDelivers, IsAirRun, IsAirStep, Octets, ReadsFrame, ReceivesBlock},
-    Air.{Refuses, Step, event_with_frame, initial_session, refusal, with_bit_inverted, with_bits_inverted},
+    Air.{Refuses, Step, event_with_frame, initial_session, refusal, with_bit_inverted, with_bits_inverted, CarriesOutEvent},
     Damage.AreCorrectableBursts,
     Sessions.{AllEventsInvertFewBits, AreOctets, EventInvertsFewBits, EventMessageIsOctets, IsBenign, IsBenignFrom, IsBenignStep},
     Sessions.{answer_without_blocks, queues_after_event, session_log},
@@ -37,8 +40,7 @@ use Rattle.{
     proofs.Lemmas.{received_place, sent_block-only, restored_block, sent_block_bits, some_received_block, some_sent_block},
     proofs.{interleave.Lemmas.position_in_four_bursts-below, weight_bound.Lemmas.IsCorrectable-equal},
     specs.{Received.{IsReceivedBlock, coded_soft_bits, joined_bursts, soft_bit_of, soft_bits}, Sent.IsSentBlock, bit_blocks.Octets.IsOctet},
-    specs.{declared.received.Received.Received, interleave.{Bursts.IsInterleaved, Positions.position_in_four_bursts}},
-    specs.Computed.{received_block, sent_block},
+    specs.{declared.received.Received.Received, interleave.{Bursts.IsInterleaved, Positions.position_in_four_bursts}, Computed.sent_block},
   },
 }
 use Rattle.lapdm_link.specs.Events as E
@@ -220,53 +222,11 @@ pub accepted_as_sent : (octets : Octets) (tsc : ℕ) (block : Block) (places : L
     length places ≤ 3 → IsReceivedBlock (map soft_bits (with_bits_inverted places block)) r → r.accepted ≡ Some octets
 accepted_as_sent octets tsc block places r s few h = damaged_received octets _ r (flipped_damaged octets tsc block places s few) h
 
--- ## AsFrameSessions: For every session over blocks there is a session of frames with the same log, so the claims of lapdm_link hold for
--- both. The proof is by induction on the events and constructs the frames in transit.
+-- ## AsFrameSessions: A session over blocks represents a session of frames with the same log, so the claims of lapdm_link hold for both: the
+-- octets that were sent encode the frames in transit, and the blocks in transit are those octets, coded.
 
--- ---- lists whose elements correspond one to one, and queues of such lists
-
-module _ {X Y : Type 0} (R : X → Y → Type 0) where
-  pub zip-rest : (xs : List X) (ys : List Y) → AllZip R xs ys → AllZip R (drop 1 xs) (drop 1 ys)
-  zip-rest xs ys h = grind arith
-
-  zip-append : (xs zs : List X) (ys ws : List Y) → AllZip R xs ys → AllZip R zs ws → AllZip R (xs ++ zs) (ys ++ ws)
-  zip-append [] zs [] ws h g = g
-  zip-append (x ∷ xs) zs (y ∷ ys) ws h g = (h.0, zip-append xs zs ys ws h.1 g)
-  zip-append xs zs ys ws h g = absurd assumption
-
-  abbrev pub AreAlike : Queues X → Queues Y → Type 0
-  AreAlike xs ys = (r : Role) → AllZip R (queue_of r xs) (queue_of r ys)
-
-  pub alike-more : (sender : Role) (x : List X) (y : List Y) (xs : Queues X) (ys : Queues Y) → AreAlike xs ys → AllZip R x y →
-      AreAlike (with_items_appended sender x xs) (with_items_appended sender y ys)
-  alike-more sender x y xs ys h g = grind (arith, zip-append)
-
-  alike-taken : (read : Option Frame) (event : Event) (xs : Queues X) (ys : Queues Y) → AreAlike xs ys →
-      AreAlike (queues_after_removal (event_with_frame read event) xs) (queues_after_removal event ys)
-  alike-taken read event xs ys h = grind (arith, zip-rest)
-
--- ---- the state of a session over blocks, seen as the state of a session of frames
-
-abbrev world_of : AirState → Queues Frame → World
-world_of a fs = record { capacity = bounded_capacity; channel = a.channel; ends = a.ends; queues = fs }
-
-abbrev Coded : AirState → Queues Frame → Type 0
-Coded a fs = AreAlike (λ f block. IsSentBlock (octets_of a.channel f) a.tsc block) fs a.queues
-
--- the invariant between two events: there are frames whose coded blocks are the blocks in transit; each frame fits in a block; and the log
--- agrees with the state of the endpoints
-record IsSeenAt (a : AirState) (octets : Queues Octets) : Type 0 where
-  frames : Queues Frame
-  log : List LogLine
-  blocks : Coded a frames
-  written : AreAlike (λ f o. o ≡ octets_of a.channel f) frames octets
-  fit : IsFitting a.channel (world_of a frames)
-  reported : AllReported (world_of a frames) log
-
--- the refusal of an event does not depend on the frame that is read
-refusal-same : (a : AirState) (fs : Queues Frame) (read : Option Frame) (event : Event) → Coded a fs →
-    W.refusal (event_with_frame read event) (world_of a fs) ≡ refusal event a
-refusal-same a fs read event h = grind (arith, AllZip-long, h Mobile, h Network)
+abbrev AreSent : ℕ → Queues Octets → Queues Block → Type 0
+AreSent tsc os blocks = AreAlike (λ o block. IsSentBlock o tsc block) os blocks
 
 -- ---- the frame that a receiver reads from a block
 
@@ -277,155 +237,198 @@ reads-well channel (Some octets) f all h =
     (h.fits, rw (← h.information_matches) (search (All-take IsOctet, All-drop IsOctet, all)))
 reads-well channel None f all h = absurd h
 
-known-read : (o : Option EventRefusal) (a : AirState) (event : Event) (report : Option Received) (read : Option Frame) →
-    EventDelivers a event report read → (let e = event_with_frame read event in
-    KnowsBy o (λ r f. FrameFits a.channel f) e × KnowsBy o (λ r f. SaysOctets f) e)
-known-read None a (Deliver sender places) (Some report) (Some f) h =
-    reads-well a.channel report.accepted f (accepted_octets _ report h.received) h.reads_frame
-known-read None a (Deliver sender places) None read h = absurd h
-known-read o a event report read h = (tt, tt)
-
 -- if the accepted octets are those that were sent, the frame read is the one that was sent
 pub read_back : (channel : Channel) (accepted : Option Octets) (read : Option Frame) (fs : List Frame) (os : List Octets) →
-    AllZip (λ f o. o ≡ octets_of channel f) fs os → AllFit channel fs → ReadsFrame channel accepted read →
-    IsOldestSentOrNone accepted os → IsOldestSentOrNone read fs
-read_back channel (Some octets) (Some f) (g ∷ gs) (o ∷ os) z fit h s =
-    same_frame _ _ f g (rw (s ∙ z.0) at h) (octets_canonical channel g (All-head (FrameFits channel) g gs fit)).frame
-read_back channel (Some octets) (Some f) fs [] z fit h s = absurd s
-read_back channel accepted None fs os z fit h s = tt
-read_back channel accepted read fs os z fit h s = absurd assumption
+    AllZip (IsFrameCoding channel) fs os → ReadsFrame channel accepted read → IsOldestSentOrNone accepted os →
+    IsOldestSentOrRrForRej read fs
+read_back channel (Some octets) (Some f) (g ∷ gs) (o ∷ os) z h s = inl (same_frame channel o f g (rw s at h) z.0)
+read_back channel (Some octets) (Some f) fs [] z h s = absurd s
+read_back channel accepted None fs os z h s = tt
+read_back channel accepted read fs os z h s = absurd assumption
+
+-- what a receiver reads from accepted octets, which if `Sound` are those that were sent
+pub may_read : {Sound : Type 0} {channel : Channel} {w : World} {ls : List LogLine} (h : IsReached Sound channel w ls)
+    (octets : Queues Octets) → AreCoded channel w.queues octets → (sender : Role) (accepted : Option Octets) (read : Option Frame) →
+    IfSome accepted AreOctets → ReadsFrame channel accepted read → (Sound → IsOldestSentOrNone accepted (queue_of sender octets)) →
+    Knows (MayRead h) (Deliver sender read) × Knows (λ r f. SaysOctets f) (Deliver sender read)
+may_read h octets coded sender accepted None small reads oldest = (tt, tt)
+may_read {channel = channel} {w = w} h octets coded sender accepted (Some f) small reads oldest =
+    let well = reads-well channel accepted f small reads in (
+      (
+        well.0,
+        λ sound. read_back channel accepted (Some f) (queue_of sender w.queues) (queue_of sender octets) (coded sender) reads (oldest sound),
+      ),
+      well.1,
+    )
+
+-- ---- the octets in transit and their blocks
+
+sent_octets : (channel : Channel) (tsc : ℕ) (fs : List Frame) (blocks : List Block) → AreBlocksOfFrames channel tsc fs blocks →
+    AllZip (λ o block. IsSentBlock o tsc block) (map (octets_of channel) fs) blocks
+sent_octets channel tsc [] [] h = tt
+sent_octets channel tsc (f ∷ fs) (block ∷ blocks) h = (h.0, sent_octets channel tsc fs blocks h.1)
+sent_octets channel tsc fs blocks h = absurd assumption
+
+removed-same : {T : Type 0} (read : Option Frame) (event : Event) (ws : Queues T) →
+    queues_after_removal (event_with_frame read event) ws ≡ queues_after_removal event ws
+removed-same read event ws = grind arith
+
+sent-step : (a b : AirState) (octets : Queues Octets) (event : Event) (answer : Answer) → AreSent a.tsc octets a.queues →
+    IsAirStep a event b answer → (b.tsc ≡ a.tsc) × AreSent b.tsc (queues_after_event event answer octets) b.queues
+sent-step a b octets event (Refuses why) h t = rw t.1 (refl, h)
+sent-step a b octets event (Accepts step) h (none, s) =
+    let d = event_step (event_with_frame s.read event) a.ends in
+    rw (s.step_matches, s.new_state_is) (
+      refl,
+      alike-more (λ o block. IsSentBlock o a.tsc block) (sending_role d.who) (map (octets_of a.channel) d.frames) s.blocks _ _
+          (alike-taken _ event octets a.queues h) (sent_octets a.channel a.tsc d.frames s.blocks s.sent),
+    )
 
 -- a block with at most three inverted bits is accepted with the octets that were sent
-block_of_few_inverted : (channel : Channel) (tsc : ℕ) (fs : List Frame) (os : List Octets) (block : Block) (others : List Block)
-    (places : List ℕ) (report : Received) → AllZip (λ f o. o ≡ octets_of channel f) fs os →
-    AreBlocksOfFrames channel tsc fs (block ∷ others) → length places ≤ 3 →
+few_inverted-oldest : (tsc : ℕ) (os : List Octets) (block : Block) (later : List Block) (places : List ℕ) (report : Received) →
+    AllZip (λ o b. IsSentBlock o tsc b) os (block ∷ later) → length places ≤ 3 →
     IsReceivedBlock (map soft_bits (with_bits_inverted places block)) report → IsOldestSentOrNone report.accepted os
-block_of_few_inverted channel tsc (f ∷ fs) (o ∷ os) block others places report z sent few received =
-    rw (accepted_as_sent _ tsc block places report sent.0 few received) (sym z.0)
-block_of_few_inverted channel tsc fs os block others places report z sent few received = absurd assumption
+few_inverted-oldest tsc (o ∷ os) block later places report sent few received =
+    rw (accepted_as_sent o tsc block places report sent.0 few received) refl
+few_inverted-oldest tsc [] block later places report sent few received = absurd sent
+
+few_inverted-step : (a b : AirState) (octets : Queues Octets) (event : Event) (answer : Answer) → AreSent a.tsc octets a.queues →
+    IsAirStep a event b answer → EventInvertsFewBits event → IsBenignStep event answer octets
+few_inverted-step a b octets (Deliver sender places) (Accepts step) h (none, s) few = go step.received s.read s.delivery
+  where
+    go : (received : Option Received) (read : Option Frame) → EventDelivers a (Deliver sender places) received read →
+        IfSome received (λ report. IsOldestSentOrNone report.accepted (queue_of sender octets))
+    go (Some report) read t =
+        few_inverted-oldest a.tsc (queue_of sender octets) t.block t.later_blocks places report (rw t.queue_front at (h sender)) few t.received
+    go None read t = tt
+few_inverted-step a b octets event answer h t few = tt
+
+few_inverted-run : (events : List Event) (answers : List Answer) (a b : AirState) (octets : Queues Octets) →
+    AreSent a.tsc octets a.queues → IsAirRun a events answers b → AllEventsInvertFewBits events → IsBenignFrom octets events answers
+few_inverted-run [] answers a b octets h run few = tt
+few_inverted-run (event ∷ events) [] a b octets h run few = tt
+few_inverted-run (event ∷ events) (answer ∷ answers) a b octets h run few = (
+  few_inverted-step a run.0 octets event answer h run.1 few.0,
+  few_inverted-run events answers run.0 b _ (sent-step a run.0 octets event answer h run.1).1 run.2 few.2,
+)
 
 -- ---- one step of a session
 
-pub all-written : (channel : Channel) (fs : List Frame) → AllZip (λ f o. o ≡ octets_of channel f) fs (map (octets_of channel) fs)
-all-written channel [] = tt
-all-written channel (f ∷ fs) = (refl, all-written channel fs)
+-- A session over blocks in state `a`, with the octets in transit and the log `ls`. `More` holds of the state of the session of frames. If
+-- `Sound`, each block was accepted with the octets that were sent, or not at all.
+record IsAir (Sound : Type 0) (More : World → Type 0) (a : AirState) (octets : Queues Octets) (ls : List LogLine) : Type 0 where
+  world : World
+  reached : IsReached Sound a.channel world ls
+  ends : world.ends ≡ a.ends
+  more : More world
+  coded : AreCoded a.channel world.queues octets
+  sent : AreSent a.tsc octets a.queues
 
--- the step over blocks corresponds to a step over frames with the event `e`; `o` is the reason if `e` is refused, otherwise `None`
-record IsSeenBy (a : AirState) (octets : Queues Octets) (fs : Queues Frame) (event : Event) (answer : Answer) (b : AirState)
-    (e : E.Event) (o : Option EventRefusal) : Type 0 where
-  next : IsSeenAt b (queues_after_event event answer octets)
-  world_is : W.world_after_possible_refusal o e (world_of a fs) ≡ world_of b next.frames
-  tsc : b.tsc ≡ a.tsc
-  same_lines : answer_log_lines event (answer_without_blocks answer) ≡
-      answer_log_lines e (W.answer_unless_refused o (event_step e a.ends))
-  event_known : KnowsBy o (λ r f. SaysOctets f) e
-  benign : IsBenignStep event answer octets → W.IsBenignEvent o e (world_of a fs)
-  few_inverted : EventInvertsFewBits event → IsBenignStep event answer octets
+-- an event that is accepted with room for 64 blocks is accepted with room for any number
+refusal_if-none : (b : Bool) (why : EventRefusal) (others : Option EventRefusal) → refusal_if b why others ≡ None → others ≡ None
+refusal_if-none b why others h = grind arith
 
-module _ (a : AirState) (octets : Queues Octets) (h : IsSeenAt a octets) where
-  -- if an arriving block is accepted with the octets that were sent, the receiver reads the frame that was sent; a block with at most three
-  -- inverted bits is accepted in this way
-  arrived : (event : Event) (report : Option Received) (read : Option Frame) → EventDelivers a event report read →
-      (let e = event_with_frame read event in let now = IsBenignStep event (Accepts (done a e report)) octets in
-      (now → W.IsBenignEvent None e (world_of a h.frames)) × (EventInvertsFewBits event → now))
-  arrived (Deliver sender places) (Some report) read t = (
-    read_back a.channel report.accepted read (queue_of sender h.frames) (queue_of sender octets) (h.written sender) (h.fit.queues sender)
-        t.reads_frame,
-    λ few. block_of_few_inverted a.channel a.tsc (queue_of sender h.frames) (queue_of sender octets) t.block t.later_blocks places report
-        (h.written sender) (rw t.queue_front at (h.blocks sender)) few t.received,
-  )
-  arrived (Deliver sender places) None read t = absurd t
-  arrived event report read t = (λ q. tt, λ k. tt)
+accepted-unbounded : (w : World) (count : Role → ℕ) (event : Event) (read : Option Frame) → w.capacity ≡ unbounded_capacity →
+    refusal_with_bounded_queues w.channel count event w.ends ≡ None → W.refusal (event_with_frame read event) w ≡ None
+accepted-unbounded w count (Open info) read capacity h = rw capacity (refusal_if-none _ AirFull _ h)
+accepted-unbounded w count (OpenBare role) read capacity h = rw capacity (refusal_if-none _ AirFull _ h)
+accepted-unbounded w count (Ask role sapi request) read capacity h = rw capacity (refusal_if-none _ AirFull _ h)
+accepted-unbounded w count (Deliver sender places) read capacity h = rw capacity refl
+accepted-unbounded w count (Lose sender) read capacity h = rw capacity refl
+accepted-unbounded w count (Rival info) read capacity h = rw capacity (refusal_if-none _ AirFull _ h)
 
-  seen-step : (event : Event) (answer : Answer) (b : AirState) → IsAirStep a event b answer → (read : Option Frame) ×
-      (let e = event_with_frame read event in IsSeenBy a octets h.frames event answer b e (W.refusal e (world_of a h.frames)))
-  seen-step event (Refuses why) b t = (
-    None,
-    rw (refusal-same a h.frames None event h.blocks ∙ t.0, t.1) (record {
-      next = h;
-      world_is = refl;
-      tsc = refl;
-      same_lines = refl;
-      event_known = tt;
-      benign = λ q. tt;
-      few_inverted = grind arith;
-    }),
-  )
-  seen-step event (Accepts step) b (none, s) =
-      let e = event_with_frame s.read event in
-      let w = world_of a h.frames in
-      let d = event_step e a.ends in
-      let r = sending_role d.who in
-      let known = refusal-same a h.frames s.read event h.blocks ∙ none in
-      let now = arrived event step.received s.read s.delivery in (
-        s.read,
-        rw (known, s.step_matches, s.new_state_is) (record {
-          next = record {
-            frames = with_items_appended r d.frames (queues_after_removal e h.frames);
-            log = h.log ++ answer_log_lines e (W.answer_unless_refused None d);
-            blocks = alike-more _ r d.frames s.blocks _ _ (alike-taken _ s.read event h.frames a.queues h.blocks) s.sent;
-            written = alike-more _ r d.frames _ _ _ (alike-taken _ s.read event h.frames octets h.written) (all-written a.channel d.frames);
-            fit = rw known at (fits-step a.channel w e (known-read (W.refusal e w) a event step.received s.read s.delivery).0 h.fit);
-            reported = rw known at (in_order-step w h.log e h.reported);
-          };
-          world_is = refl;
-          tsc = refl;
-          same_lines = grind arith;
-          event_known = (known-read None a event step.received s.read s.delivery).1;
-          benign = now.0;
-          few_inverted = now.1;
-        }),
-      )
+same-lines : (read : Option Frame) (event : Event) → event_log_lines (event_with_frame read event) ≡ event_log_lines event
+same-lines read event = grind arith
+
+module _ {Sound : Type 0} {More : World → Type 0} {a : AirState} {octets : Queues Octets} {ls : List LogLine}
+    (h : IsAir Sound More a octets ls) where
+  abbrev w : World
+  w = h.world
+
+  accepted : (event : Event) (read : Option Frame) → refusal event a ≡ None → W.refusal (event_with_frame read event) w ≡ None
+  accepted event read none =
+      accepted-unbounded w (queue_length a.queues) event read h.reached.capacity
+      (subst (λ channel. refusal_with_bounded_queues channel (queue_length a.queues) event w.ends ≡ None) (sym h.reached.fit.on_channel)
+      (subst (λ es. refusal_with_bounded_queues a.channel (queue_length a.queues) event es ≡ None) (sym h.ends) none))
+
+  -- the frame that a receiver reads
+  reads : (event : Event) (report : Option Received) (read : Option Frame) (step : Step) → EventDelivers a event report read →
+      step.received ≡ report → (Sound → IsBenignStep event (Accepts step) octets) → (let e = event_with_frame read event in
+      Knows (MayRead h.reached) e × Knows (λ r f. SaysOctets f) e)
+  reads (Deliver sender places) (Some report) read step t same benign =
+      may_read h.reached octets h.coded sender report.accepted read (accepted_octets _ report t.received) t.reads_frame
+      (λ sound. rw same at (benign sound))
+  reads (Deliver sender places) None read step t same benign = absurd t
+  reads event report read step t same benign = (tt, tt)
+
+  air-step : (event : Event) (answer : Answer) (b : AirState) → IsAirStep a event b answer → (Sound → IsBenignStep event answer octets) →
+      ((read : Option Frame) → (let e = event_with_frame read event in W.refusal e w ≡ None → Knows (λ r f. SaysOctets f) e →
+      More (W.world_after_possible_refusal None e w))) →
+      IsAir Sound More b (queues_after_event event answer octets) (ls ++ answer_log_lines event (answer_without_blocks answer))
+  air-step event (Refuses why) b t benign more = rw (t.1, append-nil) h
+  air-step event (Accepts step) b t benign more = go t.1
+    where
+      go : CarriesOutEvent a event b step → IsAir Sound More b (queues_after_event event (Accepts step) octets)
+          (ls ++ answer_log_lines event (answer_without_blocks (Accepts step)))
+      go s =
+          let e = event_with_frame s.read event in
+          let none = accepted event s.read t.0 in
+          let known = reads event step.received s.read step s.delivery refl benign in
+          let d = event_step e w.ends in
+          let reached = happens h.reached e none known.0 in
+          let sent = (sent-step a b octets event (Accepts step) h.sent t).1 in
+          rw (s.step_matches, s.new_state_is, ← h.ends, ← same-lines s.read event, ← removed-same s.read event octets) (record {
+            world = W.world_after_possible_refusal None e w;
+            reached = reached;
+            ends = refl;
+            more = more s.read none known.1;
+            coded = coded-sent (queues_after_removal e w.queues) (alike-taken (IsFrameCoding a.channel) e w.queues octets h.coded)
+                (sending_role d.who) d.frames reached.fit.queues;
+            sent = rw (s.step_matches, s.new_state_is, ← h.ends, ← removed-same s.read event octets) at sent;
+          })
+
+initial-air : (Sound : Type 0) (More : World → Type 0) (tsc : ℕ) (channel : Channel) → More (initial_world unbounded_capacity channel) →
+    IsAir Sound More (initial_session tsc channel) empty_queues []
+initial-air Sound More tsc channel more = record {
+  world = initial_world unbounded_capacity channel;
+  reached = reached-start Sound channel;
+  ends = refl;
+  more = more;
+  coded = grind arith;
+  sent = grind arith;
+}
 
 -- ---- a session of several steps
 
-abbrev initial-seen : (tsc : ℕ) (channel : Channel) → IsSeenAt (initial_session tsc channel) empty_queues
-initial-seen tsc channel = record {
-  frames = empty_queues;
-  log = [];
-  blocks = grind arith;
-  written = grind arith;
-  fit = initial-fits bounded_capacity channel;
-  reported = initial-reported bounded_capacity channel;
-}
+abbrev Any : World → Type 0
+Any w = Unit {0}
 
--- the session over blocks corresponds to a session over frames with the same log
-record IsSeen (a : AirState) (octets : Queues Octets) (h : IsSeenAt a octets) (events : List Event) (answers : List Answer) : Type 0 where
-  frame_events : List E.Event
-  same_lines : session_log events answers ≡ frame_log frame_events (W.answers frame_events (world_of a h.frames))
-  benign : IsBenignFrom octets events answers → W.IsBenign frame_events (world_of a h.frames)
-  few_inverted : AllEventsInvertFewBits events → IsBenignFrom octets events answers
-
-seen-run : (events : List Event) (answers : List Answer) (a b : AirState) (octets : Queues Octets) (h : IsSeenAt a octets) →
-    IsAirRun a events answers b → IsSeen a octets h events answers
-seen-run [] [] a b octets h run = record { frame_events = []; same_lines = refl; benign = λ q. tt; few_inverted = λ k. tt }
-seen-run (event ∷ events) (answer ∷ answers) a b octets h run =
-    let s = seen-step a octets h event answer run.0 run.1 in
-    let r = seen-run events answers run.0 b (queues_after_event event answer octets) s.1.next run.2 in
-    record {
-      frame_events = event_with_frame s.0 event ∷ r.frame_events;
-      same_lines = cc (s.1.same_lines, r.same_lines, s.1.world_is);
-      benign = λ q. (s.1.benign q.0, rw s.1.world_is (r.benign q.1));
-      few_inverted = λ k. (s.1.few_inverted k.0, r.few_inverted k.2);
-    }
-seen-run events answers a b octets h run = absurd assumption
+air-run : (Sound : Type 0) (events : List Event) (answers : List Answer) (a b : AirState) (octets : Queues Octets) (ls : List LogLine) →
+    IsAir Sound Any a octets ls → IsAirRun a events answers b → (Sound → IsBenignFrom octets events answers) →
+    (os : Queues Octets) × IsAir Sound Any b os (ls ++ session_log events answers)
+air-run Sound [] [] a b octets ls h run benign = (octets, rw (run, append-nil) h)
+air-run Sound (event ∷ events) (answer ∷ answers) a b octets ls h run benign =
+    rw (← append_assoc) (air-run Sound events answers run.0 b (queues_after_event event answer octets) _
+    (air-step h event answer run.0 run.1 (λ sound. (benign sound).0) (λ read none says. tt)) run.2 (λ sound. (benign sound).1))
+air-run Sound events answers a b octets ls h run benign = absurd assumption
 
 module _ (tsc : ℕ) (channel : Channel) (events : List Event) (answers : List Answer) (b : AirState)
     (run : IsAirRun (initial_session tsc channel) events answers b) where
-  seen : IsSeen (initial_session tsc channel) empty_queues (initial-seen tsc channel) events answers
-  seen = seen-run events answers (initial_session tsc channel) b empty_queues (initial-seen tsc channel) run
+  air : (os : Queues Octets) × IsAir (IsBenign events answers) Any b os (session_log events answers)
+  air = air-run _ events answers (initial_session tsc channel) b empty_queues [] (initial-air _ Any tsc channel tt) run (λ benign. benign)
 
   pub air_claims : IsBenign events answers → Claims (session_log events answers)
-  air_claims benign = rw seen.same_lines (claims bounded_capacity channel seen.frame_events (seen.benign benign))
+  air_claims benign = claims_of (air.1.reached.session benign)
 
   pub air_counts : IsBenign events answers → AckedAtMostDelivered (session_log events answers)
-  air_counts benign = rw seen.same_lines (acked_at_most_delivered bounded_capacity channel seen.frame_events (seen.benign benign))
-
-  pub few_inverted_is_benign : AllEventsInvertFewBits events → IsBenign events answers
-  few_inverted_is_benign = seen.few_inverted
+  air_counts benign = counts_of (air.1.reached.session benign)
 
   pub air_order : HasNoticesInOrder (session_log events answers)
-  air_order = rw seen.same_lines (order_claims bounded_capacity channel seen.frame_events)
+  air_order = order_of air.1.world _ air.1.reached.reported
+
+  pub few_inverted_is_benign : AllEventsInvertFewBits events → IsBenign events answers
+  few_inverted_is_benign =
+      few_inverted-run events answers (initial_session tsc channel) b empty_queues (initial-air ⊥ Any tsc channel tt).sent run
 
 pub longer_run : (a : AirState) (events : List Event) (answers : List Answer) (b : AirState) (event : Event) (answer : Answer)
     (c : AirState) → IsAirRun a events answers b → IsAirStep b event c answer →
@@ -451,23 +454,23 @@ pub octets_small : (channel : Channel) (f : Frame) → FrameFits channel f → A
 octets_small channel f h info =
     search (arith, All-append IsOctet, All-replicate IsOctet, All-cons IsOctet, All-nil IsOctet, information_bound, bit_bound) depth 9
 
-some_reception : (a : AirState) (sender : Role) (places : List ℕ) (fs : List Frame) (blocks : List Block) (more : Option EventRefusal) →
-    AreBlocksOfFrames a.channel a.tsc fs blocks → queue_of sender a.queues ≡ blocks →
+some_reception : (a : AirState) (sender : Role) (places : List ℕ) (os : List Octets) (blocks : List Block)
+    (more : Option EventRefusal) → AllZip (λ o block. IsSentBlock o a.tsc block) os blocks → queue_of sender a.queues ≡ blocks →
     refusal_if (nat_eq (length blocks) 0) Nothing more ≡ None →
     (report : Received) × (read : Option Frame) × ReceivesBlock a sender places report read
-some_reception a sender places fs [] more sent is none = absurd (cc none)
-some_reception a sender places (f ∷ fs) (block ∷ others) more sent is none =
-    let shape = flipped_shape (octets_of a.channel f) a.tsc block sent.0 places in
+some_reception a sender places os [] more sent is none = absurd (cc none)
+some_reception a sender places (o ∷ os) (block ∷ others) more sent is none =
+    let shape = flipped_shape o a.tsc block sent.0 places in
     let (r, received) = some_received_block _ shape.0 shape.1 in
     let reads = ReadsFrame-frame_in_accepted a.channel r.accepted (accepted_count _ r received) in
     (r, _, record { block = block; later_blocks = others; queue_front = is; received = received; reads_frame = reads })
-some_reception a sender places fs blocks more sent is none = absurd assumption
+some_reception a sender places os blocks more sent is none = absurd assumption
 
-some_arrival : (a : AirState) (fs : Queues Frame) (event : Event) → Coded a fs → refusal event a ≡ None →
+some_arrival : (a : AirState) (os : Queues Octets) (event : Event) → AreSent a.tsc os a.queues → refusal event a ≡ None →
     (report : Option Received) × (read : Option Frame) × EventDelivers a event report read
-some_arrival a fs (Deliver sender places) sent none =
-    let r = some_reception a sender places (queue_of sender fs) (queue_of sender a.queues) _ (sent sender) refl none in (Some r.0, r.1, r.2)
-some_arrival a fs event sent none = (None, None, tt)
+some_arrival a os (Deliver sender places) sent none =
+    let r = some_reception a sender places (queue_of sender os) (queue_of sender a.queues) _ (sent sender) refl none in (Some r.0, r.1, r.2)
+some_arrival a os event sent none = (None, None, tt)
 
 -- ---- every frame that is sent can be coded
 
@@ -491,52 +494,50 @@ line_octets : (read : Option Frame) (event : Event) (answer : E.Answer) → Even
     LineOctets (answer_log_lines (event_with_frame read event) answer)
 line_octets read event answer h = grind (arith, notified_octets)
 
--- the invariant of a session whose messages consist of octets: `IsSeenAt` holds, the messages of the endpoints and the information in
--- transit consist of octets, and the training sequence code is 0 to 7
+-- the invariant of a session whose messages consist of octets: so do the messages of the endpoints and the information in transit, and the
+-- training sequence code is 0 to 7
 record IsOctetSession (a : AirState) : Type 0 where
   octets : Queues Octets
-  seen : IsSeenAt a octets
-  are_octets : WorldOctets (world_of a seen.frames)
+  log : List LogLine
+  air : IsAir ⊥ WorldOctets a octets log
   valid_tsc : a.tsc ≤ 7
 
 initial-octet_session : (tsc : ℕ) (channel : Channel) → tsc ≤ 7 → IsOctetSession (initial_session tsc channel)
 initial-octet_session tsc channel known = record {
   octets = empty_queues;
-  seen = initial-seen tsc channel;
-  are_octets = initial-octets bounded_capacity channel;
+  log = [];
+  air = initial-air ⊥ WorldOctets tsc channel (initial-octets unbounded_capacity channel);
   valid_tsc = known;
 }
 
 module _ (a : AirState) (h : IsOctetSession a) (event : Event) (says : EventMessageIsOctets event) where
-  octets-next : (read : Option Frame) → (let e = event_with_frame read event in let w = world_of a h.seen.frames in
-      KnowsBy (W.refusal e w) (λ r f. SaysOctets f) e → WorldOctets (W.world_after e w))
-  octets-next read reads =
+  octets-next : (read : Option Frame) → (let e = event_with_frame read event in let w = h.air.world in
+      W.refusal e w ≡ None → Knows (λ r f. SaysOctets f) e → WorldOctets (W.world_after_possible_refusal None e w))
+  octets-next read none reads =
       let e = event_with_frame read event in
-      let w = world_of a h.seen.frames in
-      octets-step w h.seen.log e h.seen.reported reads h.are_octets (line_octets read event (W.answer e w) says)
+      let w = h.air.world in
+      rw none at (octets-step w h.log e h.air.reached.reported (rw none reads) h.air.more (line_octets read event (W.answer e w) says))
 
   spoken-next : (answer : Answer) (b : AirState) → IsAirStep a event b answer → IsOctetSession b
-  spoken-next answer b t =
-      let (read, s) = seen-step a h.octets h.seen event answer b t in
-      record {
-        octets = queues_after_event event answer h.octets;
-        seen = s.next;
-        are_octets = rw s.world_is at (octets-next read s.event_known);
-        valid_tsc = rw s.tsc h.valid_tsc;
-      }
+  spoken-next answer b t = record {
+    octets = queues_after_event event answer h.octets;
+    log = _;
+    air = air-step h.air event answer b t (λ sound. absurd sound) octets-next;
+    valid_tsc = rw (sent-step a b h.octets event answer h.air.sent t).0 h.valid_tsc;
+  }
 
   some_answer_at : (o : Option EventRefusal) → refusal event a ≡ o → (b : AirState) × (answer : Answer) × IsAirStep a event b answer
   some_answer_at (Some why) is = (a, Refuses why, (is, refl))
   some_answer_at None is =
-      let fs = h.seen.frames in
-      let (report, read, delivery) = some_arrival a fs event h.seen.blocks is in
+      let (report, read, delivery) = some_arrival a h.octets event h.air.sent is in
       let e = event_with_frame read event in
-      let w = world_of a fs in
-      let none = refusal-same a fs read event h.seen.blocks ∙ is in
-      let known = known-read (W.refusal e w) a event report read delivery in
-      let next = octets-next read known.1 in
-      let bs = some_blocks a.channel a.tsc (event_step e a.ends).frames h.valid_tsc (event_step-fits a.channel w e known.0 h.seen.fit none)
-      (event_step-holds (λ r s x. EndOctets x) SaysOctets next.0 w e (W.refusal e w) none next.1) in (
+      let w = h.air.world in
+      let none = accepted h.air event read is in
+      let known = reads h.air event report read (done a e report) delivery refl (λ sound. absurd sound) in
+      let fits = event_step-fits a.channel w e (rw none (read-fits h.air.reached e known.0)) h.air.reached.fit none in
+      let says = event_step-holds (λ r s x. EndOctets x) SaysOctets _ w e None refl (octets-next read none known.1).1 in
+      let bs = some_blocks a.channel a.tsc (event_step e a.ends).frames h.valid_tsc (rw h.air.ends at fits)
+      (rw h.air.ends at says) in (
         _,
         Accepts (done a e report),
         (is, record { read = read; blocks = bs.0; delivery = delivery; sent = bs.1; new_state_is = refl; step_matches = refl }),

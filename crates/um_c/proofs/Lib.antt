@@ -2,4 +2,5 @@ mod Calls
 mod DataLinkCalls
 mod Sessions
 mod DataLinkRuns
+mod Establishing
 pub mod ErasingReports

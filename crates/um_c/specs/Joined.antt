@@ -19,6 +19,7 @@ use Rattle.um_air.specs.lapdm_link.Events.{other, rival_sabm, rival_refusal}
 use Rattle.um_air.specs.lapdm_link.Worlds.{rej_replaced_by_rr}
 use Rattle.um_air.specs.lapdm_link.Claims.{LogLine, Asked, Notified, is_same_role, is_same_sapi}
 use Rattle.um_air.specs.lapdm_link.Claims as C
+use Rattle.um_air.specs.lapdm_link.Carriers.{IsRun, FirstSatisfies, log_of_turns}
 use Rattle.um_air.specs.Damage.{AreCorrectableBursts}
 use Rattle.um_c.specs.declared.states.CEndpoint.{CEndpoint}
 use Rattle.um_c.specs.declared.blocks.BlockReport.{BlockReport}
@@ -122,14 +123,7 @@ pub record IsProgramStart (channel : Channel) (program : ProgramState) : Type 0 
 -- the steps `turns` lead from `before` to `after`, and each satisfies the condition `MayTake`
 abbrev pub IsProgramRun : (channel : Channel) (MayTake : (Channel → ProgramState → ProgramStep → Type 0)) (before : ProgramState)
     (turns : List ProgramStep) (after : ProgramState) → Type 0
-IsProgramRun channel May a [] z = z ≡ a
-IsProgramRun channel May a (turn ∷ turns) z = May channel a turn × (b : ProgramState) × IsProgramStep channel a turn b
-    × IsProgramRun channel May b turns z
-
--- the list is not empty, and its first block satisfies the condition
-abbrev pub FirstBlockSatisfies : (Property : (List ℕ → Type 0)) (blocks : List (List ℕ)) → Type 0
-FirstBlockSatisfies Like [] = ⊥
-FirstBlockSatisfies Like (first ∷ others) = Like first
+IsProgramRun channel May a turns z = IsRun (IsProgramStep channel) (May channel) a turns z
 
 -- `block` encodes the same frame as `sent`, perhaps with other fill octets; if `sent` encodes a REJ, `block` may encode an RR with the same
 -- N(R) instead
@@ -141,7 +135,7 @@ EncodeSameFrame channel sent block = (f : Frame) → IsFrameCoding channel f sen
 -- same N(R) in place of a REJ
 abbrev pub DeliversOldestBlock : (channel : Channel) (state : ProgramState) (turn : ProgramStep) → Type 0
 DeliversOldestBlock channel a (TakesOldestBlock r s block answer output) =
-    FirstBlockSatisfies (λ first. EncodeSameFrame channel first block) (queue_of
+    FirstSatisfies (λ first. EncodeSameFrame channel first block) (queue_of
     (other r) a.queues)
 DeliversOldestBlock channel a turn = Unit {0}
 
@@ -157,7 +151,7 @@ pub record IsDecodedFromSentBlock (sent block : List ℕ) : Type 0 where
 -- an endpoint that takes the oldest block in transit receives it as decoded from its bursts, which may be lightly damaged
 abbrev pub ReceivesOldestBlock : (channel : Channel) (state : ProgramState) (turn : ProgramStep) → Type 0
 ReceivesOldestBlock channel a (TakesOldestBlock r s block answer output) =
-    FirstBlockSatisfies (λ first. IsDecodedFromSentBlock first block) (queue_of
+    FirstSatisfies (λ first. IsDecodedFromSentBlock first block) (queue_of
     (other r) a.queues)
 ReceivesOldestBlock channel a turn = Unit {0}
 
@@ -175,5 +169,4 @@ step_log_lines (RivalSabm info block) = C.RivalSabm info ∷ []
 
 -- the log of these steps: the log lines of all steps, in order
 abbrev pub session_log : (turns : List ProgramStep) → List LogLine
-session_log [] = []
-session_log (turn ∷ turns) = step_log_lines turn ++ session_log turns
+session_log turns = log_of_turns step_log_lines turns

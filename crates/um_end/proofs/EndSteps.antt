@@ -1,42 +1,59 @@
 -- What a terminal does with a call or with bursts, and the rules of `end`, agree with the relations that are their laws.
 use Rattle.{
   lapdm_end.specs.{Sides.CarriesOutStep, declared.sides.Side.Side},
-  std.proofs.{Common.{Err, Ok, append-nil, append_assoc, get_or, take, ◌⊎◌}, lemmas.Bool.{cases_lt, le-ltb, lt-ltb}},
-  std.{proofs.lemmas.List.{Elements.{All-head, All-nil, All-push, All-tail}, take_more}, specs.List.All},
-  um_driver.{proofs.Outputs.{meaning_of_answer, step_of_answer}, specs.Rules.Runs},
-  um_end.specs.{
-    Abstraction.role_of_terminal,
-    Commands.CommandRepresents,
-    EndLines.{Calls, Nothing as NoLine, TakesBurst, end_command_line, end_command_line_fault},
-    EndRuns.{EndCommandState, answer_to_end_command_line, burst_lines_of_frames, end_answer_text, end_command_rules},
-    EndRuns.initial_end_command_state,
-    EndTurns.{AnswersLineByStep, AnswersLinesBySteps, IsTerminalStepOfLine},
-    Terminals.{SideStep, answer_of_endpoint, answer_to_block, layer3_call_step, with_sapi_endpoint_replaced},
-    TwoTerminals.{TwoTerminals, state_after_step},
-    declared.command.EndCommand.EndCommand,
+  std.{
+    proofs.Common.{Err, Ok, append-nil, append_assoc, get_or, take, ◌⊎◌, All, List, None, Option, Some, [], ap, arith, inl, inr},
+    proofs.Common.{length-append, length, map, refl, subst, sym, ℕ, ℤ, ◌++◌, ◌+◌, ◌<◌, ◌∙◌, ◌∷◌, ◌≡◌},
+    proofs.{Common.◌≤◌, lemmas.{Bool.{cases_lt, le-ltb, lt-ltb}, List.{Elements.{All-head, All-nil, All-push, All-tail}, take_more}}},
+    specs.{List.All, Prelude.IfSome},
   },
-  um_formats.specs.BurstTexts.bursts_text,
+  um_driver.{proofs.Outputs.{meaning_of_answer, step_of_answer}, specs.Rules.Runs},
+  um_end.{
+    specs.{
+      Abstraction.role_of_terminal,
+      Commands.CommandRepresents,
+      EndLines.{Calls, Nothing as NoLine, TakesBurst, end_command_line, end_command_line_fault, EndCommandLineMeaning, EndCommandLineMeans},
+      EndRuns.{EndCommandState, answer_to_end_command_line, burst_lines_of_frames, end_answer_text, end_command_rules},
+      EndRuns.{initial_end_command_state, IsAnswerText, frames_in_answer},
+      EndTurns.{AnswersLineByStep, AnswersLinesBySteps, IsTerminalStepOfLine},
+      Terminals.{SideStep, answer_of_endpoint, answer_to_block, layer3_call_step, with_sapi_endpoint_replaced, IsCallOfRole},
+      Terminals.{ReceivesBursts, SideState, answer_to_call, call_answer_unless, endpoint_step, endpoint_with_sapi, no_op_step},
+      Terminals.{step_for_read_frame, terminal_step_of},
+      TwoTerminals.{TwoTerminals, state_after_step},
+      declared.command.EndCommand.EndCommand,
+    },
+    proofs.{
+      AnswerSizes.IsBlock,
+      EndLineLaws.{CanBeCarriedOut, end_command_line_meaning, end_command_line_means, end_command_line_refused, line-possible},
+    },
+  },
+  um_formats.{specs.BurstTexts.bursts_text, proofs.Lemmas.soft},
   um_lines.specs.declared.fault.LineFault.LineFault,
   um_link.{
     proofs.{
       lapdm_frame.Lemmas.octets_canonical,
-      lapdm_link.Lemmas.{AllSay, CallOctets, EndOctets, OutcomeOctets, SaysOctets, call-octets, frame-octets},
-      lapdm_window.Lemmas.{IsValidEndpoint-initial, Keeps, keeps-call, keeps-frame},
-      um_air.Lemmas.{ReadsFrame-frame_in_accepted, frame_in-only, octets_small, same_step},
-      um_block.Lemmas.{IsSentBlock-sent_block, accepted_count, received_block-only, some_received_block},
+      lapdm_link.Lemmas.{AllSay, CallOctets, EndOctets, OutcomeOctets, SaysOctets, call-octets, frame-octets, AreOctets},
+      lapdm_window.Lemmas.{IsValidEndpoint-initial, Keeps, keeps-call, keeps-frame, by_sapi},
+      um_air.Lemmas.{ReadsFrame-frame_in_accepted, frame_in-only, octets_small, same_step, reads-well},
+      um_block.Lemmas.{IsSentBlock-sent_block, accepted_count, received_block-only, some_received_block, accepted_octets},
     },
     specs.{
-      lapdm_window.{Calls.IsCallAllowedForEndpoint, Ends.{IsValidEndpoint, initial_endpoint}, declared.Refused.Refused},
-      lapdm_window.declared.effects.Effects.Effects,
-      um_air.Computed.frame_in_accepted,
-      lapdm_link.{Events.{BothSides, other, side_with_role, with_side_replaced}, Queues.without_oldest_item},
-      um_block.{Computed.{received_block, sent_block}, Received.IsReceivedBlock},
+      lapdm_window.{
+        Calls.{IsCallAllowedForEndpoint, Call, OpensWithoutInfo, Opens, refusal_of},
+        Ends.{IsValidEndpoint, initial_endpoint, EndpointState, Outcome, Role},
+        declared.{Refused.Refused, effects.Effects.Effects, Sapi.{TheVariants.{Three, Zero}, Sapi}},
+        Tables.frame_outcome,
+      },
+      um_air.{Computed.frame_in_accepted, Air.{Accepts, Answer, Block, Event, Octets, ReadsFrame, Step}, Sessions.EventMessageIsOctets},
+      lapdm_link.Events.{BothSides, other, side_with_role, with_side_replaced, Ask, BySide, OpenBare, Open, Request, as_event_refusal},
+      lapdm_link.{Events.endpoint_call_of, Queues.without_oldest_item},
+      um_block.{Computed.{received_block, sent_block}, Received.IsReceivedBlock, declared.received.Received.Received},
+      Coded.AreCodedBlocks,
+      lapdm_frame.{Content.{Frame, information}, Frames.{FrameFits, octets_of}, declared.Channel.TheVariants.Sdcch},
     },
   },
 }
 use Rattle.um_end.specs.TwoTerminals as T
-pub use EndLineLaws.*
-pub mod EndLineLaws
 
 -- ## SideSteps: The step of an endpoint determines the answer of its terminal.
 

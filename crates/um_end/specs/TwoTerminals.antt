@@ -5,6 +5,7 @@ use Rattle.um_link.specs.lapdm_window.Ends.{Role}
 use Rattle.um_link.specs.lapdm_link.Queues.{Queues, empty_queues, queue_of, with_items_appended, without_oldest_item}
 use Rattle.um_link.specs.lapdm_link.Events.{BothSides, idle_endpoints, side_with_role, with_side_replaced, other}
 use Rattle.um_link.specs.lapdm_link.Claims.{LogLine, answer_log_lines, notice_log_lines}
+use Rattle.um_link.specs.lapdm_link.Carriers.{IsRun, FirstSatisfies, log_of_turns}
 use Rattle.um_link.specs.um_air.Air.{Octets, Event, Answer, Step}
 use Rattle.um_link.specs.um_air.Damage.{AreCorrectableBursts}
 use Rattle.um_link.specs.um_air.Sessions.{answer_without_blocks}
@@ -46,13 +47,11 @@ IsTerminalStep a (Loses sender) b = b ≡ record a { queues = without_oldest_ite
 -- the steps can follow one another from this state, and each satisfies the condition `MayTake`
 abbrev pub AreStepsFrom : (MayTake : (TwoTerminals → TerminalStep → Type 0)) (terminals : TwoTerminals) (turns : List TerminalStep)
     → Type 0
-AreStepsFrom May a [] = Unit {0}
-AreStepsFrom May a (turn ∷ turns) = May a turn × (b : TwoTerminals) × IsTerminalStep a turn b × AreStepsFrom May b turns
+AreStepsFrom May a turns = (after : TwoTerminals) × IsRun IsTerminalStep May a turns after
 
 -- the bursts carry the first block in the list, with at most light damage
 abbrev pub AreBurstsOfFirstBlock : (bursts : List (List ℤ)) (blocks : List Octets) → Type 0
-AreBurstsOfFirstBlock bursts [] = ⊥
-AreBurstsOfFirstBlock bursts (first ∷ others) = AreCorrectableBursts first bursts
+AreBurstsOfFirstBlock bursts blocks = FirstSatisfies (λ first. AreCorrectableBursts first bursts) blocks
 
 -- bursts that reach a side carry the oldest block in transit to it, with at most light damage
 abbrev pub DeliversOldestBlock : (terminals : TwoTerminals) (turn : TerminalStep) → Type 0
@@ -71,5 +70,4 @@ step_log_lines (Loses sender) = []
 
 -- the log of these steps: the log lines of all steps, in order
 abbrev pub session_log : (turns : List TerminalStep) → List LogLine
-session_log [] = []
-session_log (turn ∷ turns) = step_log_lines turn ++ session_log turns
+session_log turns = log_of_turns step_log_lines turns

@@ -1,4 +1,4 @@
-use Rattle.lapdm_link.proofs.Delivery.{delivery_by_link, order_by_link, counts_by_link}
+use Rattle.lapdm_link.proofs.ByLink.{delivery_by_link, order_by_link, counts_by_link}
 use Rattle.lapdm_link.proofs.law_claims_per_sapi_hold_for_whole_log.Goals as goal
 
 pub returns : goal.returns

@@ -1,4 +1,4 @@
-use Rattle.lapdm_link.proofs.Delivery.{acked_at_most_delivered}
+use Rattle.lapdm_link.proofs.Sessions.{acked_at_most_delivered}
 use Rattle.lapdm_link.proofs.law_lapdm_acked_at_most_delivered.Goals as goal
 
 pub returns : goal.returns

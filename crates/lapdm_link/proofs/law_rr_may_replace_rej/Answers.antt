@@ -1,4 +1,4 @@
-use Rattle.lapdm_link.proofs.Delivery.{claims_with_rr, counts_with_rr}
+use Rattle.lapdm_link.proofs.Sessions.{claims_with_rr, counts_with_rr}
 use Rattle.lapdm_link.proofs.law_rr_may_replace_rej.Goals as goal
 
 pub returns : goal.returns

@@ -1,6 +1,6 @@
 use Rattle.{
   std.proofs.Common.{ap, sym, ◌∙◌},
-  um_end.{specs.EndLines.burst_line_fault_in_end_command, proofs.EndSteps.{other_fault, other_means}},
+  um_end.{specs.EndLines.burst_line_fault_in_end_command, proofs.EndLineLaws.{other_fault, other_means}},
 }
 use Rattle.um_end.proofs.lines.parse_burst_line.Goals as goal
 

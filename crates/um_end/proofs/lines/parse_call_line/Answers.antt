@@ -1,6 +1,6 @@
 use Rattle.{
   std.proofs.{Common.{ap, sym, ◌∙◌, arith}, lemmas.Bool.Decides.nat_tests},
-  um_end.{specs.EndLines.call_line_fault_inside_block, proofs.EndSteps.{inside_fault, call_fault, call_means}},
+  um_end.{specs.EndLines.call_line_fault_inside_block, proofs.EndLineLaws.{inside_fault, call_fault, call_means}},
 }
 use Rattle.um_end.proofs.lines.parse_call_line.Goals as goal
 

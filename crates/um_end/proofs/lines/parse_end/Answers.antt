@@ -1,4 +1,4 @@
-use Rattle.{std.proofs.lemmas.Result.IfOk-weaker, um_link.specs.Naming.spec_role_of, um_end.proofs.EndSteps.line_is_possible}
+use Rattle.{std.proofs.lemmas.Result.IfOk-weaker, um_link.specs.Naming.spec_role_of, um_end.proofs.EndLineLaws.line_is_possible}
 use Rattle.um_end.proofs.lines.parse_end.Goals as goal
 
 pub returns-then-begins_with_own_endpoint_name-clause-possible : goal.returns-then-begins_with_own_endpoint_name-clause-possible

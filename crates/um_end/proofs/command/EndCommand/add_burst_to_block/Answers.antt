@@ -3,7 +3,8 @@ use Rattle.{
   std.proofs.lemmas.Bool.{le-ltb, lt-ltb},
   um_link.specs.{Naming.{spec_role_of, spec_step_of}, um_air.Air.{Accepts, Step}},
   um_end.specs.{Abstraction.{Represents, role_of_terminal}, EndRuns.end_answer_text, Terminals.{SideState, answer_to_block}},
-  um_end.proofs.EndSteps.{IsBlock, IsShort, answer_text, block_short},
+  um_end.proofs.AnswerSizes.{IsBlock, IsShort, block_short},
+  um_script.specs.AnswerLines.answer_text,
 }
 use Rattle.um_end.proofs.command.EndCommand.add_burst_to_block.Goals as goal
 

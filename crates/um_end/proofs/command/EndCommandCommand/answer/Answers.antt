@@ -4,7 +4,7 @@ use Rattle.{
   um_end.{
     specs.{Abstraction.{Represents, role_of_terminal}, EndLines.{TakesBurst, Calls, Nothing}, EndRuns.{answer_to_burst, end_answer_text}},
     specs.Terminals.{SideState, answer_to_call},
-    proofs.EndSteps.{IsShort, call_short, line_answered, line_refused},
+    proofs.{AnswerSizes.{IsShort, call_short}, EndSteps.{line_answered, line_refused}},
   },
 }
 use Rattle.um_end.proofs.command.EndCommandCommand.answer.Goals as goal

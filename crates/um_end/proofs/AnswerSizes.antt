@@ -2,41 +2,49 @@
 use Rattle.{
   std.{
     proofs.{
-      Common.{All, ◌*◌, ◌^◌, nat_eq, nat_lt, nat_abs, append-nil},
+      Common.{All, Bool, List, None, Option, Some, [], append-nil, ap, arith, codes, false, if◌then◌else◌, length-append, length},
+      Common.{map, nat_abs, nat_eq, nat_lt, refl, true, ℕ, ℤ, ◌*◌, ◌++◌, ◌+◌, ◌<◌, ◌^◌, ◌∷◌, ◌≡◌},
+      Common.◌≤◌,
       lemmas.{Bool.Decides.nat_tests, Fmt.{length-decimal-le, length_signed_le}, List.{Elements.{All-head, All-tail}, length-map}},
     },
-    specs.{Int.Signed.mag, Fmt.{decimal, signed_decimal}, List.join_with_byte},
+    specs.{Fmt.{decimal, signed_decimal}, Int.Signed.mag, List.{All, join_with_byte}},
   },
-  um_lines.{specs.{Hex.encode_lower, LineTexts.octets_word}, proofs.FormLaws.length-encode_lower},
+  um_end.specs.{
+    CallEvents.{endpoint_call_in_event, sapi_of_call_event},
+    EndRuns.frames_in_answer,
+    Terminals.{ReceivesBursts, SideState, answer_to_call, call_answer_unless, endpoint_step, endpoint_with_sapi, layer3_call_step},
+    Terminals.{no_op_step, step_for_frame, step_for_read_frame, terminal_step_of},
+  },
+  um_lines.{proofs.FormLaws.length-encode_lower, specs.{Hex.encode_lower, LineTexts.octets_word, Words.words}},
   um_link.{
+    proofs.lapdm_window.Lemmas.{IsReplyTo, bound-call, bound-frame, by_sapi, cause_of},
     specs.{
-      lapdm_frame.{Content.{Content, I}, Frames.{InformationFits, IsFrameCoding}},
+      lapdm_frame.{Content.{Content, Frame, I, information}, Frames.{InformationFits, IsFrameCoding, octets_of}},
+      lapdm_frame.declared.Channel.TheVariants.Sdcch,
+      lapdm_link.Events.{BySide, EventRefusal, other},
       lapdm_window.{
+        Calls.{Call, Sends, T200Expires, call_outcome, with_queued_message},
+        Ends.{EndpointState, Outcome, Role, n200, vr, ◌then◌},
+        Rules.{accepts_segment, answers_poll, answers_segment, evaluates_nr, rejects_segment, resends_outstanding_segment},
+        Rules.{sends_next_segment, takes_i_frame, takes_rej, takes_rr},
+        Tables.{AcceptsSabm, ConfirmsEstablishment, Reply, ReportsUiInformation, TakesIFrame, TakesRej, TakesRr, closes_and_reports},
+        Tables.{frame_outcome, outcome_of_reply, reply_to_frame},
+        declared.{Notice.Notice, Sapi.{TheVariants.{Three, Zero}, Sapi}},
         segmenting.Segments.Segment,
-        declared.Notice.Notice,
-        Ends.{◌then◌, n200, vr},
-        Rules.{sends_next_segment, evaluates_nr, accepts_segment, answers_segment, rejects_segment, takes_i_frame, answers_poll, takes_rr},
-        Rules.{resends_outstanding_segment, takes_rej},
-        Calls.{Sends, T200Expires, call_outcome, with_queued_message},
-        Tables.{Reply, AcceptsSabm, ConfirmsEstablishment, ReportsUiInformation, TakesIFrame, TakesRr, TakesRej, closes_and_reports},
-        Tables.{outcome_of_reply, reply_to_frame},
       },
+      um_air.Air.{Accepts, Answer, Event, Octets, ReadsFrame, Step},
+      um_block.declared.received.Received.Received,
     },
-    proofs.lapdm_window.Lemmas.{IsReplyTo, cause_of, bound-frame, bound-call},
   },
   um_script.{
-    specs.{AnswerWords.{actor_word, sapi_suffix}, AnswerLines.{AnswerLine, reception_quality, reception_words, notice_words}},
-    specs.AnswerLines.{received_block_line, received_block_lines, spaced_words, answer_lines_text, ReceptionIsInRange},
-    proofs.AnswerLaws.{lines_text_append, join-spaced, report_line},
+    proofs.AnswerLaws.{join-spaced, lines_text_append, report_line},
+    specs.AnswerLines.{AnswerLine, ReceptionIsInRange, answer_lines_text, answer_text, notice_words, received_block_lines},
+    specs.{AnswerLines.{received_block_line, reception_quality, reception_words, spaced_words}, AnswerWords.{actor_word, sapi_suffix}},
   },
-  um_end.specs.{CallEvents.{endpoint_call_in_event, sapi_of_call_event}, Terminals.{call_answer_unless, layer3_call_step, step_for_frame}},
 }
 use Rattle.um_link.specs.lapdm_window.declared.Notice.TheVariants as N
 use Rattle.um_link.specs.lapdm_window.declared.Reason.TheVariants as R
 use Rattle.um_script.specs.AnswerLines as L
-pub use Rattle.um_end.specs.Terminals.{endpoint_step}
-pub use AsFrameSessions.*
-pub mod AsFrameSessions
 
 -- ---- the notices that a step reports
 

@@ -1,40 +1,41 @@
 -- The line forms of `end`, derived from those of a script and of `replay`: a line that begins with an endpoint of this side is a line of a
 -- script, and every other line is a burst.
 use Rattle.{
-  std.{
-    proofs.{Common.{◌==◌, not, ◌&&◌, ◌||◌, option_map, Ok, Err}, lemmas.{Bool.{cases_Bool, le-ltb}, Slice.Eq.bytes_eq-Decides}},
-    specs.Str.bytes_eq,
+  std.proofs.Common.{◌||◌, Bool, Err, List, None, Ok, Option, Some, [], ap, arith, codes, false, if◌then◌else◌, inl, inr, length},
+  std.proofs.Common.{map, not, option_map, refl, subst, sym, true, ℕ, ℤ, ◌&&◌, ◌++◌, ◌==◌, ◌∙◌, ◌∷◌, ◌≡◌},
+  std.{proofs.{Common.◌≤◌, lemmas.{Bool.{cases_Bool, le-ltb}, Slice.Eq.bytes_eq-Decides}}, specs.Str.bytes_eq},
+  um_end.specs.{
+    EndLines.{Calls, EndCommandLineMeaning, EndCommandLineMeans, Nothing, TakesBurst, TerminalCanCarryOutLine},
+    EndLines.{burst_line_fault_in_end_command, call_line_fault_inside_block, call_line_forms, end_command_line_fault, end_command_line},
+    EndLines.{meaning_of_burst_line, meaning_of_end_command_line, meaning_of_parsed_line, meaning_of_script_event, names_endpoint_of_side},
+    Terminals.IsCallOfRole,
+    declared.lines.EndCommandLine.EndCommandLine,
   },
-  um_link.specs.Naming.spec_event_of,
+  um_formats.{
+    proofs.Lemmas.{AreSoft, hard, lost, soft, one_burst_meaning as one_burst},
+    specs.{BurstLines.{BurstLineMeans, burst_line_fault, burst_line_of_meaning}, declared.burst_lines.BurstLine.BurstLine},
+  },
   um_lines.{
+    proofs.FormLaws.{line_by_forms, line_means, no_fault_if_meant, one_made, one_meaning, parsed_meaning, parsed_means, same_meaning},
     specs.{
-      declared.fault.LineFault.{LineFault, TheVariants.{Word, Order}},
-      Words.{is_skipped_line, words},
+      BurstForms.{BurstLineKind, block_burst_line_forms, burst_line_forms, is_burst_out_of_order, is_single_burst, single_burst_line_forms},
       Fields.{LineField, Value},
-      Forms.{LineForm, LineForms, words_fit_form, form_of_words, first_word_fault, fields_for_word_count, first_field_fault},
-      Forms.{meaning_of_words, line_fault, line_meaning, never_misplaced},
-      BurstForms.{BurstLineKind, is_single_burst, block_burst_line_forms, single_burst_line_forms, burst_line_forms, is_burst_out_of_order},
-      LinkForms.{LinkLineKind, EndCommandLineKind, mobile_call_line_forms, network_call_line_forms, link_line_forms},
-      LinkForms.{end_command_line_forms, is_end_command_line_out_of_order},
+      Forms.{LineForms, LineForm, fields_for_word_count, first_field_fault, first_word_fault, form_of_words, line_fault, line_meaning},
+      Forms.{meaning_of_words, never_misplaced, words_fit_form},
+      LinkForms.{EndCommandLineKind, LinkLineKind, end_command_line_forms, is_end_command_line_out_of_order, link_line_forms},
+      LinkForms.{mobile_call_line_forms, network_call_line_forms},
       Meanings.HasOneMeaningOrFault,
       Reading.LineParsesTo,
+      Words.{is_skipped_line, words},
+      declared.fault.LineFault.{TheVariants.{Order, Word}, LineFault},
     },
-    proofs.FormLaws.{line_means, one_meaning, one_made, line_by_forms, no_fault_if_meant, parsed_meaning, parsed_means},
   },
-  um_formats.specs.{declared.burst_lines.BurstLine.BurstLine, BurstLines.{burst_line_of_meaning, burst_line_fault, BurstLineMeans}},
-  um_formats.proofs.Lemmas.{one_burst_meaning as one_burst, AreSoft, hard, soft, lost},
-  um_script.specs.ScriptLines.{event_of_script_line_meaning, ScriptLineMeans},
-  um_end.specs.{
-    declared.lines.EndCommandLine.EndCommandLine,
-    EndLines.{Nothing, TakesBurst, Calls, meaning_of_parsed_line, TerminalCanCarryOutLine, call_line_forms, meaning_of_burst_line},
-    EndLines.{meaning_of_script_event, meaning_of_end_command_line, end_command_line, end_command_line_fault, names_endpoint_of_side},
-    EndLines.{call_line_fault_inside_block, burst_line_fault_in_end_command},
-  },
+  um_link.specs.{Naming.spec_event_of, lapdm_link.Events.{Ask, other}, lapdm_window.{Calls.Call, Ends.{Mobile, Network, Role, ◌then◌}}},
+  um_link.specs.um_air.{Air.Event, Sessions.EventMessageIsOctets},
+  um_script.specs.ScriptLines.{ScriptLineMeans, event_of_script_line_meaning},
 }
-use Rattle.um_lines.specs.LinkForms as L
 use Rattle.um_end.specs.declared.lines.EndCommandLine.TheVariants as V
-pub use AnswerSizes.*
-pub mod AnswerSizes
+use Rattle.um_lines.specs.LinkForms as L
 
 -- ---- lines that have no fault, for any table of line forms
 

@@ -1,1 +1,0 @@
-pub use Rattle.lapdm_link.proofs.Delivery.{order_claims}
