@@ -1,5 +1,6 @@
 -- States of a session of `lapdm_link` with one event after another, in queues of unlimited length.
-use Rattle.lapdm_link.proofs.Lemmas.{◌≡◌, refl, ◌++◌, true, List, [], ◌∷◌, map, All, nat_eq, None, Some, Frame, Channel, Role, Sapi, Call}
+use Rattle.lapdm_link.proofs.Lemmas.{◌≡◌, refl, ◌++◌, true, List, [], ◌∷◌, map, All, nat_eq, None, Some, Frame, Channel, Role}
+use Rattle.lapdm_link.proofs.Lemmas.{Call, Sapi}
 use Rattle.lapdm_link.proofs.Lemmas.{call_outcome, refusal_of, frame_outcome, sapi_number, other, LogLine, Asked, Notified, World, inl, inr}
 use Rattle.lapdm_link.proofs.Lemmas.{initial_world, end_of, way, acted, without_oldest_item, IsPlaced, AllFit, All-head, FrameFits, arith}
 use Rattle.lapdm_link.proofs.Carriers as L
@@ -60,7 +61,7 @@ module _ {s : Sapi} {w : World} {ls : List LogLine} (h : Reaches s w ls) where
       (frame_outcome f (end_of r s w)).new_state.state ≡ S.Idle →
       ((end_of r s w).state ≡ S.Idle) × ((frame_outcome f (end_of r s w)).frames ≡ [])
   silent r f known e =
-      idle-silent h.fresh r f (way (other r) w) refl known (h.reached.reported r s).role (h.reached.reported r s).sapi (h.reached.reported r s).window_of_one e
+      let x = h.reached.reported r s in idle-silent h.fresh r f (way (other r) w) refl known x.role x.sapi x.window_of_one e
 
   -- the oldest frame in transit is lost
   pub loses : (sender : Role) → Reaches s (without_oldest_item sender w) ls

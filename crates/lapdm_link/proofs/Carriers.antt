@@ -89,8 +89,8 @@ with_items_appended-none Network ws = rw append-nil refl
 
 -- ## Reached: A session of frames that a carrier represents goes on with each event that is not refused.
 
--- A session on this channel, in queues of unlimited length, reaches the state `w` with the log `ls`. If `Sound`, each frame arrived in order
--- or was lost.
+-- A session on this channel, in queues of unlimited length, reaches the state `w` with the log `ls`. If `Sound`, each frame arrived in
+-- order or was lost.
 pub record IsReached (Sound : Type 0) (channel : Channel) (w : World) (ls : List LogLine) : Type 0 where
   pub capacity : w.capacity ≡ unbounded_capacity
   pub fit : IsFitting channel w
@@ -166,9 +166,10 @@ module _ {Sound : Type 0} {channel : Channel} {w : World} {ls : List LogLine} (h
 
 -- ## Runs: A run of turns represents a session of frames if each turn keeps that.
 
-module _ {State Turn : Type 0} (Step : State → Turn → State → Type 0) (May : State → Turn → Type 0) (lines : Turn → List LogLine)
-    (Keeps : State → List LogLine → Type 0)
-    (step : (a b : State) (turn : Turn) (ls : List LogLine) → Keeps a ls → May a turn → Step a turn b → Keeps b (ls ++ lines turn)) where
+module _ {State Turn : Type 0} (Step : State → Turn → State → Type 0) (May : State → Turn → Type 0)
+    (lines : Turn → List LogLine) (Keeps : State → List LogLine → Type 0)
+    (step : (a b : State) (turn : Turn) (ls : List LogLine) → Keeps a ls → May a turn → Step a turn b →
+    Keeps b (ls ++ lines turn)) where
   pub run-keeps : (turns : List Turn) (a z : State) (ls : List LogLine) → Keeps a ls → IsRun Step May a turns z →
       Keeps z (ls ++ log_of_turns lines turns)
   run-keeps [] a z ls h run = rw (run, append-nil) h

@@ -30,8 +30,10 @@ pub use Rattle.lapdm_window.specs.lapdm_frame.Content.{Content, Frame, Sabm, Ui}
 pub use Rattle.lapdm_window.specs.lapdm_frame.Frames.{FrameFits}
 pub use Rattle.lapdm_window.specs.lapdm_frame.declared.Channel.{Channel}
 pub use Rattle.lapdm_window.specs.segmenting.Segments.{Message}
-pub use Rattle.std.proofs.Common.{All, Bool, List, None, Option, Some, [], ap, append_assoc, arith, drop, false, if◌then◌else◌, inl, inr}
-pub use Rattle.std.proofs.Common.{map, nat_eq, nat_lt, refl, subst, suc, sym, true, zero, ℕ, ◌&&◌, ◌++◌, ◌+◌, ◌∙◌, ◌∷◌, ◌≡◌}
+pub use Rattle.std.proofs.Common.{All, Bool, List, None, Option, Some, [], ap, append_assoc, arith, drop, false, if◌then◌else◌}
+pub use Rattle.std.proofs.Common.{inl, inr}
+pub use Rattle.std.proofs.Common.{map, nat_eq, nat_lt, refl, subst, suc, sym, true, zero, ℕ, ◌&&◌}
+pub use Rattle.std.proofs.Common.{◌++◌, ◌+◌, ◌∙◌, ◌∷◌, ◌≡◌}
 pub use Rattle.std.proofs.lemmas.Bool.Decides.{nat_tests}
 pub use Rattle.std.proofs.lemmas.List.{append-nil}
 pub use Rattle.std.proofs.lemmas.List.Elements.{All-head, filter_map-append}

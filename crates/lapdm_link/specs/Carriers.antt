@@ -5,8 +5,8 @@ use Rattle.std.specs.List.{flat_map}
 use Rattle.lapdm_link.specs.Claims.{LogLine}
 
 -- the turns lead from `before` to `after`, and each satisfies the condition `MayTake`
-abbrev pub IsRun : {State Turn : Type 0} (Step : (State → Turn → State → Type 0)) (MayTake : (State → Turn → Type 0)) (before : State)
-    (turns : List Turn) (after : State) → Type 0
+abbrev pub IsRun : {State Turn : Type 0} (Step : (State → Turn → State → Type 0)) (MayTake : (State → Turn → Type 0))
+    (before : State) (turns : List Turn) (after : State) → Type 0
 IsRun Step May a [] z = z ≡ a
 IsRun {State} {Turn} Step May a (turn ∷ turns) z = May a turn × (b : State) × Step a turn b × IsRun Step May b turns z
 

@@ -222,8 +222,8 @@ pub accepted_as_sent : (octets : Octets) (tsc : ℕ) (block : Block) (places : L
     length places ≤ 3 → IsReceivedBlock (map soft_bits (with_bits_inverted places block)) r → r.accepted ≡ Some octets
 accepted_as_sent octets tsc block places r s few h = damaged_received octets _ r (flipped_damaged octets tsc block places s few) h
 
--- ## AsFrameSessions: A session over blocks represents a session of frames with the same log, so the claims of lapdm_link hold for both: the
--- octets that were sent encode the frames in transit, and the blocks in transit are those octets, coded.
+-- ## AsFrameSessions: A session over blocks represents a session of frames with the same log, so the claims of lapdm_link hold for both:
+-- the octets that were sent encode the frames in transit, and the blocks in transit are those octets, coded.
 
 abbrev AreSent : ℕ → Queues Octets → Queues Block → Type 0
 AreSent tsc os blocks = AreAlike (λ o block. IsSentBlock o tsc block) os blocks
@@ -256,7 +256,8 @@ may_read {channel = channel} {w = w} h octets coded sender accepted (Some f) sma
     let well = reads-well channel accepted f small reads in (
       (
         well.0,
-        λ sound. read_back channel accepted (Some f) (queue_of sender w.queues) (queue_of sender octets) (coded sender) reads (oldest sound),
+        λ sound. read_back channel accepted (Some f) (queue_of sender w.queues) (queue_of sender octets) (coded sender) reads
+            (oldest sound),
       ),
       well.1,
     )
@@ -299,7 +300,8 @@ few_inverted-step a b octets (Deliver sender places) (Accepts step) h (none, s) 
     go : (received : Option Received) (read : Option Frame) → EventDelivers a (Deliver sender places) received read →
         IfSome received (λ report. IsOldestSentOrNone report.accepted (queue_of sender octets))
     go (Some report) read t =
-        few_inverted-oldest a.tsc (queue_of sender octets) t.block t.later_blocks places report (rw t.queue_front at (h sender)) few t.received
+        few_inverted-oldest a.tsc (queue_of sender octets) t.block t.later_blocks places report (rw t.queue_front at (h sender)) few
+        t.received
     go None read t = tt
 few_inverted-step a b octets event answer h t few = tt
 
@@ -361,7 +363,8 @@ module _ {Sound : Type 0} {More : World → Type 0} {a : AirState} {octets : Que
   reads (Deliver sender places) None read step t same benign = absurd t
   reads event report read step t same benign = (tt, tt)
 
-  air-step : (event : Event) (answer : Answer) (b : AirState) → IsAirStep a event b answer → (Sound → IsBenignStep event answer octets) →
+  air-step : (event : Event) (answer : Answer) (b : AirState) → IsAirStep a event b answer →
+      (Sound → IsBenignStep event answer octets) →
       ((read : Option Frame) → (let e = event_with_frame read event in W.refusal e w ≡ None → Knows (λ r f. SaysOctets f) e →
       More (W.world_after_possible_refusal None e w))) →
       IsAir Sound More b (queues_after_event event answer octets) (ls ++ answer_log_lines event (answer_without_blocks answer))
@@ -387,8 +390,8 @@ module _ {Sound : Type 0} {More : World → Type 0} {a : AirState} {octets : Que
             sent = rw (s.step_matches, s.new_state_is, ← h.ends, ← removed-same s.read event octets) at sent;
           })
 
-initial-air : (Sound : Type 0) (More : World → Type 0) (tsc : ℕ) (channel : Channel) → More (initial_world unbounded_capacity channel) →
-    IsAir Sound More (initial_session tsc channel) empty_queues []
+initial-air : (Sound : Type 0) (More : World → Type 0) (tsc : ℕ) (channel : Channel) →
+    More (initial_world unbounded_capacity channel) → IsAir Sound More (initial_session tsc channel) empty_queues []
 initial-air Sound More tsc channel more = record {
   world = initial_world unbounded_capacity channel;
   reached = reached-start Sound channel;

@@ -142,8 +142,8 @@ module _ {Sound : Type 0} {channel : Channel} {a : ProgramState} {ls : List LogL
 
     -- nothing happens in the session, or the oldest frame in transit is lost, if the new struct represents the same endpoint as before, and
     -- the call sends no block
-    quiet : (turn : ProgramStep) (z : World) → AreStates a z → IsReached Sound channel z ls → AreCoded channel z.queues left → out ≡ [] →
-        StructRepresents new (end_of r s z) → step_log_lines turn ≡ [] → Then b turn
+    quiet : (turn : ProgramStep) (z : World) → AreStates a z → IsReached Sound channel z ls → AreCoded channel z.queues left →
+        out ≡ [] → StructRepresents new (end_of r s z) → step_log_lines turn ≡ [] → Then b turn
     quiet turn z states reached coded none represents lines = rw (lines, append-nil) (record {
       world = z;
       reached = reached;
@@ -153,8 +153,9 @@ module _ {Sound : Type 0} {channel : Channel} {a : ProgramState} {ls : List LogL
     })
 
     -- if the call succeeds, the endpoint acts in the session
-    acts : (turn : ProgramStep) {answer : ℕ} {output : CEffects} {new_lines : List LogLine} (o : Outcome) (z : World) → AreStates a z →
-        AreCoded channel z.queues left → out ≡ blocks_sent answer output → SucceedsWithOutcome channel o answer new output →
+    acts : (turn : ProgramStep) {answer : ℕ} {output : CEffects} {new_lines : List LogLine} (o : Outcome) (z : World) →
+        AreStates a z → AreCoded channel z.queues left → out ≡ blocks_sent answer output →
+        SucceedsWithOutcome channel o answer new output →
         IsReached Sound channel (acted r s o z) (ls ++ new_lines) → step_log_lines turn ≡ new_lines → Then b turn
     acts turn o z states coded sent c reached lines = rw lines (record {
       world = acted r s o z;
@@ -169,7 +170,8 @@ module _ {Sound : Type 0} {channel : Channel} {a : ProgramState} {ls : List LogL
       (l : ChangesOneEndpoint r s old new (blocks_sent answer output) a.queues a b) where
     not_called : answer ≢ 0 → Then b (Calls r s call answer output)
     not_called other =
-        quiet l (Calls r s call answer output) w h.states h.reached h.coded (blocks_sent-refused output other) (rw (answers_call.unchanged other).0 (here l))
+        quiet l (Calls r s call answer output) w h.states h.reached h.coded (blocks_sent-refused output other)
+        (rw (answers_call.unchanged other).0 (here l))
         (grind (arith, nat_tests))
 
     called : IsPlaced r s call → (o : Option Refused) → refusal_of call (end_of r s w) ≡ o → Then b (Calls r s call answer output)
@@ -182,7 +184,8 @@ module _ {Sound : Type 0} {channel : Channel} {a : ProgramState} {ls : List LogL
         let c : SucceedsWithOutcome channel (call_outcome call x) answer new output =
         subst (λ k. SucceedsWithOutcome k (call_outcome call x) answer new output) (on_channel r s)
         (answers_call.carried_out x (here l) (allowed x (h.reached.reported r s).role (h.reached.reported r s).sapi call is) e) in
-        acts l (Calls r s call answer output) (call_outcome call x) w h.states h.coded refl c (calls h.reached r s call is e) (rw (c.answer_is_0, output-notices c) refl)
+        acts l (Calls r s call answer output) (call_outcome call x) w h.states h.coded refl c
+        (calls h.reached r s call is e) (rw (c.answer_is_0, output-notices c) refl)
 
     answered : IsPlaced r s call ⊎ (IsPlaced r s call → ⊥) → Then b (Calls r s call answer output)
     answered (inl is) = called is (refusal_of call (end_of r s w)) refl

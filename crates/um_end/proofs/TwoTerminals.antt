@@ -101,7 +101,8 @@ module _ {Sound : Type 0} {w : World} {octets : Queues Octets} {ls : List LogLin
   asked side (OpenBare r) of =
       rw of (asked_call side Three OpensWithoutInfo (OpenBare side) (OpenBare side) _ (rw h.capacity refl) tt (refl, refl))
   asked side (Ask r sapi request) of = rw (own side r sapi request of)
-      (asked_call side sapi (endpoint_call_of request) (Ask side sapi request) (Ask side sapi request) _ (rw h.capacity refl) tt (refl, refl))
+      (asked_call side sapi (endpoint_call_of request) (Ask side sapi request) (Ask side sapi request) _ (rw h.capacity refl) tt
+      (refl, refl))
   asked side event of = absurd of
 
   -- in this module, a side receives four bursts
@@ -120,7 +121,8 @@ module _ {Sound : Type 0} {w : World} {octets : Queues Octets} {ls : List LogLin
     brings : world_after_possible_refusal None event w ≡ record w {
       ends = with_side_replaced side d.new_state w.ends;
       queues = with_items_appended side d.frames left;
-    } → answer_log_lines event (answer_unless_refused None (event_step event w.ends)) ≡ notice_log_lines (BySide side) d.sapi d.notices →
+    } → answer_log_lines event (answer_unless_refused None (event_step event w.ends)) ≡
+        notice_log_lines (BySide side) d.sapi d.notices →
         Then (state_after_step side links step.frames (W.without_oldest_item (other side) octets) (terminals w octets))
         (step_log_lines (TakesBurst side bursts step))
     brings later lines =

@@ -1,7 +1,8 @@
 use Rattle.{
   std.proofs.{Common.{ap, arith, length, nat_eq, sym, true, ℕ, ◌≡◌, ◌∙◌}, lemmas.Bool.{Decides.nat_tests, false≢true}},
   um_air.specs.segmenting.Buffers.octets_in_buffer,
-  um_c.proofs.Establishing.{opening-IsProgramRun, was-asked, asked-one, was-answered, answered-one, was-opened, allowed-exchange, both-open},
+  um_c.proofs.Establishing.{opening-IsProgramRun, was-asked, asked-one, was-answered, answered-one, was-opened, allowed-exchange},
+  um_c.proofs.Establishing.both-open,
 }
 use Rattle.um_c.proofs.opening.open_link.Goals as goal
 
