@@ -1,13 +1,15 @@
 -- States of a session of `lapdm_link` with one event after another, in queues of unlimited length.
-use Rattle.lapdm_link.proofs.Lemmas.{◌≡◌, refl, ◌++◌, true, List, [], ◌∷◌, map, All, nat_eq, None, Some, Frame, Channel, Role}
-use Rattle.lapdm_link.proofs.Lemmas.{Call, Sapi}
-use Rattle.lapdm_link.proofs.Lemmas.{call_outcome, refusal_of, frame_outcome, sapi_number, other, LogLine, Asked, Notified, World, inl, inr}
-use Rattle.lapdm_link.proofs.Lemmas.{initial_world, end_of, way, acted, without_oldest_item, IsPlaced, AllFit, All-head, FrameFits, arith}
+use Rattle.{
+  lapdm_link.{
+    proofs.Lemmas.{◌≡◌, refl, ◌++◌, true, List, [], ◌∷◌, map, All, nat_eq, None, Some, Frame, Channel, Role, Call, Sapi},
+    proofs.Lemmas.{call_outcome, refusal_of, frame_outcome, sapi_number, other, LogLine, Asked, Notified, World, inl, inr, initial_world},
+    proofs.Lemmas.{end_of, way, acted, without_oldest_item, IsPlaced, AllFit, All-head, FrameFits, arith},
+    specs.{Events.unbounded_capacity, Worlds.IsOldestSentOrRrForRej},
+  },
+  lapdm_datalink.proofs.RunsIdle.{IsFresh, fresh-start, fresh-calls, fresh-takes, fresh-loses, idle-silent},
+}
 use Rattle.lapdm_link.proofs.Carriers as L
-use Rattle.lapdm_link.specs.Events.{unbounded_capacity}
-use Rattle.lapdm_link.specs.Worlds.{IsOldestSentOrRrForRej}
 use Rattle.lapdm_end.specs.lapdm_window.declared.State.TheVariants as S
-use Rattle.lapdm_datalink.proofs.RunsIdle.{IsFresh, fresh-start, fresh-calls, fresh-takes, fresh-loses, idle-silent}
 
 abbrev pub start : Channel → World
 start channel = initial_world unbounded_capacity channel
