@@ -1,6 +1,6 @@
 -- States of a session of `lapdm_link` with one event after another, in queues of unlimited length.
-use Rattle.lapdm_link.proofs.Lemmas.{◌≡◌, refl, ◌++◌, true, List, [], ◌∷◌, map, All, nat_eq, None, Some, Frame, Channel, Role}
-use Rattle.lapdm_link.proofs.Lemmas.{Call, Sapi}
+use Rattle.lapdm_link.proofs.Lemmas.{◌≡◌, refl, ◌++◌, true, List, [], ◌∷◌, map, All, nat_eq, None, Some, Frame}
+use Rattle.lapdm_link.proofs.Lemmas.{Call, Channel, Role, Sapi}
 use Rattle.lapdm_link.proofs.Lemmas.{call_outcome, refusal_of, frame_outcome, sapi_number, other, LogLine, Asked, Notified, World, inl, inr}
 use Rattle.lapdm_link.proofs.Lemmas.{initial_world, end_of, way, acted, without_oldest_item, IsPlaced, AllFit, All-head, FrameFits, arith}
 use Rattle.lapdm_link.proofs.Carriers as L
