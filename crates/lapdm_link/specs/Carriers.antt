@@ -10,10 +10,6 @@ abbrev pub IsRun : {State Turn : Type 0} (Step : (State → Turn → State → T
 IsRun Step May a [] z = z ≡ a
 IsRun {State} {Turn} Step May a (turn ∷ turns) z = May a turn × (b : State) × Step a turn b × IsRun Step May b turns z
 
--- any turn is allowed
-abbrev pub AnyTurnAllowed : {State Turn : Type 0} (state : State) (turn : Turn) → Type 0
-AnyTurnAllowed a turn = Unit {0}
-
 -- the list is not empty, and its first element satisfies the condition
 abbrev pub FirstSatisfies : {T : Type 0} (Property : (T → Type 0)) (items : List T) → Type 0
 FirstSatisfies Like [] = ⊥
