@@ -30,5 +30,5 @@ log : log_before run 6 ≡ Asked Mobile Zero (Opens (1 ∷ [])) ∷ Notified Net
 log = refl
 
 -- a round trip for the SABM, and one for the segment
-waits : slots_with (awaits run Mobile) 0 6 ≡ 4
+waits : slots_with (awaits run Mobile) 6 ≡ 4
 waits = refl
