@@ -183,7 +183,8 @@ sapi_0_of r = record {
   slot = λ n. record { mobile = turn_of (r.part n Mobile); network = turn_of (r.part n Network) };
 }
 
--- in the slot, the link of SAPI 0 of this side is what it is alone: before the slot, before it sends, in what it sends and what it reports
+-- in the slot, the link of SAPI 0 of this side is what it is alone: before the slot, before it sends, in what it sends, and in what it
+-- reports when it sends
 pub record IsAsAlone (r : Run) (n : ℕ) (role : Role) : Type 0 where
   pub link : link0_at r n role ≡ P.link_at (sapi_0_of r) n role
   pub ready : after_slot (ready_at r n role).link0 ≡ P.ready_at (sapi_0_of r) n role

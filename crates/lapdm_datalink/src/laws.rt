@@ -69,8 +69,8 @@ pub fn law_data_links_progress()
 {}
 
 /// Law: each repeat of an I frame whose last copy reached an open link has a slot with a loss, that of the copy or that of its answer; two
-/// repeats of one link have different ones. Both links of SAPI 0 have one T200 of at least the round trip; there is no release in the run,
-/// and nobody has given up so far.
+/// repeats of one link have different ones. Both links of SAPI 0 have one T200 of at least the round trip; there is no release so far, and
+/// nobody has given up.
 #[tactic(auto, using(crate::proofs::ProgressCut::pays_for_expiries))]
 pub fn law_data_links_pay_for_expiries()
     ensures { (r : Run) → PaysForExpiries r }
@@ -104,7 +104,8 @@ pub fn law_whole_data_links_progress()
     ensures kept { (r : Lockstep.Run) → Lockstep.KeepsLinks r }
 {}
 
-/// Law: so two whole data links deliver in order up to any slot before which no closed link is opened again, by a call or by a late SABM.
+/// Law: so two whole data links deliver in order up to any slot before which no closed link is opened again, by a call or by a late SABM,
+/// and each UI frame for a free slot fits in a block.
 pub fn law_whole_data_links_deliver_in_order()
     ensures delivery { (r : Lockstep.Run) → Lockstep.HasCalls r → (n : ℕ)
         → ((k : ℕ) → k < n → (role : Role) → Lockstep.IsRegular r k role) → Claims (Lockstep.log_before r n) }

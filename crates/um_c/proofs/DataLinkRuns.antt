@@ -39,7 +39,7 @@ use Rattle.um_c.specs.EndCalls.{call_refusal_number}
 use Rattle.um_c.specs.DataLinkCalls.{RepresentsDataLink, c_report, reports_of, reports_if_taken, with_layer1}
 use Rattle.um_c.specs.DataLinkRuns.{FillsByUnit, TakesFill}
 use Rattle.um_c.specs.DataLinkRuns.{PairState, PairStep, Calls, Fills, Takes, Loses, HasMain, Replaces, IsPairStep, OpensNoneAgain}
-use Rattle.um_c.specs.Joined.{FirstBlockSatisfies}
+use Rattle.um_air.specs.lapdm_link.Carriers.{FirstSatisfies}
 use Rattle.lapdm_datalink.specs.Abstraction.{MayWait}
 use Rattle.um_c.specs.DataLinkRuns.{IsPairStart, IsPairRun, report_lines_from, report_lines, pair_lines, pair_log}
 use Rattle.um_c.proofs.Sessions.{notice-read}
@@ -390,7 +390,7 @@ module _ {channel : Channel} {a : PairState} {c : RunState} (m : Matches channel
             same_lines Network = refl
 
         by_queues : (fs : List Frame) (bs : List (List ℕ)) → queue_of (other r) c.air ≡ fs → queue_of (other r) a.blocks ≡ bs →
-            AllZip (IsFrameCoding channel) fs bs → FirstBlockSatisfies (λ first. block ≡ first) bs →
+            AllZip (IsFrameCoding channel) fs bs → FirstSatisfies (λ first. block ≡ first) bs →
             IsPlayed channel b (pair_lines (Takes r block answer report)) c
         by_queues (f ∷ fs) (x ∷ bs) e g coded is = takes f fs e (rw is coded.0)
         by_queues fs [] e g coded is = absurd is

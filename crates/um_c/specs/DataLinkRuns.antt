@@ -1,4 +1,4 @@
--- A C program that connects two data links: it keeps their structs, calls them slot by slot, and carries the blocks between them.
+-- A C program that connects two data links: it keeps their structs, calls them in any order, and carries the blocks between them.
 use Rattle.std.specs.Prelude.{ℕ, ◌≡◌, ◌==◌, Bool, false, if◌then◌else◌, List, [], ◌∷◌, ◌++◌, length, take}
 use Rattle.std.specs.Prelude.{Option, Some, None}
 use Rattle.std.specs.List.{cons_option}
@@ -21,7 +21,8 @@ use Rattle.um_c.specs.declared.datalinks.CDataLink.{CDataLink}
 use Rattle.um_c.specs.declared.datalinks.CReport.{CReport}
 use Rattle.um_c.specs.declared.effects.CNotice.{CNotice}
 use Rattle.um_c.specs.States.{sapi_of, sapi_number}
-use Rattle.um_c.specs.Joined.{notice_from_c, FirstBlockSatisfies}
+use Rattle.um_c.specs.Joined.{notice_from_c}
+use Rattle.um_air.specs.lapdm_link.Carriers.{FirstSatisfies}
 use Rattle.um_c.specs.DataLinkCalls.{RepresentsDataLink, IsWrittenFor, DataLinkAnswersCall, DataLinkChanges, DataLinkReceivesBlock}
 use Rattle.um_c.specs.DataLinkCalls.{DataLinkFillsSlot, DataLinkEncodesUnit}
 
@@ -47,7 +48,7 @@ pub data PairStep : Type 0 where
   -- layer 3 says whether the link of SAPI 0 on the main channel is established
   HasMain : (role : Role) (established : Bool) (answer : ℕ) → PairStep
 
--- the side has this struct before and that after; the other side's stays, and these blocks are in transit after it
+-- the other side's struct stays, and these blocks are in transit after the step
 pub record Replaces (role : Role) (before after : PairState) (blocks : Queues (List ℕ)) : Type 0 where
   pub peer : after.struct_of (other role) ≡ before.struct_of (other role)
   pub in_transit : after.blocks ≡ blocks
@@ -67,7 +68,7 @@ IsPairStep a (FillsByUnit r s m layer1 block report) b =
     × Replaces r a b (with_items_appended r (block ∷ []) a.blocks)
 IsPairStep a (Takes r block answer report) b =
     (report_old : CReport) × DataLinkReceivesBlock block answer (a.struct_of r) (b.struct_of r) report_old report
-    × FirstBlockSatisfies (λ first. block ≡ first) (queue_of (other r) a.blocks)
+    × FirstSatisfies (λ first. block ≡ first) (queue_of (other r) a.blocks)
     × Replaces r a b (without_oldest_item (other r) a.blocks)
 IsPairStep a (TakesFill r block answer report) b =
     (report_old : CReport) × DataLinkReceivesBlock block answer (a.struct_of r) (b.struct_of r) report_old report
@@ -118,6 +119,7 @@ pair_lines (TakesFill r block answer report) = if answer == 0 then report_lines 
 pair_lines (Takes r block answer report) = if answer == 0 then report_lines r report else []
 pair_lines step = []
 
+-- the log of these steps: the log lines of all, in order
 abbrev pub pair_log : List PairStep → List LogLine
 pair_log [] = []
 pair_log (step ∷ steps) = pair_lines step ++ pair_log steps

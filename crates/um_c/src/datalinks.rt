@@ -104,8 +104,9 @@ pub fn law_equal_data_links_have_equal_structs()
     ensures { (a b : Struct) (s : DataLinkState) → IsWrittenFor s a → IsWrittenFor s b → a ≡ b }
 {}
 
-/// Law: in a program that connects two data links and opens no closed link again, in which each side takes the oldest block in transit to
-/// it or a fill frame, messages are delivered in order and before they are acknowledged.
+/// Law: in a program that connects two new data links, makes no end anew and opens no closed link again, in which each side takes the
+/// oldest block in transit to it or a fill frame, messages are delivered in order and before they are acknowledged, and each link is closed
+/// at most once.
 pub fn law_joined_data_links_deliver_in_order()
     ensures delivery { (channel : ChannelOf) (t200 : SpecRole → SapiOf → ℕ) (a z : PairState) (steps : List PairStep)
         → IsPairStart channel t200 a → IsPairRun a steps z → Claims (pair_log steps) }

@@ -18,7 +18,7 @@ use Rattle.{
   },
   um_driver.{proofs.Outputs.{Runs-keep, meaning_of_answer, step_of_answer}, specs.Rules.{Runs, answer_to_line}},
   um_end.{
-    proofs.{EndSteps.{EndLineLaws.burst_of_line, held_are_bursts}, um_block.Lemmas.IsReceivedAccess-received_access},
+    proofs.{EndLineLaws.burst_of_line, EndSteps.held_are_bursts, um_block.Lemmas.IsReceivedAccess-received_access},
     proofs.um_block.{Lemmas.IsReceivedSync-received_sync, ComputedReports.block_computed, conv_code.Lemmas.length-coded},
     specs.{lapdm_frame.{Content.Frame, declared.Channel.Channel}, um_block.{Computed.received_block, Received.IsReceivedBlock}},
     specs.um_block.{Received.soft_bits, conv_code.{Code.encoding, Likelihood.{IsMostLikely, likelihood}}},

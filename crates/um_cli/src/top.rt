@@ -23,7 +23,7 @@ use um_show::Show;
 ///
 /// All memory is allocated before the first octet is read. `radio` encodes and decodes the blocks of a session.
 ///
-/// The rules that the clauses `run` and `due` name are functions. That they give what the standard's definitions allow is said by laws:
+/// The rules that the clauses `run` and `due` name are functions. What they give is said by these laws and clauses:
 /// - of all commands, `law_more_octets_continue_response` of `um_driver`;
 /// - of lines, `law_parsed_line_is_its_meaning_or_fault` of `um_lines` and `law_read_lines_are_meanings_or_faults` of `um_formats`;
 /// - of `replay`, `law_computed_reports_are_those_of_reception` of `um_block`, `law_decoded_words_are_most_likely`, and with `code`

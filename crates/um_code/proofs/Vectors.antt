@@ -1,5 +1,6 @@
--- Bursts that libosmocoding made (vectors/code.in, vectors/code.out), and the same by the definitions, computed: so the tables of the
--- standards in these definitions are compared with another program's. `tools/vectors.py` prints this file.
+-- Bursts with the coded bits that libosmocoding made, in layouts of GSM 05.02 written apart from these sources (vectors/code.in,
+-- vectors/code.out), and the same by the definitions, computed: so the tables of the standards in these definitions are compared with
+-- others. `tools/vectors.py` prints this file.
 use Prim.Native.String.{String}
 use Rattle.std.specs.Prelude.{◌≡◌, ◌++◌, ℕ, List, [], ◌∷◌, map, take, flat_map, codes}
 use Rattle.std.proofs.Common.{refl}

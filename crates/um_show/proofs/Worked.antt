@@ -1,4 +1,4 @@
--- Worked inputs of `show`: the prescribed response, computed.
+-- Worked inputs of `show`: the prescribed response.
 use Rattle.std.specs.Prelude.{◌≡◌, ◌++◌, ◌<◌, ◌≤◌, ℕ, List, [], ◌∷◌, length, replicate, Option}
 use Rattle.std.specs.Prelude.{Some, true, false, codes}
 use Rattle.std.proofs.Common.{ap, arith, inl, inr, refl, sym}
