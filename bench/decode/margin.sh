@@ -9,11 +9,11 @@ trap 'rm -rf "$work"' EXIT
 
 # A copy of the crates with an additional program, which is proved and built like the others.
 mkdir -p "$work/copy/crates/bench_margin/src"
-for crate in bit_blocks conv_code trellis_decode weight_bound list_decode; do
+cp "$top/HANDLES" "$work/copy/"
+"$top/tools/below" list_decode > "$work/copy/crates.txt"
+for crate in $(cut -d: -f1 "$work/copy/crates.txt"); do
 	cp -r "$top/crates/$crate" "$work/copy/crates/"
 done
-cp "$top/HANDLES" "$work/copy/"
-grep -E '^(bit_blocks|conv_code|trellis_decode|weight_bound|list_decode):' "$top/crates.txt" > "$work/copy/crates.txt"
 echo 'bench_margin: bit_blocks conv_code trellis_decode list_decode anyhow' >> "$work/copy/crates.txt"
 cp "$here/margin.txt" "$work/copy/crates/bench_margin/src/main.rt"
 (cd "$work/copy/crates/bench_margin" && rt run > "$work/build" 2>&1) || { tail -20 "$work/build"; exit 1; }

@@ -12,11 +12,11 @@ gcc -O2 -o "$work/peer" "$here/peer.c" $(pkg-config --cflags --libs libosmocodin
 
 # A copy of the crates with an additional program, which is proved and built like the others.
 mkdir -p "$work/copy/crates/bench_decode/src"
-for crate in bit_blocks conv_code trellis_decode; do
+cp "$top/HANDLES" "$work/copy/"
+"$top/tools/below" trellis_decode > "$work/copy/crates.txt"
+for crate in $(cut -d: -f1 "$work/copy/crates.txt"); do
 	cp -r "$top/crates/$crate" "$work/copy/crates/"
 done
-cp "$top/HANDLES" "$work/copy/"
-grep -E '^(bit_blocks|conv_code|trellis_decode):' "$top/crates.txt" > "$work/copy/crates.txt"
 echo 'bench_decode: bit_blocks conv_code trellis_decode anyhow' >> "$work/copy/crates.txt"
 cp "$here/program.txt" "$work/copy/crates/bench_decode/src/main.rt"
 (cd "$work/copy/crates/bench_decode" && rt run > "$work/build" 2>&1) || { tail -20 "$work/build"; exit 1; }

@@ -9,11 +9,11 @@ trap 'rm -rf "$work"' EXIT
 
 # A copy of the crates with an additional program, which is proved and built like the others.
 mkdir -p "$work/copy/crates/bench_ranked/src" "$work/copy/crates/bench_ranked/proofs/give"
-for crate in bit_blocks conv_code trellis_decode weight_bound list_decode; do
+cp "$top/HANDLES" "$work/copy/"
+"$top/tools/below" list_decode > "$work/copy/crates.txt"
+for crate in $(cut -d: -f1 "$work/copy/crates.txt"); do
 	cp -r "$top/crates/$crate" "$work/copy/crates/"
 done
-cp "$top/HANDLES" "$work/copy/"
-grep -E '^(bit_blocks|conv_code|trellis_decode|weight_bound|list_decode):' "$top/crates.txt" > "$work/copy/crates.txt"
 echo 'bench_ranked: bit_blocks conv_code trellis_decode list_decode anyhow' >> "$work/copy/crates.txt"
 cp "$here/ranked.txt" "$work/copy/crates/bench_ranked/src/main.rt"
 cp "$here/ranked_loop.txt" "$work/copy/crates/bench_ranked/proofs/give/Invariants.antt"

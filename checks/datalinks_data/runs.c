@@ -16,8 +16,8 @@ enum claim { DELIVERED, ACKED, BOUND, KEPT, CLAIMS };
 static const char *const CLAIM[CLAIMS] = {
 	"each message that is reported is the next one sent, whole and unchanged",
 	"a message is acknowledged once, in order, and only after its delivery",
-	"on SAPI 0 an end awaits an answer in at most R n + (T + 1) L + 1 slots",
-	"no link is given up with fewer than five lossy slots",
+	"on SAPI 0 an end awaits an answer in at most R n + (T + 1) L slots, the network in one more",
+	"SAPI 0 is given up only after six lossy slots, SAPI 3 after five",
 };
 
 enum { RING = 16 };
@@ -109,7 +109,7 @@ static void check_notice(run *r, int side, int link, const um_notice *notice, co
 		claim(r, ACKED, notice->number == own->acked && own->acked <= own->sent && own->acked <= other->got);
 	} else if (notice->kind == UM_ENDED && notice->reason == UM_FAILED) {
 		given_up++;
-		claim(r, KEPT, r->is_released || r->lossy >= 5);
+		claim(r, KEPT, r->is_released || (link == 0 ? r->lossy_sapi0 >= 6 : r->lossy >= 5));
 		r->gave_up_sapi0 |= link == 0;
 	} else if (notice->kind == UM_OVERSIZE)
 		claim(r, DELIVERED, false);
@@ -228,7 +228,7 @@ static void check_bound(run *r)
 {
 	for (int side = 0; side < 2 && !r->is_released && !r->gave_up_sapi0; side++) {
 		const counts *end = &r->ends[side][0];
-		claim(r, BOUND, end->waited <= (2u + 2u * r->delay) * end->frames + (r->t200 + 1u) * r->lossy_sapi0 + 1);
+		claim(r, BOUND, end->waited <= (2u + 2u * r->delay) * end->frames + (r->t200 + 1u) * r->lossy_sapi0 + (side == UM_NETWORK));
 	}
 }
 
@@ -263,7 +263,7 @@ static bool start(run *r, uint32_t number)
 	r->quiet = (uint8_t[]){ 1, 2, 12, 40 }[draw(4)];
 	r->length = 200 + draw(1000);
 	r->release_at = draw(3) == 0 ? r->length / 2 : r->length;
-	r->most_lossy = draw(2) == 0 ? 4 : r->length;
+	r->most_lossy = draw(2) == 0 ? 4 + draw(2) : r->length;
 	for (uint8_t side = 0; side < 2; side++)
 		if (!um_datalink_new(&r->sides[side], side, r->channel, r->t200, (uint8_t)(r->t200 + 2)) ||
 		    um_datalink_main(&r->sides[side], true) != UM_END_DONE)
