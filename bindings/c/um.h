@@ -324,11 +324,11 @@ bool um_write_frame(const um_frame *frame, uint8_t channel, uint8_t octets[23]) 
  * the air, and stops when no frame awaits an answer (um_end_timer then returns UM_END_NOT_RUNNING).
  *
  * The state is plain numbers and arrays: it can be copied, or saved and restored. Each call tests it. If the state is not valid, the
- * call returns UM_END_NONE and writes nothing. Each call writes zeros after each count. A count of 252 to 255 octets is refused: a
- * message is then too long, a state invalid. The test also accepts some states that no sequence of calls reaches: `retries` above 5
- * and `repeats` above 23 on SDCCH or 5 on SACCH (N200), where um_end_timer then closes the link, and `rejecting` set before the link
- * is open. Two states that calls wrote have the same 2581 octets (the rest is padding) if they are states of the same endpoint.
- * Callers need not read the state: the effects report everything. */
+ * call returns UM_END_NONE and writes nothing. In what it writes, each call writes zeros after each count. A count of 252 to 255 octets
+ * is refused: a message is then too long, a state invalid. The test also accepts some states that no sequence of calls reaches:
+ * `retries` above 5 and `repeats` above 23 on SDCCH or 5 on SACCH (N200), where um_end_timer then closes the link, and `rejecting` set
+ * before the link is open. Two states that calls wrote have the same 2581 octets (the rest is padding) if they are states of the same
+ * endpoint. Callers need not read the state: the effects report everything. */
 
 enum um_role { UM_MOBILE, UM_NETWORK };
 enum um_state { UM_IDLE, UM_OPENING, UM_OPEN, UM_CLOSING, UM_CLOSED };
@@ -491,6 +491,9 @@ UM_ENUM(um_answer) um_side_take(um_side *side, const uint8_t octets[23], uint8_t
  * There is no queue and no timer: the frame that awaits an answer is made in its slot, and T200 counts slots. T200 is at least 2 + 2d,
  * where a block arrives d slots later than the slot after it was sent, and the same at both sides; 4 serves d = 0 and 1. For SAPI 3 take
  * two slots more.
+ *
+ * um_datalink_next and um_datalink_take write only the link that sends, is given up or takes a frame; of the other they write at most
+ * `clock`. The other calls write both links.
  *
  * UI frames stay outside: if um_datalink_next returns UM_END_FREE, the slot is free, and um_datalink_unit makes a block for it.
  *

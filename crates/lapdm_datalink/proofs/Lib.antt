@@ -31,6 +31,11 @@ mod RunsQueues
 mod RunsLinks
 pub mod Runs
 mod Lockstep
+mod LockstepAsked
 mod LockstepRuns
 pub mod Kept
+pub mod Sapi3Links
+pub mod Sapi3Slots
+pub mod Sapi3
+pub mod Sapi3Worked
 mod LockstepWorked

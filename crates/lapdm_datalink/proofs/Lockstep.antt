@@ -1,14 +1,16 @@
 -- Two whole data links in lockstep: the links of SAPI 0 do what they would do alone, so they make progress.
 use Rattle.{
-  std.specs.Prelude.{◌≡◌, ℕ, zero, suc, ◌+◌, Bool, true, false, not, ◌&&◌, ◌||◌, if◌then◌else◌, nat_eq, List, []},
-  std.specs.Prelude.{◌∷◌, map, All, get_or, Option, Some, None, IfSome},
-  std.{specs.List.filter_map, proofs.Common.{arith, refl, sym, ap, ◌∙◌, subst}},
-  std.proofs.lemmas.{List.Elements.{All-head, All-tail}, Bool.Decides.nat_tests},
+  std.{
+    specs.Prelude.{◌≡◌, ℕ, zero, suc, ◌+◌, Bool, true, false, not, ◌&&◌, ◌||◌, if◌then◌else◌, nat_eq, List, []},
+    specs.{Prelude.{◌∷◌, map, All, get_or, Option, Some, None, IfSome}, List.filter_map},
+    proofs.{Common.{arith, refl, sym, ap, ◌∙◌, subst}, lemmas.{List.Elements.{All-head, All-tail}, Bool.Decides.nat_tests}},
+  },
   lapdm_frame.specs.Content.{Content, Ui, Frame},
   lapdm_end.specs.lapdm_window.{
     segmenting.Segments.Message,
-    declared.{Sapi.Sapi, Sapi.TheVariants.{Zero, Three}, State.State, Refused.Refused},
+    declared.{Sapi.{Sapi, TheVariants.{Zero, Three}}, State.State, Refused.Refused},
     Ends.{Role, Mobile, Network, EndpointState, Outcome, sapi_number, awaits_answer},
+    Rules.is_open,
     Calls.{Call, OpensWithoutInfo, IsCallAllowedFor, refusal_of, awaited_frame, t200_expiry, is_idle},
   },
   lapdm_link.specs.Events.other,
@@ -22,30 +24,29 @@ use Rattle.{
       Runs.after_arrival_if_any,
       Channels.{after_call_unless, carried},
       Progress.{one_if, is_loss},
+      Lockstep.{Part, Run, after_call_of, after_calls, frame_or_unit, side_at, link0_at, arriving_at, ready_at, outcome_at, IsCallOf},
+      Lockstep.{HasCalls, frame_of_link0, call_of_link0, turn_of, sapi_0_of, IsAsAlone, AreAsAlone, slots_with, awaits, is_loss_at},
+      Lockstep.{is_lossy, expires, frames_at, Progresses, KeepsLinks, ProgressesAfterFewLosses, PaysForExpiries},
     },
     proofs.{
       Returned.{IsReturned, Returns, returns-call, returns-frame},
       RunsLinks.{IsSlot, sabm_first, idles, answering, repeating, expiring, is_slot},
       ProgressAlone.sapi_0_goes_first,
-      ProgressCut.{progress_from_start, few_losses_keep_links},
+      ProgressCut.{progress_from_start, few_losses_keep_links, pays_for_expiries},
     },
   },
 }
-use Rattle.lapdm_datalink.specs.Lockstep.{Part, Run, after_call_of, after_calls, frame_or_unit, side_at, link0_at}
-use Rattle.lapdm_datalink.specs.Lockstep.{arriving_at, ready_at, outcome_at, IsCallOf, HasCalls, frame_of_link0, call_of_link0, turn_of}
-use Rattle.lapdm_datalink.specs.Lockstep.{sapi_0_of, IsAsAlone, AreAsAlone, slots_with, awaits, is_loss_at, is_lossy, expires, frames_at}
-use Rattle.lapdm_datalink.specs.Lockstep.{Progresses, KeepsLinks}
 use Rattle.lapdm_datalink.specs.Channels as C
 use Rattle.lapdm_datalink.specs.Progress as P
 
 -- ---- a link sends and owes only frames of its SAPI other than UI
 
-abbrev IsOf : Sapi → Frame → Type 0
+abbrev pub IsOf : Sapi → Frame → Type 0
 IsOf s f = (f.sapi ≡ sapi_number s) × (is_ui f.content ≡ false)
 
-record Owns (s : Sapi) (l : LinkState) : Type 0 where
-  sapi : l.endpoint.sapi ≡ s
-  answer : IfSome l.answer (IsOf s)
+pub record Owns (s : Sapi) (l : LinkState) : Type 0 where
+  pub sapi : l.endpoint.sapi ≡ s
+  pub answer : IfSome l.answer (IsOf s)
 
 answer-no_ui : (c : Content) → is_answer_kind c ≡ true → is_ui c ≡ false
 answer-no_ui (Ui p info) h = absurd cc
@@ -105,9 +106,9 @@ own_passes : (s : Sapi) (l : LinkState) → Owns s l → Owns s (after_slot l)
 own_passes s l h = record { sapi = h.sapi; answer = h.answer }
 
 -- a slot of a link that owns what it owes
-record OwnSlot (s : Sapi) (o : SlotOutcome) : Type 0 where
-  link : Owns s o.link
-  frame : IfSome o.frame (IsOf s)
+pub record OwnSlot (s : Sapi) (o : SlotOutcome) : Type 0 where
+  pub link : Owns s o.link
+  pub frame : IfSome o.frame (IsOf s)
 
 own_slot_by : (s : Sapi) (l : LinkState) (o : SlotOutcome) → Owns s l → IsSlot l o → OwnSlot s o
 own_slot_by s l o h (sabm_first opening first) = record {
@@ -145,7 +146,7 @@ is_0 n h = grind (arith, nat_tests, h)
 not_0 : (n : ℕ) → nat_eq n 0 ≡ false → n ≡ 0 → ⊥
 not_0 n h e = grind (arith, nat_tests, h, e)
 
-arrives-link0 : (a : Option Frame) (d : DataLinkState) →
+pub arrives-link0 : (a : Option Frame) (d : DataLinkState) →
     (after_arrival_if_any a d).link0 ≡ C.after_arriving (frame_of_link0 a) d.link0
 arrives-link0 None d = refl
 arrives-link0 (Some f) d = by (nat_eq f.sapi 0) (is_ui f.content) refl refl
@@ -172,7 +173,7 @@ own_arrival s (Some f) d h = by s (sapi_for_frame f d) h
 -- ---- calls
 
 -- no call that exists for SAPI 0 opens a closed link again
-not_reopened : (role : Role) (call : Call) (l : LinkState) → IsCallAllowedFor role Zero call → for_call call l ≡ l
+pub not_reopened : (role : Role) (call : Call) (l : LinkState) → IsCallAllowedFor role Zero call → for_call call l ≡ l
 not_reopened role OpensWithoutInfo l h = absurd cc
 not_reopened role call l h = by (is_closed l.endpoint.state)
   where
@@ -379,6 +380,14 @@ module _ (r : Run) where
   joined calls zero role = joined_start role
   joined calls (suc n) role = joined_step calls n (joined calls n) role
 
+-- before each slot, each link owns what it owes, and what it sends is its own
+pub owned_at : (r : Run) → HasCalls r → (n : ℕ) (role : Role) (s : Sapi) → Owns s (link_with_sapi s (ready_at r n role))
+owned_at r calls n role s = own_ready r calls n (joined r calls n) role s
+
+pub sends_own : (d : DataLinkState) → ((s : Sapi) → Owns s (link_with_sapi s d)) →
+    OwnSlot Zero (slot_outcome (after_slot d.link0)) × OwnSlot Three (slot_outcome (with_clocks_moved d).link3)
+sends_own d h = (own0 d h, own3 d h)
+
 pub are_as_alone : (r : Run) → AreAsAlone r
 are_as_alone r calls n role = as_alone r calls n (joined r calls n) role
 
@@ -448,3 +457,21 @@ data_links_progress r calls long k kept none role =
 pub data_links_keep : (r : Run) → KeepsLinks r
 data_links_keep r calls long k kept few role = closed-same r calls k role ∙ few_losses_keep_links (sapi_0_of r) long k
     (λ n early q. rw (← turn-calls r calls n q) (kept n early q)) (rw (← lossy-count r calls k) few) role
+
+pub few_losses_progress : (r : Run) → ProgressesAfterFewLosses r
+few_losses_progress r calls long k kept few =
+    data_links_progress r calls long k kept (data_links_keep r calls long k (λ n h. kept n (omega (arith, h))) few)
+
+pub data_links_pay : (r : Run) → PaysForExpiries r
+data_links_pay r calls long n kept none role again =
+    let x = pays_for_expiries (sapi_0_of r) long n (λ m early q. rw (← turn-calls r calls m q) (kept m early q))
+    (λ q. sym (closed-same r calls n q) ∙ none q) role (ap P.is_repetition (sym (at r calls n role).frame) ∙ again) in
+    record {
+      slot = x.slot;
+      before = x.before;
+      sent = ap P.is_i_frame (at r calls x.slot role).frame ∙ x.sent;
+      last = λ k h g. ap P.is_i_frame (at r calls k role).frame ∙ x.last k h g;
+      lost = λ h. rw (loss-same r calls x.slot role, loss-same r calls (suc x.slot + r.delay) (other role))
+          (x.lost (ap (λ (l : LinkState). is_open l.endpoint.state)
+          (sym (at r calls (suc x.slot + r.delay) (other role)).link) ∙ h));
+    }

@@ -13,11 +13,12 @@ use Rattle.{
     specs.Channels.{Run, Slot, ChannelState, channel_at, channel_after, side_at, turn_of, before_sending, arriving, IsUse},
     specs.{Links.{slot_outcome, is_closed}, Progress.{link_at, turn_at, ready_at, frame_at, is_loss, is_loss_at, is_lossy, one_if}},
     specs.Progress.{waiting_slots, lossy_slots, expiries, expires_in, is_i_frame, is_repetition, IsWithoutRelease, IsPaid, Progress},
-    specs.Progress.{PaysForExpiries, Progresses, frames_at, FromStart, ProgressesFromStart, KeepsLinks, NoneGaveUp},
+    specs.Progress.{round_trip, PaysForExpiries, Progresses, frames_at, FromStart, ProgressesFromStart, KeepsLinks, NoneGaveUp},
     proofs.{ProgressRuns.NeverReleases, ProgressExpiries.pays, ProgressPolls.progresses, ProgressFromStart.{from_start, keeps, unclosed}},
-    proofs.ProgressKnown.Unclosed,
+    proofs.{ProgressFromStart.{mobile_ready, network_ready_open}, ProgressKnown.{Known, Unclosed, known}},
   },
 }
+use Rattle.lapdm_datalink.proofs.ProgressKnown as K
 
 abbrev pub idle_slot : Slot
 idle_slot = record { mobile = record { calls = []; is_lost = false }; network = record { calls = []; is_lost = false } }
@@ -113,6 +114,22 @@ not_closed other h = refl
 none_closed : (m : ℕ) (r : Run) (u : IsWithoutRelease r m) (n : ℕ) → n ≤ m → NoneGaveUp r n → Unclosed (cut m r) (never m r u) n
 none_closed m r u n h none = unclosed (cut m r) (never m r u) n
     (λ q e. true_false (sym (ap is_closed (ap (λ l. l.endpoint.state) (sym (link_same m r n h q)) ∙ e)) ∙ none q))
+
+-- a link is closed only in its own slot, and not by what arrives or by a call
+pub ready_unclosed : (r : Run) → round_trip r.delay ≤ r.t200 → (n : ℕ) → IsWithoutRelease r (suc n) → NoneGaveUp r n →
+    (role : Role) → is_closed (ready_at r n role).endpoint.state ≡ false
+ready_unclosed r long n u none role = ap (λ l. is_closed l.endpoint.state) (sym (ready_same (suc n) r n (omega arith) role))
+    ∙ not_closed (ready_at c n role).endpoint.state (by role)
+  where
+    c : Run
+    c = cut (suc n) r
+
+    h : Known (cut (suc n) r) (never (suc n) r u) n
+    h = known (cut (suc n) r) (never (suc n) r u) n (none_closed (suc n) r u n (omega arith) none)
+
+    by : (role : Role) → (ready_at (cut (suc n) r) n role).endpoint.state ≢ Closed
+    by Mobile = mobile_ready (cut (suc n) r) (never (suc n) r u) long n h (K.mobile_slot (cut (suc n) r) (never (suc n) r u) n h)
+    by Network = network_ready_open (cut (suc n) r) (never (suc n) r u) long n h (K.network_slot (cut (suc n) r) (never (suc n) r u) n h)
 
 pub pays_for_expiries : (r : Run) → PaysForExpiries r
 pays_for_expiries r long n u none role again = record {

@@ -470,14 +470,14 @@ module _ (r : Run) (u : NeverReleases r) (long : round_trip r.delay ≤ r.t200) 
     closed_opening : Closed ≡ Opening → ⊥
     closed_opening q = cc
 
-    mobile_ready : MobileSlot r u n → (ready_at r n Mobile).endpoint.state ≢ Closed
+    pub mobile_ready : MobileSlot r u n → (ready_at r n Mobile).endpoint.state ≢ Closed
     mobile_ready (K.rests i e) q = closed_idle (sym q ∙ ap (λ l. l.endpoint.state) e ∙ i)
     mobile_ready (K.begins i o x s k a) q = closed_opening (sym q ∙ o)
     mobile_ready (K.tries o e) q = closed_opening (sym q ∙ ap (λ l. l.endpoint.state) e ∙ o)
     mobile_ready (K.joins o p i a t) q = closed_open (sym q ∙ p)
     mobile_ready (K.stays o p i a) q = closed_open (sym q ∙ p)
 
-    network_ready_open : NetworkSlot r u n → (ready_at r n Network).endpoint.state ≢ Closed
+    pub network_ready_open : NetworkSlot r u n → (ready_at r n Network).endpoint.state ≢ Closed
     network_ready_open (K.rests i e) q = closed_idle (sym q ∙ ap (λ l. l.endpoint.state) e ∙ i)
     network_ready_open (K.joins i p x a b) q = closed_open (sym q ∙ p)
     network_ready_open (K.stays o p x a) q = closed_open (sym q ∙ p)

@@ -21,7 +21,8 @@ use Rattle.lapdm_datalink.proofs.Lemmas.{passed}
 use Rattle.lapdm_datalink.proofs.RunsClaims.{seen, claims-seen, counts-seen, order-seen}
 use Rattle.lapdm_datalink.proofs.RunsWorlds.{Reaches, at_start, start}
 use Rattle.lapdm_link.proofs.Lemmas.{claims_of as session_claims, counts_of as session_counts, order_of as session_order}
-use Rattle.lapdm_datalink.proofs.RunsQueues.{empty, pending}
+use Rattle.lapdm_link.proofs.Subsequences.{empty}
+use Rattle.lapdm_datalink.proofs.RunsQueues.{pending}
 use Rattle.lapdm_datalink.proofs.RunsLinks.{LinkAt, Fits, call_step, passes_slot, slot_step, slot-on, is_slot, unit_step, free-waits}
 use Rattle.lapdm_datalink.proofs.RunsLinks.{IsSound, lose_step, take_step, own_sapi, on_own}
 

@@ -29,7 +29,8 @@ use Rattle.lapdm_datalink.specs.Links.{is_due, keeps_back, sends_due_frame, send
 use Rattle.lapdm_datalink.proofs.Lemmas.{endpoint_with_frames}
 use Rattle.lapdm_datalink.proofs.RunsClaims.{seen}
 use Rattle.lapdm_datalink.proofs.RunsWorlds.{Reaches, calls, takes, loses, silent}
-use Rattle.lapdm_datalink.proofs.RunsQueues.{IsSub, empty, kept, dropped, none, all, append, on_air, pending, unsent-sent}
+use Rattle.lapdm_link.proofs.Subsequences.{IsSub, all, append, dropped, empty, kept, none}
+use Rattle.lapdm_datalink.proofs.RunsQueues.{on_air, pending, unsent-sent}
 use Rattle.lapdm_datalink.proofs.RunsQueues.{IsNoOpening, elsewhere, answers, pending-outcome}
 
 -- what holds of each link: a frame that was not sent is due, the answer has the SAPI of the link, and a link in Idle owes none

@@ -2,36 +2,12 @@
 use Rattle.lapdm_link.proofs.Lemmas.{◌≡◌, refl, arith, ◌++◌, Bool, true, false, List, [], ◌∷◌, ◌&&◌, append_assoc}
 use Rattle.lapdm_link.proofs.Lemmas.{append-nil, if◌then◌else◌, Some, cons_option, Frame}
 use Rattle.lapdm_link.proofs.Lemmas.{Outcome, AllOf}
+use Rattle.lapdm_link.proofs.Subsequences.{IsSub, all, append, front, none, trans}
 use Rattle.lapdm_end.specs.lapdm_window.Calls.{sabm}
 use Rattle.lapdm_datalink.specs.Links.{LinkState, sabm_goes_first, is_opening, is_awaiting_kind, with_frame, with_frames, with_outcome}
 use Rattle.lapdm_datalink.proofs.Lemmas.{endpoint_with_frames}
 
 -- ---- subsequences
-
--- the first list is a subsequence of the second
-pub data IsSub : List Frame → List Frame → Type 0 where
-  empty : IsSub [] []
-  kept : {f : Frame} {xs ys : List Frame} → IsSub xs ys → IsSub (f ∷ xs) (f ∷ ys)
-  dropped : {f : Frame} {xs ys : List Frame} → IsSub xs ys → IsSub xs (f ∷ ys)
-
-pub none : (ys : List Frame) → IsSub [] ys
-none [] = empty
-none (y ∷ ys) = dropped (none ys)
-
-pub all : (xs : List Frame) → IsSub xs xs
-all [] = empty
-all (x ∷ xs) = kept (all xs)
-
-pub append : {xs ys us vs : List Frame} → IsSub xs ys → IsSub us vs → IsSub (xs ++ us) (ys ++ vs)
-append empty g = g
-append (kept h) g = kept (append h g)
-append (dropped h) g = dropped (append h g)
-
-trans : {xs ys zs : List Frame} → IsSub xs ys → IsSub ys zs → IsSub xs zs
-trans h empty = h
-trans (kept h) (kept g) = kept (trans h g)
-trans (dropped h) (kept g) = dropped (trans h g)
-trans h (dropped g) = dropped (trans h g)
 
 -- fewer frames wait
 pub fewer : (air : List Frame) {xs ys q : List Frame} → IsSub xs ys → IsSub (air ++ ys) q → IsSub (air ++ xs) q
@@ -39,7 +15,7 @@ fewer air h g = trans (append (all air) h) g
 
 -- nothing waits
 pub on_air : (air ys : List Frame) {q : List Frame} → IsSub (air ++ ys) q → IsSub air q
-on_air air ys g = rw append-nil at (fewer air (none ys) g)
+on_air air ys g = trans (front air ys) g
 
 -- ---- what waits at a link
 

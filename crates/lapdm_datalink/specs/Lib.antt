@@ -9,3 +9,4 @@ pub mod Channels
 pub mod Progress
 pub mod Runs
 pub mod Lockstep
+pub mod Sapi3

@@ -1,16 +1,18 @@
 -- Two whole data links, a mobile and a network, whose slots come together. In each slot each side takes what arrives, layer 3 makes its
 -- calls, and the side sends one block, which arrives `delay` slots later, before the slot after that, or is lost.
 use Rattle.std.specs.Prelude.{◌≡◌, ◌≤◌, ◌+◌, ◌*◌, ℕ, zero, suc, Bool, ◌||◌, List, [], ◌∷◌, All}
-use Rattle.std.specs.Prelude.{◌++◌, false, not, map, if◌then◌else◌, get_or, Option, Some, None}
+use Rattle.std.specs.Prelude.{◌++◌, ◌⊎◌, false, true, not, map, if◌then◌else◌, get_or, Option, Some, None}
 use Rattle.std.specs.List.{filter_map}
 use Rattle.lapdm_frame.specs.declared.Channel.{Channel}
 use Rattle.lapdm_frame.specs.Content.{Frame}
-use Rattle.lapdm_end.specs.lapdm_window.segmenting.Segments.{Message}
+use Rattle.lapdm_frame.specs.Layout.{n201}
+use Rattle.lapdm_end.specs.lapdm_window.segmenting.Segments.{Message, number_of_segments}
 use Rattle.lapdm_end.specs.lapdm_window.declared.Sapi.{Sapi}
 use Rattle.lapdm_end.specs.lapdm_window.declared.Sapi.TheVariants.{Zero, Three}
 use Rattle.lapdm_end.specs.lapdm_window.Ends.{Role, Mobile, Network, awaits_answer}
 use Rattle.lapdm_end.specs.lapdm_window.declared.Refused.{Refused}
-use Rattle.lapdm_end.specs.lapdm_window.Calls.{Call, SendsUi, IsCallAllowedFor, refusal_of, is_idle}
+use Rattle.lapdm_end.specs.lapdm_window.Rules.{is_open}
+use Rattle.lapdm_end.specs.lapdm_window.Calls.{Call, Opens, Sends, SendsUi, IsCallAllowedFor, refusal_of, is_idle}
 use Rattle.lapdm_link.specs.Events.{other}
 use Rattle.lapdm_link.specs.Claims.{LogLine, Asked, Notified}
 use Rattle.lapdm_datalink.specs.Links.{LinkState, IsLinkCall, is_closed, for_call, is_reopened_by_call, ui_frame, after_slot, slot_outcome}
@@ -19,7 +21,7 @@ use Rattle.lapdm_datalink.specs.DataLinks.{DataLinkOutcome, data_link_outcome}
 use Rattle.lapdm_datalink.specs.Channels.{after_call_unless, carried}
 use Rattle.lapdm_datalink.specs.Channels as C
 use Rattle.lapdm_datalink.specs.Runs.{after_arrival_if_any, arrival_lines, OpensNoClosedLink}
-use Rattle.lapdm_datalink.specs.Progress.{round_trip, one_if, is_loss, expires_in, behind_ua}
+use Rattle.lapdm_datalink.specs.Progress.{round_trip, one_if, is_loss, expires_in, behind_ua, is_i_frame, is_repetition}
 use Rattle.lapdm_datalink.specs.Progress as P
 
 -- one side's part of a slot
@@ -241,3 +243,51 @@ Progresses r = HasCalls r → round_trip r.delay ≤ r.t200 → (k : ℕ) → Is
 abbrev pub KeepsLinks : Run → Type 0
 KeepsLinks r = HasCalls r → round_trip r.delay ≤ r.t200 → (k : ℕ) → IsWithoutRelease r k → slots_with (is_lossy r) k ≤ 5 →
     NoneGaveUp r k
+
+-- with at most five slots with a loss, neither is given up, so the bounds hold
+abbrev pub ProgressesAfterFewLosses : Run → Type 0
+ProgressesAfterFewLosses r = HasCalls r → round_trip r.delay ≤ r.t200 → (k : ℕ) → IsWithoutRelease r (suc k) →
+    slots_with (is_lossy r) k ≤ 5 → (role : Role) → Progress r k role
+
+-- ---- what an expiry costs
+
+-- the frame that the link of SAPI 0 sends in the slot, if any
+abbrev pub frame0_at : (run : Run) (slot : ℕ) (role : Role) → Option Frame
+frame0_at r n role = frame_of_link0 (outcome_at r n role).frame
+
+-- `IsPaid` and `PaysForExpiries` of specs/Progress, of the links of SAPI 0 of data links
+pub record IsPaid (r : Run) (n : ℕ) (role : Role) : Type 0 where
+  pub slot : ℕ
+  pub before : slot + r.t200 ≤ n
+  pub sent : is_i_frame (frame0_at r slot role) ≡ true
+  pub last : (k : ℕ) → suc slot ≤ k → suc k ≤ n → is_i_frame (frame0_at r k role) ≡ false
+  pub lost : is_open (link0_at r (suc slot + r.delay) (other role)).endpoint.state ≡ true →
+      (is_loss_at r slot role ≡ true) ⊎ (is_loss_at r (suc slot + r.delay) (other role) ≡ true)
+
+abbrev pub PaysForExpiries : Run → Type 0
+PaysForExpiries r =
+    HasCalls r → round_trip r.delay ≤ r.t200 → (n : ℕ) → IsWithoutRelease r (suc n) → NoneGaveUp r n → (role : Role) →
+    is_repetition (frame0_at r n role) ≡ true → IsPaid r n role
+
+-- ---- what layer 3 asks for
+
+-- the frames that await answers which a call to SAPI 0 asks for if it is accepted: the SABM, or the segments of the message
+abbrev pub frames_of_call : (refused : Option Refused) (channel : Channel) (call : Sapi × Call) → ℕ
+frames_of_call None channel (Zero, Opens info) = 1
+frames_of_call None channel (Zero, Sends m) = number_of_segments (n201 channel) m
+frames_of_call refused channel call = 0
+
+-- those that these calls ask for
+abbrev pub frames_of_calls : Channel → List (Sapi × Call) → DataLinkState → ℕ
+frames_of_calls channel [] s = 0
+frames_of_calls channel (call ∷ calls) s =
+    frames_of_call (refusal call s) channel call + frames_of_calls channel calls (after_call_of call s)
+
+-- those that this side's calls before the slot ask for
+abbrev pub asked_at : (run : Run) (slot : ℕ) (role : Role) → ℕ
+asked_at r zero role = 0
+asked_at r (suc n) role = asked_at r n role + frames_of_calls r.channel (r.part n role).calls (taken_at r n role)
+
+-- a link sends no more frames that await answers than layer 3 has asked for
+abbrev pub SendsWhatIsAsked : Run → Type 0
+SendsWhatIsAsked r = HasCalls r → (n : ℕ) (role : Role) → frames_at r n role ≤ asked_at r n role

@@ -1,5 +1,6 @@
 -- The state of a link as plain data.
-use Rattle.std.specs.Prelude.{◌≡◌, ◌≤◌, ◌<◌, ℕ, Bool, List, length, Option, IfSome}
+use Rattle.std.specs.Prelude.{◌≡◌, ◌≢◌, ◌≤◌, ◌<◌, ◌||◌, not, ℕ, Bool, List, length, Option, IfSome}
+use Rattle.std.specs.Option.{is_none}
 use Rattle.lapdm_frame.specs.Layout.{largest_n201}
 use Rattle.lapdm_end.specs.lapdm_window.segmenting.Segments.{max_message_octets, max_segments_per_message}
 use Rattle.lapdm_frame.specs.declared.Channel.{Channel}
@@ -8,12 +9,13 @@ use Rattle.lapdm_frame.specs.Frames.{octets_of}
 use Rattle.lapdm_end.specs.Parts.{EndpointValues}
 use Rattle.lapdm_end.specs.Parts as E
 use Rattle.lapdm_end.specs.lapdm_window.declared.Sapi.{Sapi}
+use Rattle.lapdm_end.specs.lapdm_window.declared.Sapi.TheVariants.{Zero, Three}
 use Rattle.lapdm_end.specs.lapdm_window.Ends.{Role}
 use Rattle.lapdm_datalink.specs.declared.links.Link.{Link}
 use Rattle.lapdm_datalink.specs.declared.parts.LinkView.{LinkView}
 use Rattle.lapdm_datalink.specs.declared.data_links.DataLink.{DataLink}
 use Rattle.lapdm_datalink.specs.declared.parts.DataLinkView.{DataLinkView}
-use Rattle.lapdm_datalink.specs.Links.{LinkState}
+use Rattle.lapdm_datalink.specs.Links.{LinkState, is_due}
 use Rattle.lapdm_datalink.specs.DataLinks.{DataLinkState, IsDataLink}
 use Rattle.lapdm_datalink.specs.Abstraction.{Represents, MayWait, role_of, sapi_of, channel_of}
 use Rattle.lapdm_end.specs.Addresses.{spec_role_of}
@@ -54,6 +56,19 @@ pub record IsAtSameAddress (m : Link) (x : LinkValues) : Type 0 where
 -- some link of the SAPI and the channel of this Rust link has these values
 abbrev pub CanBeRestored : (m : Link) (x : LinkValues) → Type 0
 CanBeRestored m x = IsAtSameAddress m x × SomeLinkHasValues x
+
+-- T200 is not 0, and the clock is not longer
+abbrev pub IsTimed : (t200 clock : ℕ) → Type 0
+IsTimed t200 clock = (t200 ≢ 0) × (clock ≤ t200)
+
+-- two links with these values are those of SAPI 0 and SAPI 3 of one data link: they have the same role and channel, and are timed
+pub record AreBeside (x y : LinkValues) : Type 0 where
+  pub sapi0 : x.endpoint.sapi ≡ Zero
+  pub sapi3 : y.endpoint.sapi ≡ Three
+  pub role : spec_role_of y.endpoint.role ≡ spec_role_of x.endpoint.role
+  pub channel : y.endpoint.window.channel ≡ x.endpoint.window.channel
+  pub timed0 : IsTimed x.t200 x.clock
+  pub timed3 : IsTimed y.t200 y.clock
 
 -- what a view is borrowed from has room in the arrays of an endpoint
 pub record IsWritable (p : LinkView) : Type 0 where
@@ -106,3 +121,7 @@ IsAnswerBlock role sapi channel block = (f : Frame) × MayWait role sapi channel
 -- so is the answer in these values, if there is one
 abbrev pub HasAnswerBlockIfAny : LinkValues → Type 0
 HasAnswerBlockIfAny x = IfSome x.answer (IsAnswerBlock (spec_role_of x.endpoint.role) x.endpoint.sapi x.endpoint.window.channel)
+
+-- whether the link sends a frame or is given up in a slot that it may use: it owes an answer, or its frame is due
+abbrev pub acts_in_slot : LinkState → Bool
+acts_in_slot l = not (is_none l.answer) || is_due l

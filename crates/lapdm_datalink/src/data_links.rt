@@ -16,7 +16,6 @@ ghost use Rattle.lapdm_datalink.specs.DataLinks.{
   initial_data_link,
   link_with_sapi,
   with_link,
-  takes_sapi3,
   holds_up_sapi3,
   having_heard,
   sapi_for_frame,
@@ -28,7 +27,7 @@ ghost use Rattle.lapdm_datalink.specs.DataLinks.{
 ghost use Rattle.lapdm_datalink.specs.Abstraction.{channel_of as link_channel, role_of as link_role, sapi_of, notices_if};
 
 use crate::links::Link;
-use lapdm_end::{Call, Channel, Effects, Refused, Role, Sapi, State};
+use lapdm_end::{Call, Channel, Effects, Refused, Role, Sapi};
 use lapdm_frame::{BLOCK_OCTETS, Body, FrameView};
 
 /// A data link: both links of a mobile or of a network, and what it knows of the slot.
@@ -142,31 +141,11 @@ impl DataLink {
         self.link0.endpoint.channel()
     }
 
-    // Returns whether the data link takes frames of SAPI 3.
-    fn takes_sapi3(&self) -> bool
-        ensures { (s : DataLinkState) → Represents self.now s → result ≡ takes_sapi3 s }
-    {
-        match (self.link0.endpoint.role(), self.link0.endpoint.channel()) {
-            (Role::Network, _) => true,
-            (Role::Mobile, Channel::Sdcch) => match self.link0.endpoint.state() {
-                State::Open | State::Closing => true,
-                State::Idle | State::Opening | State::Closed => false,
-            },
-            (Role::Mobile, Channel::Sacch) => self.is_main_established,
-        }
-    }
-
     // Returns the SAPI of the link that takes a received frame, or `None` if the data link drops it.
     fn sapi_for(&self, frame: &FrameView<'_>) -> Option<Sapi>
         ensures { (s : DataLinkState) → Represents self.now s → result ≡ sapi_for_frame (frame_of_view frame.now) s }
     {
-        if frame.sapi == 0 {
-            return Some(Sapi::Zero);
-        }
-        if frame.sapi == 3 && self.takes_sapi3() {
-            return Some(Sapi::Three);
-        }
-        None
+        self.link0.sapi_for(frame, self.is_main_established)
     }
 
     /// Processes a received frame, and replaces the notices in `effects` by those of the link that takes it; it gets no frames. Returns the
@@ -263,8 +242,8 @@ impl DataLink {
     }
 }
 
-// Returns whether this received frame took the slot of an answer on SAPI 3.
-fn holds_up_sapi3(frame: &FrameView<'_>) -> bool
+/// Returns whether this received frame took the slot of an answer on SAPI 3.
+pub fn holds_up_sapi3(frame: &FrameView<'_>) -> bool
     ensures { result ≡ holds_up_sapi3 (frame_of_view frame.now) }
 {
     match frame.body {

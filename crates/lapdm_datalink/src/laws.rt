@@ -14,6 +14,7 @@ ghost use Rattle.lapdm_datalink.specs.DataLinks.{DataLinkState};
 ghost use Rattle.lapdm_datalink.specs.Channels.{Run};
 ghost use Rattle.lapdm_datalink.specs.Progress.{GoesFirst, PaysForExpiries, Progresses, ProgressesFromStart, KeepsLinks};
 ghost use Rattle.lapdm_datalink.specs.Lockstep as Lockstep;
+ghost use Rattle.lapdm_datalink.specs.Sapi3 as Sapi3;
 
 /// Law: in a slot, the endpoint of a link does nothing, repeats the frame that awaits an answer without counting it, or handles the expiry
 /// of T200. What goes out is the answer owed, or the frame of that call.
@@ -68,9 +69,9 @@ pub fn law_data_links_progress()
     ensures { (r : Run) → Progresses r }
 {}
 
-/// Law: each repeat of an I frame whose last copy reached an open link has a slot with a loss, that of the copy or that of its answer; two
-/// repeats of one link have different ones. Both links of SAPI 0 have one T200 of at least the round trip; there is no release so far, and
-/// nobody has given up.
+/// Law: each repeat of an I frame has a slot with a loss, that of its last copy or that of the answer, if the other link is open when the
+/// copy arrives or would have arrived; two repeats of one link have different ones. Both links of SAPI 0 have one T200 of at least the
+/// round trip; there is no release so far, and nobody has given up.
 #[tactic(auto, using(crate::proofs::ProgressCut::pays_for_expiries))]
 pub fn law_data_links_pay_for_expiries()
     ensures { (r : Run) → PaysForExpiries r }
@@ -104,8 +105,26 @@ pub fn law_whole_data_links_progress()
     ensures kept { (r : Lockstep.Run) → Lockstep.KeepsLinks r }
 {}
 
+/// Law: while at most five slots from the start had a loss, the links of SAPI 0 of two whole data links wait as
+/// `law_data_links_progress_from_the_start` says: neither has been given up.
+pub fn law_whole_data_links_progress_after_few_losses()
+    ensures { (r : Lockstep.Run) → Lockstep.ProgressesAfterFewLosses r }
+{}
+
+/// Law: the frames for which a link of SAPI 0 waits so are at most those that layer 3's accepted calls ask for: one SABM for an
+/// establishment, and the segments of each message.
+pub fn law_whole_data_links_send_what_is_asked()
+    ensures { (r : Lockstep.Run) → Lockstep.SendsWhatIsAsked r }
+{}
+
+/// Law: a link of SAPI 0 of two whole data links pays for its repeats as `law_data_links_pay_for_expiries` says.
+#[tactic(auto, using(crate::proofs::Lockstep::data_links_pay))]
+pub fn law_whole_data_links_pay_for_expiries()
+    ensures { (r : Lockstep.Run) → Lockstep.PaysForExpiries r }
+{}
+
 /// Law: so two whole data links deliver in order up to any slot before which no closed link is opened again, by a call or by a late SABM,
-/// and each UI frame for a free slot fits in a block.
+/// and no UI frame for a free slot is refused.
 pub fn law_whole_data_links_deliver_in_order()
     ensures delivery { (r : Lockstep.Run) → Lockstep.HasCalls r → (n : ℕ)
         → ((k : ℕ) → k < n → (role : Role) → Lockstep.IsRegular r k role) → Claims (Lockstep.log_before r n) }
@@ -113,4 +132,13 @@ pub fn law_whole_data_links_deliver_in_order()
         → ((k : ℕ) → k < n → (role : Role) → Lockstep.IsRegular r k role) → AckedAtMostDelivered (Lockstep.log_before r n) }
     ensures order { (r : Lockstep.Run) → Lockstep.HasCalls r → (n : ℕ)
         → ((k : ℕ) → k < n → (role : Role) → Lockstep.IsRegular r k role) → HasNoticesInOrder (Lockstep.log_before r n) }
+{}
+
+/// Law: in a run of two whole data links whose slots come together, if one side alone opens SAPI 3, neither has released it so far, and
+/// SAPI 0 does not hold it up, then the two links of SAPI 3 wait as `law_data_links_progress_from_the_start` says of SAPI 0, the side that
+/// opens in the place of the mobile, and are kept as `law_few_losses_close_no_link` says. Both have one T200 of at least the round trip.
+/// SAPI 0 may use any slot in which SAPI 3 has nothing to send, if its frame is not heard while SAPI 3 awaits an answer.
+pub fn law_sapi_3_progresses_unless_held_up()
+    ensures progress { (r : Lockstep.Run) → Sapi3.Progresses r }
+    ensures kept { (r : Lockstep.Run) → Sapi3.KeepsLinks r }
 {}

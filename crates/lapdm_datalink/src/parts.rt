@@ -7,7 +7,7 @@ ghost use Rattle.lapdm_datalink.specs.Links.{LinkState};
 ghost use Rattle.lapdm_datalink.specs.DataLinks.{DataLinkState, IsDataLink, having_main};
 ghost use Rattle.lapdm_datalink.specs.Abstraction as L;
 ghost use Rattle.lapdm_datalink.specs.Abstraction.{Represents, IsAnswer, is_answer_kind, role_of, sapi_of, channel_of as link_channel};
-ghost use Rattle.lapdm_datalink.specs.Parts.{values_of, values_of_parts, ValuesRepresent};
+ghost use Rattle.lapdm_datalink.specs.Parts.{values_of, values_of_parts, ValuesRepresent, SomeLinkHasValues, IsTimed, AreBeside};
 ghost use Rattle.lapdm_datalink.specs.Parts.{IsAnswerBlock, HasAnswerBlockIfAny, IsAtSameAddress, CanBeRestored, IsWritable};
 ghost use Rattle.lapdm_datalink.specs.Parts.{data_link_values_of, data_link_values_of_parts, RepresentDataLink, RepresentSomeDataLink};
 
@@ -101,6 +101,13 @@ fn is_same_role(role: Role, other: Role) -> bool
     }
 }
 
+// Returns whether this T200 is not 0, and the clock is not longer.
+fn is_timed(t200: u8, clock: u8) -> bool
+    ensures { IsTrue result ↔ IsTimed t200 clock }
+{
+    t200 != 0 && clock <= t200
+}
+
 impl Link {
     pub fn parts(&self) -> LinkView<'_>
         ensures values { values_of_parts result ≡ values_of self.now }
@@ -115,13 +122,6 @@ impl Link {
         }
     }
 
-    // Returns whether the link has a T200, and no clock that is longer.
-    fn is_timed(&self) -> bool
-        ensures { IsTrue result ↔ (self.now.t200 ≢ 0 × self.now.clock ≤ self.now.t200) }
-    {
-        self.t200 != 0 && self.clock <= self.t200
-    }
-
     // Returns whether this state is that of a link with the same SAPI and channel.
     fn has_address_of(&self, parts: &LinkView<'_>) -> bool
         ensures { IsTrue result ↔ IsAtSameAddress self.now (values_of_parts parts.now) }
@@ -129,6 +129,27 @@ impl Link {
         is_same_role(parts.endpoint.role, self.endpoint.role())
             && parts.endpoint.sapi == self.endpoint.sapi()
             && parts.endpoint.window.channel == self.endpoint.channel()
+    }
+
+    /// Restores a link from its state, whatever role, SAPI and channel it has. Returns false and changes nothing if no link can have this
+    /// state.
+    pub fn restore_any(&mut self, parts: &LinkView<'_>) -> bool
+        ensures same { IsTrue result → values_of self.new ≡ values_of_parts parts.now }
+        ensures represents { IsTrue result → (l : LinkState) → ValuesRepresent (values_of_parts parts.now) l → Represents self.new l }
+        ensures valid { IsTrue result ↔ SomeLinkHasValues (values_of_parts parts.now) }
+        ensures refused { result ≡ false → self.new ≡ self.old }
+    {
+        if !has_answer_block_if_any(parts) {
+            return false;
+        }
+        if !self.endpoint.restore(&parts.endpoint) {
+            return false;
+        }
+        self.t200 = parts.t200;
+        self.answer = parts.answer;
+        self.is_sent = parts.is_sent;
+        self.clock = parts.clock;
+        true
     }
 
     /// Restores a link from its state. Returns false and changes nothing if no link with this SAPI and channel can have this state.
@@ -144,18 +165,20 @@ impl Link {
         if !self.has_address_of(parts) {
             return false;
         }
-        if !has_answer_block_if_any(parts) {
-            return false;
-        }
-        if !self.endpoint.restore(&parts.endpoint) {
-            return false;
-        }
-        self.t200 = parts.t200;
-        self.answer = parts.answer;
-        self.is_sent = parts.is_sent;
-        self.clock = parts.clock;
-        true
+        self.restore_any(parts)
     }
+}
+
+/// Returns whether these may be the links of SAPI 0 and SAPI 3 of one data link, if both are links: by role, SAPI, channel and T200.
+pub fn are_beside(link0: &LinkView<'_>, link3: &LinkView<'_>) -> bool
+    ensures { IsTrue result ↔ AreBeside (values_of_parts link0.now) (values_of_parts link3.now) }
+{
+    link0.endpoint.sapi == Sapi::Zero
+        && link3.endpoint.sapi == Sapi::Three
+        && is_same_role(link3.endpoint.role, link0.endpoint.role)
+        && link3.endpoint.window.channel == link0.endpoint.window.channel
+        && is_timed(link0.t200, link0.clock)
+        && is_timed(link3.t200, link3.clock)
 }
 
 impl DataLink {
@@ -185,10 +208,10 @@ impl DataLink {
         ensures { (s : DataLinkState) → L.Represents self.now.link0 s.link0 → L.Represents self.now.link3 s.link3
             → IsTrue result ↔ IsDataLink s }
     {
-        if !self.link0.is_timed() {
+        if !is_timed(self.link0.t200, self.link0.clock) {
             return false;
         }
-        self.link3.is_timed()
+        is_timed(self.link3.t200, self.link3.clock)
     }
 
     // Makes this a data link with this role and channel.

@@ -234,8 +234,7 @@ pub as_outcome : {m : Endpoint} {effects : Effects} (e : EndpointState) {o p : O
     Represents m p.new_state × HasEffects effects e.channel p → Represents m o.new_state × HasEffects effects e.channel o
 as_outcome e same h = grind arith
 
--- in Open, if an `Endpoint` represents an abstract endpoint, so does its window; therefore a rule proved for the window holds for the
--- `Endpoint`
+-- so a rule that is proved for the window holds for the `Endpoint`
 pub Runs-open : {m : Endpoint} {e : EndpointState} → m.state ≡ Open → Represents m e → RepresentsOpenEndpoint m.address m.window e
 Runs-open {m} {e} is_now h =
     let open_now : e.state ≡ Open = sym h.state ∙ is_now in
@@ -490,7 +489,6 @@ refines_no_sapi f old effects z t frames notices a st =
     by_sapi f a (λ d. CarriesOutStep (channel_of old) d Zero effects old) (λ q. absurd (z q)) (λ q. absurd (t q))
     (λ q r. record { represents = st; sapi_matches = refl; frames = frames; notices = notices })
 
--- a side for which no frame is read does nothing
 pub refines_no_frame : (old : Side) (effects : Effects) (read : Option Frame) → read ≡ None → effects.frames ≡ [] →
     effects.notices ≡ [] → StepRefines (step_for_read_frame read) old Zero effects old
 refines_no_frame old effects None none frames notices a st =

@@ -29,19 +29,8 @@ impl Endpoint {
     ghost use Rattle.lapdm_frame.specs.Frames.{octets_of};
     ghost use Rattle.lapdm_window.specs.declared.State.TheVariants as S;
     ghost use Rattle.lapdm_window.specs.Ends.{EndpointState, Mobile, IsPossibleSabmInfo, initial_endpoint};
-    ghost use Rattle.lapdm_window.specs.Calls.{
-      first_refusal,
-      single_frame_refusal_checks,
-      call_outcome,
-      sends_sabm,
-      sabm,
-      disc,
-      t200_expiry,
-      Opens,
-    };
-    ghost use Rattle.lapdm_window.specs.Calls.{OpensWithoutInfo};
-    ghost use Rattle.lapdm_window.specs.Calls.{Sends};
-    ghost use Rattle.lapdm_window.specs.Calls.{SendsUi, Closes, T200Expires, SendsFillFrame};
+    ghost use Rattle.lapdm_window.specs.Calls.{first_refusal, single_frame_refusal_checks, call_outcome, sends_sabm, sabm, disc};
+    ghost use Rattle.lapdm_window.specs.Calls.{t200_expiry, Opens, OpensWithoutInfo, Sends, SendsUi, Closes, T200Expires, SendsFillFrame};
     ghost use Rattle.lapdm_window.specs.Tables.{closes_and_reports};
     ghost use Rattle.lapdm_end.specs.Addresses.{spec_role_of};
     ghost use Rattle.lapdm_end.specs.Abstraction.{Represents, channel_of, role_of, sapi_of, state_of};
@@ -220,7 +209,6 @@ impl Endpoint {
         self.address.send_only_fill_frame(effects);
     }
 
-    // Returns why this message cannot be sent in one frame (it is empty or longer than N201), or `None` if it can.
     pub(crate) fn single_frame_refusal(&self, message: &[u8]) -> Option<Refused>
         ensures refusal { (e : EndpointState) → Represents self.now e
             → result ≡ first_refusal (single_frame_refusal_checks message.now e) }

@@ -49,7 +49,6 @@ impl Address {
         write_on(&FrameView { sapi, cr, body }, self.channel)
     }
 
-    // Encodes a frame with this C/R bit and body, and appends it to the effects.
     fn send(self, cr: bool, body: Body<'_>, effects: &mut Effects)
         requires numbers { NsAndNrFit (content_of_body body) }
         requires information { InformationFits self.channel (content_of_body body) }
@@ -85,7 +84,6 @@ impl Address {
         self.send(!self.command_cr(), body, effects);
     }
 
-    // Replaces the effects with one command frame and no notices.
     pub(crate) fn send_only_command(self, body: Body<'_>, effects: &mut Effects)
         requires numbers { NsAndNrFit (content_of_body body) }
         requires information { InformationFits self.channel (content_of_body body) }
@@ -97,7 +95,6 @@ impl Address {
         self.send_command(body, effects);
     }
 
-    // Replaces the effects with the fill frame and no notices.
     pub(crate) fn send_only_fill_frame(self, effects: &mut Effects)
         ensures frames { effects.new.frames
             ≡ octets_of self.channel (fill_frame (command_cr (spec_role_of self.role))) ∷ [] }

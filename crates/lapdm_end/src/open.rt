@@ -5,16 +5,13 @@ ghost use Rattle.lapdm_frame.specs.Layout.{n201};
 ghost use Rattle.lapdm_window.specs.segmenting.Joining.{completed_message};
 ghost use Rattle.lapdm_window.specs.Ends.{EndpointState};
 ghost use Rattle.lapdm_window.specs.Rules.{sends_next_segment, evaluates_nr, segment_notices, sends_rr, answers_segment, answers_poll};
-ghost use Rattle.lapdm_window.specs.Rules.{resends_outstanding_segment};
-ghost use Rattle.lapdm_window.specs.Rules.{takes_i_frame};
-ghost use Rattle.lapdm_window.specs.Rules.{takes_rr, takes_rej};
+ghost use Rattle.lapdm_window.specs.Rules.{resends_outstanding_segment, takes_i_frame, takes_rr, takes_rej};
 ghost use Rattle.lapdm_window.specs.Abstraction.{Represents, channel_of};
 
 use crate::link::Address;
 use lapdm_frame::Body;
 use lapdm_window::{Acked, Effects, Info, Joined, Message, Notice, Piece, Window};
 
-// Reports the message that the last accepted segment completes or, at the end of an oversize message, that it was oversize.
 fn report_message(joined: Joined, more: bool, window: &Window, effects: &mut Effects)
     requires space { length effects.old.notices ≤ 2 }
     ensures frames { effects.new.frames ≡ effects.old.frames }
@@ -77,7 +74,6 @@ impl Address {
         self.send_outstanding_segment(false, window, effects);
     }
 
-    // Evaluates a received N(R), and reports a message that it fully acknowledges.
     fn evaluate_nr(self, nr: u8, window: &mut Window, effects: &mut Effects)
         requires number { nr ≤ 7 }
         requires space { length effects.old.notices ≤ 2 }
@@ -137,7 +133,6 @@ impl Address {
         self.send_response(Body::Rej { nr, pf: poll }, effects);
     }
 
-    // Answers an out-of-sequence segment: sends a REJ if one is due, then the next I frame if one may be sent.
     fn answer_out_of_sequence_segment(
         self,
         rej_due: bool,

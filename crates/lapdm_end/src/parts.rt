@@ -8,8 +8,7 @@ ghost use Rattle.lapdm_window.specs.Ends.{EndpointState, IsPossibleSabmInfo};
 ghost use Rattle.lapdm_window.specs.Parts.{values_of_parts as window_by};
 ghost use Rattle.lapdm_end.specs.Addresses.{spec_role_of};
 ghost use Rattle.lapdm_end.specs.Parts.{values_of, values_of_parts, ValuesRepresent, SomeEndpointHasValues, IsInitialWindow};
-ghost use Rattle.lapdm_end.specs.Parts.{IsWindowInitialBeforeOpen, HasNoRepeats};
-ghost use Rattle.lapdm_end.specs.Parts.{AreConsistent};
+ghost use Rattle.lapdm_end.specs.Parts.{IsWindowInitialBeforeOpen, HasNoRepeats, AreConsistent};
 ghost use Rattle.lapdm_end.specs.Abstraction.{Represents, channel_of, role_of};
 
 use crate::Role;

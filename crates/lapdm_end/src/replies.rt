@@ -75,7 +75,6 @@ fn dm_if_polled<'a>(poll: bool) -> Reply<'a>
     if poll { Reply::Dm } else { Reply::Nothing }
 }
 
-// Returns the reply to a UI frame, in every state: its information is reported to layer 3 if it is not empty.
 fn reply_to_ui<'a>(info: &'a [u8]) -> Reply<'a>
     requires information { length info.now ≤ largest_n201 }
     ensures reply { spec_reply_of result ≡ reply_to_ui info.now }
@@ -98,8 +97,7 @@ impl Endpoint {
     ghost use Rattle.lapdm_window.specs.Tables.{reply_in_closing, reply_in_closed, reply_in_state, reply};
     ghost use Rattle.lapdm_end.specs.Abstraction.{Represents, channel_of, state_of};
 
-    // Returns whether this information equals that of the SABM that this endpoint sent or that established its link. To compare only the
-    // shorter length would let two mobiles open one link.
+    // To compare only the shorter length would let two mobiles open one link.
     fn equals_sabm_information(&self, info: &[u8]) -> bool
         ensures { (e : EndpointState) → Represents self.now e → result ≡ bytes_eq info.now e.sabm_info }
     {
@@ -164,8 +162,7 @@ impl Endpoint {
         }
     }
 
-    // Returns the reply to a UA in Opening. On SAPI 0, a UA whose information differs from that of the SABM sent is meant for another
-    // mobile.
+    // On SAPI 0, a UA whose information differs from that of the SABM sent is meant for another mobile.
     fn reply_to_ua_in_opening<'a>(&self, info: &'a [u8]) -> Reply<'a>
         requires opening { state_of self.now ≡ S.Opening }
         requires information { length info.now ≤ n201 (channel_of self.now) }
@@ -299,7 +296,6 @@ impl Endpoint {
         }
     }
 
-    /// Returns the reply to a frame with the endpoint's SAPI and an accepted kind.
     pub(crate) fn reply<'a>(&self, command: bool, body: &Body<'a>) -> Reply<'a>
         requires numbers { NsAndNrFit (content_of_body body.now) }
         requires information { InformationFits (channel_of self.now) (content_of_body body.now) }

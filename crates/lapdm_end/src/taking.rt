@@ -72,7 +72,6 @@ impl Endpoint {
         }
     }
 
-    // Encodes a response, and appends it to the effects.
     fn answer(&self, body: Body<'_>, effects: &mut Effects)
         requires numbers { NsAndNrFit (content_of_body body) }
         requires information { InformationFits (channel_of self.now) (content_of_body body) }
@@ -85,7 +84,6 @@ impl Endpoint {
         self.address.send_response(body, effects);
     }
 
-    // Accepts the peer's SABM: keeps its information, enters Open, reports the establishment and answers with a UA.
     fn accept_sabm(&mut self, info: &[u8], effects: &mut Effects)
         requires may { MayAcceptSabmWith self.old info.now }
         requires no_frames { effects.old.frames ≡ [] }
@@ -101,7 +99,6 @@ impl Endpoint {
         self.answer(Body::Ua { f: true, info }, effects);
     }
 
-    // Completes the establishment that this endpoint started: enters Open and reports it.
     fn confirm_establishment(&mut self, info: &[u8], effects: &mut Effects)
         requires opening { state_of self.old ≡ S.Opening }
         requires information { length info.now ≤ n201 (channel_of self.old) }
@@ -131,7 +128,6 @@ impl Endpoint {
         effects.notices.push(Notice::Closed(reason));
     }
 
-    // Accepts the peer's DISC: enters Closed, reports the release and answers with a UA.
     fn accept_disc(&mut self, effects: &mut Effects)
         requires open { state_of self.old ≡ S.Open }
         requires no_frames { effects.old.frames ≡ [] }

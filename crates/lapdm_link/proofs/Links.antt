@@ -1,9 +1,15 @@
 -- Messages in I frames and UI frames are delivered in order on one link.
 use Rattle.{
   lapdm_link.{
-    proofs.{Acting.{IsCalled, IsTaken, ReportsUnit, unit_in}, Directions.climbs-le, Events.{AllOf, IsForSapi, IsPlaced, acted}},
-    proofs.Events.{content_of_body, contents_on, contents, end_of, frames-of_sapi, lines_of_step, notices_in_log-at, way},
-    proofs.{Order.{IsReported, acknowledged}, Rules.{BothHold, ending_in, notified, sends_plain}},
+    proofs.{
+      Acting.{IsCalled, IsTaken, ReportsUnit, unit_in},
+      Directions.climbs-le,
+      Events.{AllOf, IsForSapi, IsPlaced, acted, content_of_body, contents_on, contents, end_of, frames-of_sapi, lines_of_step},
+      Events.{notices_in_log-at, way},
+      Order.{IsReported, acknowledged},
+      Rules.{BothHold, ending_in, notified, sends_plain},
+      Subsequences.{IsSub, all, append, front, subsequence, trans},
+    },
     specs.Claims.{IsPrefix, IsSubsequence, LogLine, Notified, OccursAfter, acked_message_numbers, calls_in_log, delivered_messages},
     specs.{Claims.{message_in_got_notice, notices_in_log, sent_messages, ui_message_in_notice, ui_message_of_call}, Events.rival_sabm},
     specs.Worlds.World,
@@ -174,41 +180,9 @@ module _ {r q : Role} {s : Sapi} {x y : EndpointState} {ls : List LogLine} {out 
 
 -- ## Units: UI frames arrive in order or are lost: the messages reported, followed by those in transit, are a subsequence of those sent.
 
--- the first list is a subsequence of the second, as an inductive type
-pub data IsSome : List Message → List Message → Type 0 where
-  empty : IsSome [] []
-  kept : {m : Message} {xs ys : List Message} → IsSome xs ys → IsSome (m ∷ xs) (m ∷ ys)
-  dropped : {m : Message} {xs ys : List Message} → IsSome xs ys → IsSome xs (m ∷ ys)
-
-subsequence : {xs ys : List Message} → IsSome xs ys → IsSubsequence xs ys
-subsequence empty = refl
-subsequence (kept h) = inl (refl, subsequence h)
-subsequence (dropped {xs = []} h) = tt
-subsequence (dropped {xs = x ∷ xs} h) = inr (subsequence h)
-
-pub all : (xs : List Message) → IsSome xs xs
-all [] = empty
-all (x ∷ xs) = kept (all xs)
-
-front : (xs zs : List Message) → IsSome xs (xs ++ zs)
-front [] [] = empty
-front [] (z ∷ zs) = dropped (front [] zs)
-front (x ∷ xs) zs = kept (front xs zs)
-
-append : {xs ys us vs : List Message} → IsSome xs ys → IsSome us vs → IsSome (xs ++ us) (ys ++ vs)
-append empty g = g
-append (kept h) g = kept (append h g)
-append (dropped h) g = dropped (append h g)
-
-trans : {xs ys zs : List Message} → IsSome xs ys → IsSome ys zs → IsSome xs zs
-trans h empty = h
-trans (kept h) (kept g) = kept (trans h g)
-trans (dropped h) (kept g) = dropped (trans h g)
-trans h (dropped g) = dropped (trans h g)
-
 -- the UI messages that y has reported, followed by those in transit from x, are a subsequence of those that x was asked to send
 pub record HasUnits (x y : Side) : Type 0 where
-  pub units_sent : IsSome (filter_map ui_message_in_notice y.notified ++ filter_map unit_in x.outgoing)
+  pub units_sent : IsSub (filter_map ui_message_in_notice y.notified ++ filter_map unit_in x.outgoing)
       (filter_map ui_message_of_call x.calls)
 
 pub ui_in_order-claim : (x y : Side) → HasUnits x y → IsSubsequence (filter_map ui_message_in_notice y.notified)
@@ -220,20 +194,20 @@ in_front : (o : Option Content) (cs : List Content) → cons_option o [] ++ cs �
 in_front None cs = refl
 in_front (Some c) cs = refl
 
-IsSome-unit_lost : (o : Option Content) (cs : List Content) → IsSome (filter_map unit_in cs) (filter_map unit_in (cons_option o cs))
-IsSome-unit_lost o cs = rw (← in_front o cs, filter_map-append) (append (front [] (filter_map unit_in (cons_option o []))) (all _))
+IsSub-unit_lost : (o : Option Content) (cs : List Content) → IsSub (filter_map unit_in cs) (filter_map unit_in (cons_option o cs))
+IsSub-unit_lost o cs = rw (← in_front o cs, filter_map-append) (append (front [] (filter_map unit_in (cons_option o []))) (all _))
 
 pub sent : {x y : Side} {a : Step} → IsStep x y a → filter_map unit_in (contents a.endpoint_step.frames) ≡
     filter_map ui_message_of_call a.layer3_call_step
 sent h = grind arith
 
 no_more : (c : Content) (ns : List Notice) (cs : List Content) → ReportsUnit c ns →
-    IsSome (filter_map ui_message_in_notice ns ++ filter_map unit_in cs) (filter_map unit_in (cons_option (content_of_body c) cs))
-no_more c ns cs (inl h) = rw h (IsSome-unit_lost (content_of_body c) cs)
+    IsSub (filter_map ui_message_in_notice ns ++ filter_map unit_in cs) (filter_map unit_in (cons_option (content_of_body c) cs))
+no_more c ns cs (inl h) = rw h (IsSub-unit_lost (content_of_body c) cs)
 no_more c ns cs (inr h) = rw (h, ← filter_map-append, in_front _ cs) (all _)
 
 pub taken : {x y : Side} {a : Step} → IsStep x y a →
-    IsSome (filter_map ui_message_in_notice a.endpoint_step.notices ++ filter_map unit_in a.remaining) (filter_map unit_in y.outgoing)
+    IsSub (filter_map ui_message_in_notice a.endpoint_step.notices ++ filter_map unit_in a.remaining) (filter_map unit_in y.outgoing)
 taken {a = a} (called p c) = no_more (Ui false []) a.endpoint_step.notices a.remaining c.reports
 taken {a = a} (took {c = c} e t) = rw e (no_more c a.endpoint_step.notices _ t.reports)
 taken rival = all _
@@ -248,4 +222,4 @@ ui_in_order-there a h = record { units_sent = rw (filter_map-append, append_asso
 
 pub ui_in_order-lost : (x y : Side) (o : Option Content) (cs : List Content) → HasUnits (record x { outgoing = cons_option o cs }) y →
     HasUnits (record x { outgoing = cs }) y
-ui_in_order-lost x y o cs h = record { units_sent = trans (append (all _) (IsSome-unit_lost o cs)) h.units_sent }
+ui_in_order-lost x y o cs h = record { units_sent = trans (append (all _) (IsSub-unit_lost o cs)) h.units_sent }

@@ -4,11 +4,8 @@ use Rattle.lapdm_window.specs.lapdm_frame.declared.Channel.{Channel}
 use Rattle.lapdm_window.specs.lapdm_frame.Content.{Content, Rr, Rej, Frame}
 use Rattle.lapdm_window.specs.lapdm_frame.Frames.{FrameFits}
 use Rattle.lapdm_link.specs.Queues.{Queues, empty_queues, queue_of, with_items_appended, queue_length, IsOldestSentOrNone}
-use Rattle.lapdm_link.specs.Events.{Event, Deliver, BothSides, idle_endpoints, sending_role, SideStep}
-use Rattle.lapdm_link.specs.Events.{event_step, queues_after_removal, QueueCapacity}
-use Rattle.lapdm_link.specs.Events.{bounded_capacity}
-use Rattle.lapdm_link.specs.Events.{EventRefusal, refusal_with_capacity, Answer}
-use Rattle.lapdm_link.specs.Events.{Refuses, Accepts}
+use Rattle.lapdm_link.specs.Events.{Event, Deliver, BothSides, idle_endpoints, sending_role, SideStep, event_step, queues_after_removal}
+use Rattle.lapdm_link.specs.Events.{QueueCapacity, bounded_capacity, EventRefusal, refusal_with_capacity, Answer, Refuses, Accepts}
 
 -- the state of a session: the capacity of its queues, the channel, the endpoints, and the frames in transit
 pub record World : Type 0 where

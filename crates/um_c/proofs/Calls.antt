@@ -1,7 +1,7 @@
 -- What each C call returns and writes.
 use Rattle.{
   fire_repair.{
-    proofs.Lemmas.one_answer,
+    proofs.RepairResults.one_answer,
     specs.{Answers.IsRepairResult, declared.repairs.RepairAnswer.{TheVariants.{Holds, NoRepair, Repaired}, RepairAnswer}},
   },
   lapdm_end.{proofs.Lemmas.one_values, specs.{Abstraction.Represents, Parts.{EndpointValues, values_of}, Refinement.RefusesAsSpecified}},
@@ -23,7 +23,7 @@ use Rattle.{
     segmenting.declared.joiner.ReassemblyState.ReassemblyState,
   },
   um_list_receive.proofs.list_decode.Lemmas.{both_unique, one_margin},
-  um_block.proofs.{Lemmas.{one_received_access, one_received_block, one_received_sync}, interleave.Lemmas.same_coded},
+  um_block.proofs.{Lemmas.{one_received_access, one_received_block, one_received_sync}, interleave.Bursts.same_coded},
   um_block.specs.{Received.coded_soft_bits, declared.received.Received.Received, interleave.Bursts.IsInterleaved},
   um_c.specs.{
     Effects.{blank_notice, c_effects, c_notice},

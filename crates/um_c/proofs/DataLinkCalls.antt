@@ -1,26 +1,19 @@
 -- What each data link call returns and writes.
-use Rattle.std.proofs.Common.{◌≡◌, ◌≢◌, ◌≤◌, ◌∙◌, refl, sym, ap, subst, arith, ℕ, Bool, true, false, List, []}
+use Rattle.std.proofs.Common.{◌≡◌, ◌≢◌, ◌≤◌, ◌∙◌, refl, sym, ap, subst, arith, ℕ, false, List, []}
 use Rattle.std.proofs.Common.{◌∷◌, ◌++◌, ◌-◌, map, length}
 use Rattle.std.proofs.Common.{replicate, Option, Some, None}
-use Rattle.std.specs.Option.{unwrap_or, is_none, option_map}
-use Rattle.std.specs.Prelude.{◌==◌, if◌then◌else◌}
+use Rattle.std.specs.Prelude.{◌==◌}
 use Rattle.std.proofs.lemmas.Bool.Decides.{nat_tests}
 use Rattle.lapdm_frame.specs.Frames.{octets_of}
-use Rattle.lapdm_frame.specs.Content.{Frame, fill_frame}
-use Rattle.lapdm_frame.specs.Readings.{IsOnlyEncodedFrame, IsOnlyRefusalReason}
-use Rattle.lapdm_frame.specs.declared.{Channel.{Channel}, Refusal.{Refusal}}
+use Rattle.lapdm_frame.specs.declared.{Channel.{Channel}}
 use Rattle.um_air.specs.segmenting.Segments.{Message}
-use Rattle.um_air.specs.lapdm_window.declared.Sapi.TheVariants.{Zero, Three}
-use Rattle.um_air.specs.lapdm_window.Ends.{Role, command_cr}
 use Rattle.um_air.specs.lapdm_window.declared.Sapi.{Sapi}
 use Rattle.um_air.specs.lapdm_window.declared.Notice.{Notice}
 use Rattle.lapdm_datalink.specs.declared.data_links.DataLink.{DataLink}
 use Rattle.um_air.specs.lapdm_window.declared.Refused.{Refused}
 use Rattle.um_air.specs.lapdm_window.Calls.{Call, SendsUi, IsCallAllowedForEndpoint, refusal_of}
 use Rattle.lapdm_datalink.specs.Links.{LinkState, for_call, after_call, ui_frame}
-use Rattle.lapdm_datalink.specs.DataLinks.{DataLinkState, link_with_sapi, with_link, after_arrival, sapi_for_frame, arrival_notices}
-use Rattle.lapdm_datalink.specs.DataLinks.{data_link_outcome}
-use Rattle.lapdm_datalink.specs.Abstraction.{notices_if}
+use Rattle.lapdm_datalink.specs.DataLinks.{DataLinkState, link_with_sapi, with_link}
 use Rattle.lapdm_datalink.specs.Parts.{LinkValues, DataLinkValues, RepresentDataLink, RepresentSomeDataLink, data_link_values_of}
 use Rattle.lapdm_datalink.specs.Sides as D
 use Rattle.lapdm_datalink.proofs.Lemmas.{one_data_link_values}
@@ -30,9 +23,8 @@ use Rattle.um_c.specs.EndCalls.{call_refusal_number}
 use Rattle.um_c.specs.Effects.{c_notice, blank_notice}
 use Rattle.um_c.specs.DataLinkCalls.{answer_from, link_values_from, data_link_values_from, RepresentsDataLink, RepresentsSomeDataLink}
 use Rattle.um_c.specs.DataLinkCalls.{IsWrittenFor, owed_number, answer_octets, c_timed_end, c_data_link, c_report, reports_of}
-use Rattle.um_c.specs.DataLinkCalls.{reports_if_taken}
 use Rattle.um_c.specs.DataLinkCalls.{DataLinkAnswersCall, DataLinkChangesLink, DataLinkChanges, DataLinkReceivesBlock, DataLinkFillsSlot}
-use Rattle.um_c.specs.DataLinkCalls.{DataLinkEncodesUnit, with_layer1, slot_answer, slot_frame}
+use Rattle.um_c.specs.DataLinkCalls.{DataLinkEncodesUnit, with_layer1}
 use Rattle.um_c.specs.declared.datalinks.CReport.{CReport}
 use Rattle.um_c.proofs.Calls.{end-c_struct, is_nonzero-bit_of_bool}
 
@@ -42,7 +34,7 @@ answer-c_struct : (a : Option (List ℕ)) → answer_from (owed_number a) (answe
 answer-c_struct None = refl
 answer-c_struct (Some block) = refl
 
-link-c_struct : (x : LinkValues) → length x.endpoint.window.held ≤ 8 → link_values_from (c_timed_end x) ≡ Some x
+pub link-c_struct : (x : LinkValues) → length x.endpoint.window.held ≤ 8 → link_values_from (c_timed_end x) ≡ Some x
 link-c_struct x few = rw (end-c_struct x.endpoint few, answer-c_struct x.answer, is_nonzero-bit_of_bool x.is_sent) refl
 
 data_link-c_struct : (m : DataLink) → data_link_values_from (c_data_link (data_link_values_of m)) ≡ Some (data_link_values_of m)
@@ -250,82 +242,6 @@ module _ {c : CDataLink} {m : DataLink} (read : IsRead c m) where
     invalid_struct = λ none. absurd (none read.some);
     unchanged = λ other. absurd (other refl);
   }
-
-  pub receives_none : (octets : List ℕ) (channel : Channel) (reason : Refusal) (r : CReport) →
-      ((s : DataLinkState) → D.Represents m s → channel ≡ s.link0.endpoint.channel) → IsOnlyRefusalReason channel octets reason →
-      DataLinkReceivesBlock octets 9 c c r r
-  receives_none octets channel reason r on refusal = record {
-    carried_out = λ s h f only. absurd ((rw (on s (read.represents s h)) at refusal).no_frame f only.frame);
-    reported = λ s h f only. absurd ((rw (on s (read.represents s h)) at refusal).no_frame f only.frame);
-    invalid_frame = λ s h other refused. refl;
-    invalid_struct = λ none. absurd (none read.some);
-    unchanged = λ other. (refl, refl);
-  }
-
-  pub receives : (octets : List ℕ) (channel : Channel) (f : Frame) (n : DataLink) (after : CDataLink) (r report : CReport) →
-      ((s : DataLinkState) → D.Represents m s → channel ≡ s.link0.endpoint.channel) → IsOnlyEncodedFrame channel f octets →
-      after ≡ c_data_link (data_link_values_of n) → ((s : DataLinkState) → D.Represents m s →
-      D.Represents n (after_arrival f s)) →
-      ((s : DataLinkState) → D.Represents m s → report ≡ c_report (reports_if_taken (sapi_for_frame f s) (arrival_notices f s))) →
-      DataLinkReceivesBlock octets 0 c after r report
-  receives octets channel f n after r report on frame wrote does reports =
-      let known : (s : DataLinkState) → RepresentsDataLink c s → IsOnlyEncodedFrame s.link0.endpoint.channel f octets =
-      λ s h. rw (on s (read.represents s h)) at frame in
-      record {
-        carried_out = λ s h g only. rw ((known s h).unique g only.frame)
-            (record { answer_is_0 = refl; written = written n _ after (does s (read.represents s h)) wrote });
-        reported = λ s h g only. rw ((known s h).unique g only.frame) (reports s (read.represents s h));
-        invalid_frame = λ s h reason refusal. absurd (refusal.no_frame f (known s h).frame);
-        invalid_struct = λ none. absurd (none read.some);
-        unchanged = λ other. absurd (other refl);
-      }
-
-  slot_answer-is : (c : Channel) (a : Option Frame) → (if is_none (option_map (octets_of c) a) then 10 else 0) ≡ slot_answer a
-  slot_answer-is c None = refl
-  slot_answer-is c (Some f) = refl
-
-  slot_block-is : (c : Channel) (role : Role) (a : Option Frame) →
-      unwrap_or (option_map (octets_of c) a) (octets_of c (fill_frame (command_cr role))) ≡ octets_of c (slot_frame role a)
-  slot_block-is c role None = refl
-  slot_block-is c role (Some f) = refl
-
-  not_seven : (b : Bool) → ◌≡◌ {A = ℕ} (if b then 10 else 0) 7 → ⊥
-  not_seven true h = absurd (omega arith)
-  not_seven false h = absurd (omega arith)
-
-  pub fills_slot : (layer1 : List ℕ) (sent : Option (List ℕ)) (channel : Channel) (role : Role) (g0 g3 : Bool) (n : DataLink)
-      (after : CDataLink) (old block plain : List ℕ) (r report : CReport) (answer : ℕ) →
-      channel ≡ D.channel_of m → role ≡ D.role_of m → after ≡ c_data_link (data_link_values_of n) →
-      plain ≡ unwrap_or sent (octets_of channel (fill_frame (command_cr role))) → block ≡ with_layer1 channel layer1 plain →
-      report ≡ c_report (reports_of Zero (notices_if g0) ++ reports_of Three (notices_if g3)) →
-      answer ≡ (if is_none sent then 10 else 0) →
-      ((s : DataLinkState) → D.Represents m s → D.Represents n (data_link_outcome s).new_state) →
-      ((s : DataLinkState) → D.Represents m s → sent ≡ option_map (octets_of (D.channel_of m)) (data_link_outcome s).frame) →
-      ((s : DataLinkState) → D.Represents m s → notices_if g0 ≡ (data_link_outcome s).notices0) →
-      ((s : DataLinkState) → D.Represents m s → notices_if g3 ≡ (data_link_outcome s).notices3) →
-      DataLinkFillsSlot layer1 answer c after old block r report
-  fills_slot layer1 sent channel role g0 g3 n after old block plain r report answer on by wrote plain_is block_is report_is answer_is does
-      sends first third =
-      let k : (s : DataLinkState) → RepresentsDataLink c s → D.Represents m s = read.represents in
-      let ch : (s : DataLinkState) → RepresentsDataLink c s → channel ≡ s.link0.endpoint.channel =
-      λ s h. on ∙ (k s h).link0.endpoint.address.channel in
-      let ro : (s : DataLinkState) → RepresentsDataLink c s → role ≡ s.link0.endpoint.role =
-      λ s h. by ∙ (k s h).link0.endpoint.address.role in
-      let se : (s : DataLinkState) → RepresentsDataLink c s →
-      sent ≡ option_map (octets_of s.link0.endpoint.channel) (data_link_outcome s).frame =
-      λ s h. sends s (k s h)
-      ∙ ap (λ (x : Channel). option_map (octets_of x) (data_link_outcome s).frame) (k s h).link0.endpoint.address.channel in
-      record {
-        written = λ s h. written n _ after (does s (k s h)) wrote;
-        answer_is = λ s h. answer_is ∙ ap (λ (x : Option (List ℕ)). if is_none x then 10 else 0) (se s h)
-            ∙ slot_answer-is s.link0.endpoint.channel (data_link_outcome s).frame;
-        block_is = λ s h. block_is ∙ (λ i. with_layer1 (ch s h i) layer1 (
-            (plain_is ∙ (λ j. unwrap_or (se s h j) (octets_of (ch s h j) (fill_frame (command_cr (ro s h j)))))
-            ∙ slot_block-is s.link0.endpoint.channel s.link0.endpoint.role (data_link_outcome s).frame) i));
-        reported = λ s h. report_is ∙ (λ i. c_report (reports_of Zero (first s (k s h) i) ++ reports_of Three (third s (k s h) i)));
-        invalid_struct = λ none. absurd (none read.some);
-        unchanged = λ seven. absurd (not_seven (is_none sent) (sym answer_is ∙ seven));
-      }
 
 module _ {c : CDataLink} {m : DataLink} (sapi : ℕ) (p : Sapi) (is : Some p ≡ sapi_of sapi) (read : IsRead c m) where
   module _ (message : Message) (layer1 old : List ℕ) where

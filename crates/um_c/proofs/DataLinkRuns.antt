@@ -81,7 +81,8 @@ lines-taken r f d (Some s) = lines-of r s (notices_of_taking (Some s) f d)
 
 -- ---- blocks
 
-only_encoded : (channel : Channel) (f : Frame) (block : List ℕ) → IsFrameCoding channel f block → IsOnlyEncodedFrame channel f block
+pub only_encoded : (channel : Channel) (f : Frame) (block : List ℕ) → IsFrameCoding channel f block →
+    IsOnlyEncodedFrame channel f block
 only_encoded channel f block h = by (one_reading channel block h.count)
   where
     by : HasUniqueReading channel block → IsOnlyEncodedFrame channel f block

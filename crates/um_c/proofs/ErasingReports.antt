@@ -1,26 +1,22 @@
 -- The report on a block that was decoded with erasures is unique.
-use Rattle.std.proofs.Common.{Err, List, None, Ok, Option, Some, [], All, ap, arith, map, pos, refl, subst, sym, ℕ, ℤ, ◌∙◌}
-use Rattle.std.proofs.Common.{◌≡◌}
-use Rattle.std.proofs.lemmas.List.{ext_get_or, get_or-map, length-map}
-use Rattle.std.specs.Prelude.{IsSome, MatchOption}
-use Rattle.um_block.specs.bit_blocks.SoftValues.{AllSoftBits, IsSoftBit}
-use Rattle.um_block.specs.Received.{coded_soft_bits}
-use Rattle.um_block.specs.interleave.Bursts.{IsInterleaved}
-use Rattle.um_c.proofs.Calls.{equal_reports}
-use Rattle.um_c.specs.Reports.{ReportsBlock}
-use Rattle.um_c.specs.SlotCalls.{IsErasingReport, IsSlotBlock, SlotTakesWith, decoded_bursts, no_bursts, slot_refusal_number}
-use Rattle.um_c.specs.declared.blocks.BlockReport.{BlockReport}
-use Rattle.um_c.specs.declared.erasing.Erasure.{Erasure}
-use Rattle.um_c.specs.declared.slots.SlotBlock.{SlotBlock}
-use Rattle.um_erasing.proofs.Lemmas.{one_erasing}
-use Rattle.um_erasing.specs.Erasing.{IsErasingDecodedBlock, without_burst}
-use Rattle.um_erasing.specs.declared.blocks.ErasingDecodedBlock.{ErasingDecodedBlock}
-use Rattle.um_slot.specs.Slots.{TakesWith, softened, take_frame}
-use Rattle.um_slot.specs.declared.settings.Settings.{Settings}
-use Rattle.um_slot.specs.declared.slots.FinishedBlock.{FinishedBlock}
-use Rattle.um_slot.specs.declared.slots.Refusal.{Refusal}
-use Rattle.um_slot.specs.declared.slots.Refusal.TheVariants.{Invalid}
-use Rattle.um_slot.specs.declared.slots.Slot.{Slot}
+use Rattle.{
+  std.proofs.Common.{Err, List, None, Ok, Option, Some, [], All, ap, arith, map, pos, refl, subst, sym, ℕ, ℤ, ◌∙◌, ◌≡◌},
+  std.{proofs.lemmas.List.{ext_get_or, get_or-map, length-map}, specs.Prelude.{IsSome, MatchOption}},
+  um_block.specs.{bit_blocks.SoftValues.{AllSoftBits, IsSoftBit}, Received.coded_soft_bits, interleave.Bursts.IsInterleaved},
+  um_c.{
+    proofs.Calls.equal_reports,
+    specs.{Reports.ReportsBlock, SlotCalls.{IsErasingReport, IsSlotBlock, SlotTakesWith, decoded_bursts, no_bursts, slot_refusal_number}},
+    specs.declared.{blocks.BlockReport.BlockReport, erasing.Erasure.Erasure, slots.SlotBlock.SlotBlock},
+  },
+  um_erasing.{
+    proofs.Lemmas.one_erasing,
+    specs.{Erasing.{IsErasingDecodedBlock, without_burst}, declared.blocks.ErasingDecodedBlock.ErasingDecodedBlock},
+  },
+  um_slot.specs.{
+    Slots.{TakesWith, softened, take_frame},
+    declared.{settings.Settings.Settings, slots.{FinishedBlock.FinishedBlock, Refusal.{Refusal, TheVariants.Invalid}, Slot.Slot}},
+  },
+}
 
 one_erased : (erased : Option ℕ) (a b : ℕ) → MatchOption erased (a ≡ 4) (λ index. a ≡ index) →
     MatchOption erased (b ≡ 4) (λ index. b ≡ index) → a ≡ b

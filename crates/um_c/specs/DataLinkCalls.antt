@@ -1,7 +1,7 @@
 -- What the data link calls of the C library return and write.
-use Rattle.std.specs.Prelude.{ℕ, ◌≡◌, ◌≢◌, ◌-◌, Bool, true, false, if◌then◌else◌, List, [], ◌++◌, map, length}
-use Rattle.std.specs.Prelude.{drop}
-use Rattle.std.specs.Prelude.{replicate, Option, Some, None}
+use Rattle.std.specs.Prelude.{ℕ, ◌≡◌, ◌≢◌, ◌-◌, Bool, true, false, if◌then◌else◌, ◌&&◌, List, [], ◌++◌, map}
+use Rattle.std.specs.Prelude.{length, drop, replicate, Option, Some, None}
+use Rattle.std.specs.Option.{is_none, option_map}
 use Rattle.lapdm_frame.specs.declared.Channel.{Channel}
 use Rattle.lapdm_frame.specs.declared.Channel.TheVariants.{Sdcch, Sacch}
 use Rattle.lapdm_frame.specs.declared.Refusal.{Refusal}
@@ -16,12 +16,15 @@ use Rattle.um_air.specs.lapdm_window.declared.Refused.{Refused}
 use Rattle.um_air.specs.lapdm_window.Ends.{Role, command_cr}
 use Rattle.um_air.specs.lapdm_window.Calls.{Call, SendsUi, IsCallAllowedForEndpoint, refusal_of}
 use Rattle.lapdm_end.specs.declared.Role.{Role as Side}
-use Rattle.lapdm_end.specs.Addresses as A
 use Rattle.lapdm_end.specs.Parts.{EndpointValues}
-use Rattle.lapdm_datalink.specs.Links.{LinkState, for_call, after_call, ui_frame}
+use Rattle.lapdm_datalink.specs.declared.links.Link.{Link}
+use Rattle.lapdm_datalink.specs.declared.data_links.Slot.{Slot}
+use Rattle.lapdm_datalink.specs.Abstraction.{notices_if}
+use Rattle.lapdm_datalink.specs.Links.{LinkState, for_call, after_call, after_frame, ui_frame, slot_outcome}
 use Rattle.lapdm_datalink.specs.DataLinks.{DataLinkState, initial_data_link, link_with_sapi, with_link, sapi_for_frame, after_arrival}
-use Rattle.lapdm_datalink.specs.DataLinks.{arrival_notices, data_link_outcome}
-use Rattle.lapdm_datalink.specs.Parts.{LinkValues, DataLinkValues, RepresentDataLink}
+use Rattle.lapdm_datalink.specs.DataLinks.{arrival_notices, data_link_outcome, with_clocks_moved, DataLinkOutcome, with_sapi3}
+use Rattle.lapdm_datalink.specs.DataLinks.{notices_of_taking}
+use Rattle.lapdm_datalink.specs.Parts.{LinkValues, ValuesRepresent, DataLinkValues, RepresentDataLink, acts_in_slot}
 use Rattle.um_c.specs.declared.datalinks.CTimedEnd.{CTimedEnd}
 use Rattle.um_c.specs.declared.datalinks.CDataLink.{CDataLink}
 use Rattle.um_c.specs.declared.datalinks.CReport.{CReport}
@@ -29,6 +32,8 @@ use Rattle.um_c.specs.Plain.{is_nonzero}
 use Rattle.um_c.specs.Effects.{c_notice, blank_notice}
 use Rattle.um_c.specs.States.{sapi_of, sapi_number, endpoint_values_from, c_endpoint}
 use Rattle.um_c.specs.EndCalls.{call_refusal_number}
+use Rattle.lapdm_end.specs.Addresses as A
+use Rattle.lapdm_datalink.specs.Abstraction as L
 
 -- ---- the structs
 
@@ -62,6 +67,12 @@ data_link_values_if_valid c x y = None
 
 abbrev pub data_link_values_from : CDataLink → Option DataLinkValues
 data_link_values_from c = data_link_values_if_valid c (link_values_from c.link0) (link_values_from c.link3)
+
+-- the struct represents the link `l`
+pub record RepresentsLink (c : CTimedEnd) (l : LinkState) : Type 0 where
+  pub values : LinkValues
+  pub decoded : link_values_from c ≡ Some values
+  pub represents : ValuesRepresent values l
 
 -- the struct represents the data link `s`
 pub record RepresentsDataLink (c : CDataLink) (s : DataLinkState) : Type 0 where
@@ -107,6 +118,52 @@ pub record IsWrittenFor (s : DataLinkState) (after : CDataLink) : Type 0 where
   pub represents : RepresentsDataLink after s
   pub canonical : after ≡ c_data_link represents.values
 
+-- the struct of a link is in canonical form, the form that the calls write
+abbrev pub IsCanonicalLink : CTimedEnd → Type 0
+IsCanonicalLink c = (x : LinkValues) × (link_values_from c ≡ Some x) × (c ≡ c_timed_end x)
+
+-- the struct of a link after a call: in canonical form if the link acted, else as it was
+abbrev pub IsLinkWritten : (acts : Bool) (before after : CTimedEnd) → Type 0
+IsLinkWritten true before after = IsCanonicalLink after
+IsLinkWritten false before after = after ≡ before
+
+-- the struct was written over `before` for the data link `s`: the links that acted in canonical form, and the two bits
+pub record IsWrittenOver (before : CDataLink) (acts : Sapi → Bool) (s : DataLinkState) (after : CDataLink) : Type 0 where
+  pub represents : RepresentsDataLink after s
+  pub link0 : IsLinkWritten (acts Zero) before.link0 after.link0
+  pub link3 : IsLinkWritten (acts Three) before.link3 after.link3
+  pub heard0 : after.heard0 ≡ bit_of_bool s.heard_sapi0
+  pub main : after.main ≡ bit_of_bool s.is_main_established
+
+-- the struct of a link once a slot has been counted, unless its clock is stopped
+abbrev pub counted : (is_stopped : Bool) → CTimedEnd → CTimedEnd
+counted is_stopped c = record c { clock = if is_stopped then c.clock else c.clock - 1 }
+
+-- the struct of a data link whose links have counted a slot: that of SAPI 3 unless a frame of SAPI 0 took the place of its answer
+abbrev pub with_clocks_counted : CDataLink → CDataLink
+with_clocks_counted c = record c { link0 = counted false c.link0; link3 = counted (is_nonzero c.heard0) c.link3 }
+
+-- the link that acts when a frame arrives: that which takes it, if any
+abbrev pub is_taker : Option Sapi → Sapi → Bool
+is_taker (Some Zero) Zero = true
+is_taker (Some Three) Three = true
+is_taker taker sapi = false
+
+-- the links that act in a slot of this data link, whose clocks were moved: SAPI 3 only if SAPI 0 sends nothing
+abbrev pub acts_in_slot_of : DataLinkState → Sapi → Bool
+acts_in_slot_of s Zero = acts_in_slot s.link0
+acts_in_slot_of s Three = is_none (slot_outcome s.link0).frame && acts_in_slot s.link3
+
+-- what a data link does in a slot, once its clocks were moved
+abbrev pub slot_of : DataLinkState → DataLinkOutcome
+slot_of s = let o = slot_outcome s.link0 in with_sapi3 o o.frame s
+
+-- the links in the struct were read: `link0` is that of SAPI 0, and `acts3` says whether that of SAPI 3 acts in the next slot if it has it
+pub record AreRead (c : CDataLink) (link0 : Link) (acts3 : Bool) : Type 0 where
+  pub some : RepresentsSomeDataLink c
+  pub link0_is : (s : DataLinkState) → RepresentsDataLink c s → L.Represents link0 s.link0
+  pub acts3_is : (s : DataLinkState) → RepresentsDataLink c s → acts3 ≡ acts_in_slot (with_clocks_moved s).link3
+
 -- ---- reports
 
 -- the struct of these notices, each with its SAPI, in order, with zeros in the unused array elements
@@ -131,6 +188,11 @@ reports_if_taken (Some sapi) ns = reports_of sapi ns
 pub record Succeeds (s : DataLinkState) (answer : ℕ) (after : CDataLink) : Type 0 where
   pub answer_is_0 : answer ≡ 0
   pub written : IsWrittenFor s after
+
+-- the call succeeds, and `after` is written over `before` for this data link
+pub record SucceedsOver (before : CDataLink) (acts : Sapi → Bool) (s : DataLinkState) (answer : ℕ) (after : CDataLink) : Type 0 where
+  pub answer_is_0 : answer ≡ 0
+  pub written : IsWrittenOver before acts s after
 
 -- if role, channel and both T200 are valid, the call returns true, and `after` is written for a new data link; otherwise it returns false
 -- and writes nothing
@@ -175,7 +237,7 @@ pub record DataLinkChanges (change : DataLinkState → DataLinkState) (answer : 
 pub record DataLinkReceivesBlock (octets : List ℕ) (answer : ℕ) (before after : CDataLink) (report_old report : CReport) : Type 0 where
   pub carried_out : (s : DataLinkState) → RepresentsDataLink before s → (f : Frame) →
       IsOnlyEncodedFrame s.link0.endpoint.channel f octets →
-      Succeeds (after_arrival f s) answer after
+      SucceedsOver before (is_taker (sapi_for_frame f s)) (after_arrival f s) answer after
   pub reported : (s : DataLinkState) → RepresentsDataLink before s → (f : Frame) →
       IsOnlyEncodedFrame s.link0.endpoint.channel f octets →
       report ≡ c_report (reports_if_taken (sapi_for_frame f s) (arrival_notices f s))
@@ -203,7 +265,8 @@ slot_frame role (Some f) = f
 pub record DataLinkFillsSlot (layer1 : List ℕ) (answer : ℕ) (before after : CDataLink) (block_old block : List ℕ)
     (report_old report : CReport) : Type 0
   where
-    pub written : (s : DataLinkState) → RepresentsDataLink before s → IsWrittenFor (data_link_outcome s).new_state after
+    pub written : (s : DataLinkState) → RepresentsDataLink before s →
+        IsWrittenOver (with_clocks_counted before) (acts_in_slot_of (with_clocks_moved s)) (data_link_outcome s).new_state after
     pub answer_is : (s : DataLinkState) → RepresentsDataLink before s → answer ≡ slot_answer (data_link_outcome s).frame
     pub block_is : (s : DataLinkState) → RepresentsDataLink before s → block ≡ with_layer1 s.link0.endpoint.channel layer1
         (octets_of s.link0.endpoint.channel (slot_frame s.link0.endpoint.role (data_link_outcome s).frame))
@@ -211,6 +274,30 @@ pub record DataLinkFillsSlot (layer1 : List ℕ) (answer : ℕ) (before after : 
         report ≡ c_report (reports_of Zero o.notices0 ++ reports_of Three o.notices3)
     pub invalid_struct : (RepresentsSomeDataLink before → ⊥) → answer ≡ 7
     pub unchanged : answer ≡ 7 → (after ≡ before) × (block ≡ block_old) × (report ≡ report_old)
+
+-- the data link `s`, whose clocks were moved, did this in a slot
+pub record SlotIsFilled (s : DataLinkState) (slot : Slot) (before after : CDataLink) : Type 0 where
+  pub represents : RepresentsDataLink after (slot_of s).new_state
+  pub link0 : IsLinkWritten (acts_in_slot_of s Zero) before.link0 after.link0
+  pub link3 : IsLinkWritten (acts_in_slot_of s Three) before.link3 after.link3
+  pub heard0 : after.heard0 ≡ before.heard0
+  pub main : after.main ≡ before.main
+  pub block : slot.block ≡ option_map (octets_of s.link0.endpoint.channel) (slot_of s).frame
+  pub gave_up0 : notices_if slot.gave_up0 ≡ (slot_of s).notices0
+  pub gave_up3 : notices_if slot.gave_up3 ≡ (slot_of s).notices3
+
+-- the data link after the link of this SAPI, if any, takes a frame
+abbrev pub passed_to : Option Sapi → Frame → DataLinkState → DataLinkState
+passed_to None f s = s
+passed_to (Some sapi) f s = with_link sapi (after_frame f (link_with_sapi sapi s)) s
+
+-- so it did, and these are its notices
+pub record FrameIsPassed (sapi : Option Sapi) (f : Frame) (s : DataLinkState) (before after : CDataLink) (notices : List Notice) : Type 0
+  where
+    pub represents : RepresentsDataLink after (passed_to sapi f s)
+    pub link0 : IsLinkWritten (is_taker sapi Zero) before.link0 after.link0
+    pub link3 : IsLinkWritten (is_taker sapi Three) before.link3 after.link3
+    pub reports : reports_if_taken sapi notices ≡ reports_if_taken sapi (notices_of_taking sapi f s)
 
 -- the UI frame with this message is written; the call returns the number of a refusal, 8 if no link has this SAPI, and 7 if the struct
 -- represents no data link; unless it returns 0, it writes nothing

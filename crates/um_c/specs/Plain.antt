@@ -1,7 +1,6 @@
 -- The C struct of a frame: the number of its kind, and every field that a frame of any kind may have.
-use Rattle.std.specs.Prelude.{ℕ, ◌≡◌, ◌==◌, ◌⊎◌, ◌-◌, if◌then◌else◌}
-use Rattle.std.specs.Prelude.{nat_le, not, Bool, true, false, List, slice_get}
-use Rattle.std.specs.Prelude.{◌++◌, length, take, replicate, Option, Some, None}
+use Rattle.std.specs.Prelude.{ℕ, ◌≡◌, ◌==◌, ◌⊎◌, ◌-◌, if◌then◌else◌, nat_le, not, Bool, true, false, List}
+use Rattle.std.specs.Prelude.{slice_get, ◌++◌, length, take, replicate, Option, Some, None}
 use Rattle.lapdm_frame.specs.declared.Channel.{Channel}
 use Rattle.lapdm_frame.specs.declared.Channel.TheVariants.{Sdcch, Sacch}
 use Rattle.lapdm_frame.specs.declared.Refusal.{Refusal}

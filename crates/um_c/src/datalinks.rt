@@ -1,25 +1,28 @@
 //! C functions for a data link: one side of a channel with its loop. The caller holds the state.
-ghost use Rattle.std.specs.Prelude.{ℕ, List, ◌≡◌, ◌≢◌, ◌↔◌, ◌≤◌, ◌<◌, ◌==◌, ◌&&◌, not, ◌-◌};
-ghost use Rattle.std.specs.Prelude.{length, replicate, ◌++◌, if◌then◌else◌, Option, Some};
+ghost use Rattle.std.specs.Prelude.{ℕ, Bool, List, ◌≡◌, ◌≢◌, ◌↔◌, ◌≤◌, ◌<◌, ◌==◌, ◌&&◌, ◌||◌};
+ghost use Rattle.std.specs.Prelude.{◌-◌, not, length, replicate, ◌++◌, if◌then◌else◌, Option, Some};
 ghost use Rattle.std.specs.Prelude.{None, true, false, IsTrue, IsSome, IfSome, MatchOption};
 ghost use Rattle.lapdm_frame.specs.declared.Channel.{Channel as ChannelOf};
-ghost use Rattle.lapdm_frame.specs.Content.{fill_frame};
-ghost use Rattle.lapdm_frame.specs.Frames.{octets_of};
+ghost use Rattle.lapdm_frame.specs.Content.{fill_frame, frame_of_view};
+ghost use Rattle.lapdm_frame.specs.Frames.{octets_of, bit_of_bool, FrameFits};
 ghost use Rattle.um_air.specs.lapdm_window.declared.Sapi.TheVariants as P;
 ghost use Rattle.um_air.specs.lapdm_window.declared.Notice.TheVariants.{Closed};
 ghost use Rattle.um_air.specs.lapdm_window.declared.Reason.TheVariants.{Failed};
 ghost use Rattle.lapdm_datalink.specs.Abstraction.{notices_if};
-ghost use Rattle.std.specs.Option.{unwrap_or, is_none};
+ghost use Rattle.std.specs.Option.{unwrap_or, is_none, option_map};
 ghost use Rattle.um_air.specs.segmenting.Buffers.{octets_in_buffer};
 ghost use Rattle.um_air.specs.lapdm_window.Ends.{command_cr};
 ghost use Rattle.um_air.specs.lapdm_window.Calls.{endpoint_call_of, IsCallAllowedFor, IsCallAllowedForEndpoint, Opens, OpensWithoutInfo};
 ghost use Rattle.um_air.specs.lapdm_window.Calls.{Sends, Closes};
 ghost use Rattle.lapdm_end.specs.Addresses.{spec_role_of};
-ghost use Rattle.lapdm_datalink.specs.Links.{afresh, IsLinkCall};
-ghost use Rattle.lapdm_datalink.specs.DataLinks.{DataLinkState, link_with_sapi, having_main};
-ghost use Rattle.lapdm_datalink.specs.Parts.{values_of_parts, IsWritable, data_link_values_of, data_link_values_of_parts};
+ghost use Rattle.lapdm_datalink.specs.Links.{LinkState, afresh, IsLinkCall, slot_outcome};
+ghost use Rattle.lapdm_datalink.specs.DataLinks.{DataLinkState, link_with_sapi, having_main, holds_up_sapi3};
+ghost use Rattle.lapdm_datalink.specs.Abstraction as L;
+ghost use Rattle.lapdm_datalink.specs.Abstraction.{channel_of as link_channel};
+ghost use Rattle.lapdm_datalink.specs.Parts.{acts_in_slot, values_of_parts, IsWritable, data_link_values_of, data_link_values_of_parts};
 ghost use Rattle.lapdm_datalink.specs.Sides.{role_of as data_link_role, Represents};
 ghost use Rattle.um_c.specs.declared.datalinks.CDataLink.{CDataLink as Struct};
+ghost use Rattle.um_c.specs.declared.datalinks.CTimedEnd.{CTimedEnd as LinkStruct};
 ghost use Rattle.um_c.specs.Plain.{channel_of, is_nonzero};
 ghost use Rattle.um_c.specs.States.{role_of, sapi_number};
 ghost use Rattle.um_c.specs.Effects.{c_notice, blank_notice};
@@ -44,6 +47,15 @@ ghost use Rattle.um_c.specs.DataLinkCalls.{
   DataLinkChangesLink,
   DataLinkChanges,
   DataLinkReceivesBlock,
+  RepresentsLink,
+  IsLinkWritten,
+  IsCanonicalLink,
+  IsWrittenOver,
+  counted,
+  with_clocks_counted,
+  AreRead,
+  SlotIsFilled,
+  FrameIsPassed,
   with_layer1,
   DataLinkFillsSlot,
   DataLinkEncodesUnit,
@@ -53,9 +65,11 @@ use crate::effects::{CNotice, blank_notice, write_notices};
 use crate::ends::{CALL_NOT_SUPPORTED, INVALID_ENDPOINT, INVALID_FRAME, call_refusal_number};
 use crate::frames::channel_of;
 use crate::states::{CEndpoint, endpoint_view_of, role_of, sapi_of, write_endpoint_view};
-use lapdm_datalink::{DataLink, DataLinkView, LinkView, Slot};
+use lapdm_datalink::{
+    DataLink, DataLinkView, Link, LinkSlot, LinkView, Slot, are_beside, holds_up_sapi3,
+};
 use lapdm_end::{Call, Effects, MessageBuffer, Notice, Role, Sapi};
-use lapdm_frame::{BLOCK_OCTETS, Channel, fill_on, read_on};
+use lapdm_frame::{BLOCK_OCTETS, Channel, FrameView, fill_on, read_on};
 
 const SLOT_IS_FREE: u8 = 10;
 
@@ -99,14 +113,19 @@ pub struct CReport {
     pub notice_count: u8,
 }
 
-/// Law: two structs that calls wrote for the same data link are equal, octet by octet.
+/// Law: two structs that calls wrote for the same data link are equal, octet by octet. A call that writes only the links that act keeps a
+/// struct in the form of a new one, and so does counting a slot.
 pub fn law_equal_data_links_have_equal_structs()
-    ensures { (a b : Struct) (s : DataLinkState) → IsWrittenFor s a → IsWrittenFor s b → a ≡ b }
+    ensures equal { (a b : Struct) (s : DataLinkState) → IsWrittenFor s a → IsWrittenFor s b → a ≡ b }
+    ensures links { (a : Struct) (s : DataLinkState) → IsWrittenFor s a → IsCanonicalLink a.link0 × IsCanonicalLink a.link3 }
+    ensures kept { (before after : Struct) (acts : SapiOf → Bool) (s : DataLinkState) → IsCanonicalLink before.link0
+        → IsCanonicalLink before.link3 → IsWrittenOver before acts s after → IsWrittenFor s after }
+    ensures counts { (is_stopped : Bool) (c : LinkStruct) → IsCanonicalLink c → IsCanonicalLink (counted is_stopped c) }
 {}
 
 /// Law: in a program that connects two new data links, makes no end anew and opens no closed link again, in which each side takes the
-/// oldest block in transit to it or a fill frame, messages are delivered in order and before they are acknowledged, and each link is closed
-/// at most once.
+/// oldest block in transit to it or the other side's fill frame, messages are delivered in order and before they are acknowledged, and each
+/// link is closed at most once.
 pub fn law_joined_data_links_deliver_in_order()
     ensures delivery { (channel : ChannelOf) (t200 : SpecRole → SapiOf → ℕ) (a z : PairState) (steps : List PairStep)
         → IsPairStart channel t200 a → IsPairRun a steps z → Claims (pair_log steps) }
@@ -379,17 +398,96 @@ pub extern "C" fn um_datalink_take(
     ensures { DataLinkReceivesBlock octets.now result data_link.old data_link.new report.old report.new }
 {
     let mut effects = Effects::new();
-    let mut held = placeholder_for(data_link);
-    if !read_data_link(data_link, &mut held) {
+    let mut held = placeholder_link();
+    let Some(_) = read_links(data_link, &mut held) else {
         return INVALID_ENDPOINT;
-    }
+    };
     let Ok(frame) = read_on(octets, held.channel()) else {
         return INVALID_FRAME;
     };
-    let sapi = held.take(&frame, &mut effects);
+    let sapi = held.sapi_for(&frame, data_link.main != 0);
+    pass_frame(sapi, &frame, &mut held, &mut effects, data_link);
+    hear(&frame, data_link);
     write_taken(sapi, effects.notices.as_slice(), report);
-    write_data_link(&held, data_link);
     0
+}
+
+/// Creates a placeholder, which is then overwritten with one link in the struct after the other.
+fn placeholder_link() -> Link {
+    Link::new_on(Role::Mobile, Sapi::Zero, Channel::Sdcch, 1)
+}
+
+/// Reads a link that the struct represents into `held`.
+fn read_link(c_struct: &CTimedEnd, held: &mut Link)
+    ensures { (l : LinkState) → RepresentsLink c_struct.now l → L.Represents held.new l }
+{
+    match link_view_of(c_struct) {
+        None => {}
+        Some(parts) => {
+            held.restore_any(&parts);
+        }
+    }
+}
+
+/// Reads the link of SAPI 3 and then that of SAPI 0 into `held`: one link is read over the other, so that only one has to be filled with
+/// zeros. Returns whether the first acts in the next slot if it has it, or `None` if the struct represents no data link.
+fn read_links(data_link: &CDataLink, held: &mut Link) -> Option<bool>
+    ensures { MatchOption result (RepresentsSomeDataLink data_link.now → ⊥) (AreRead data_link.now held.new) }
+{
+    let link0 = link_view_of(&data_link.link0)?;
+    let link3 = link_view_of(&data_link.link3)?;
+    if !are_beside(&link0, &link3) {
+        return None;
+    }
+    if !held.restore_any(&link3) {
+        return None;
+    }
+    held.count_slot_unless(data_link.heard0 != 0);
+    let acts3 = held.acts_in_slot();
+    if !held.restore_any(&link0) {
+        return None;
+    }
+    Some(acts3)
+}
+
+/// Keeps in mind whether a received frame took the slot of an answer on SAPI 3.
+fn hear(frame: &FrameView<'_>, data_link: &mut CDataLink)
+    ensures { data_link.new ≡ record data_link.old {
+      heard0 = bit_of_bool (is_nonzero data_link.old.heard0 || holds_up_sapi3 (frame_of_view frame.now));
+      main = bit_of_bool (is_nonzero data_link.old.main);
+    } }
+{
+    let heard = data_link.heard0 != 0 || holds_up_sapi3(frame);
+    data_link.heard0 = u8::from(heard);
+    data_link.main = u8::from(data_link.main != 0);
+}
+
+/// Passes a frame to the link with this SAPI, if any, and writes this link; `held` is that of SAPI 0.
+fn pass_frame(
+    sapi: Option<Sapi>,
+    frame: &FrameView<'_>,
+    held: &mut Link,
+    effects: &mut Effects,
+    data_link: &mut CDataLink,
+)
+    requires some { RepresentsSomeDataLink data_link.old }
+    requires link0 { (s : DataLinkState) → RepresentsDataLink data_link.old s → L.Represents held.old s.link0 }
+    requires fits { FrameFits (link_channel held.old) (frame_of_view frame.now) }
+    ensures { (s : DataLinkState) → RepresentsDataLink data_link.old s
+        → FrameIsPassed sapi (frame_of_view frame.now) s data_link.old data_link.new effects.new.notices }
+{
+    match sapi {
+        None => {}
+        Some(Sapi::Zero) => {
+            held.take(frame, effects);
+            write_link(&held.parts(), &mut data_link.link0);
+        }
+        Some(Sapi::Three) => {
+            read_link(&data_link.link3, held);
+            held.take(frame, effects);
+            write_link(&held.parts(), &mut data_link.link3);
+        }
+    }
 }
 
 /// Writes the notices of the link that took a frame, or none if the frame was dropped.
@@ -482,16 +580,103 @@ pub extern "C" fn um_datalink_next(
 ) -> u8
     ensures { DataLinkFillsSlot layer1.now result data_link.old data_link.new block.old block.new report.old report.new }
 {
-    let mut held = placeholder_for(data_link);
-    if !read_data_link(data_link, &mut held) {
+    let mut held = placeholder_link();
+    let Some(acts3) = read_links(data_link, &mut held) else {
         return INVALID_ENDPOINT;
-    }
-    let slot = held.next();
-    let written = slot_block(slot.block, held.role(), held.channel());
-    *block = with_layer1(held.channel(), layer1, written);
+    };
+    let role = held.role();
+    let channel = held.channel();
+    count_slot(data_link);
+    held.count_slot_unless(false);
+    let slot = fill_slot(acts3, &mut held, data_link);
+    let written = slot_block(slot.block, role, channel);
+    *block = with_layer1(channel, layer1, written);
     write_given_up(&slot, report);
-    write_data_link(&held, data_link);
     slot_answer(slot.block)
+}
+
+/// Counts a slot for T200 of a link, unless its clock is stopped.
+fn count_slot_unless(is_stopped: bool, c_struct: &mut CTimedEnd)
+    ensures { c_struct.new ≡ counted is_stopped c_struct.old }
+{
+    if !is_stopped {
+        c_struct.clock = c_struct.clock.saturating_sub(1);
+    }
+}
+
+/// Counts a slot for T200 of both links.
+fn count_slot(data_link: &mut CDataLink)
+    ensures { data_link.new ≡ record (with_clocks_counted data_link.old) {
+      heard0 = 0;
+      main = bit_of_bool (is_nonzero data_link.old.main);
+    } }
+{
+    count_slot_unless(false, &mut data_link.link0);
+    count_slot_unless(data_link.heard0 != 0, &mut data_link.link3);
+    data_link.heard0 = 0;
+    data_link.main = u8::from(data_link.main != 0);
+}
+
+/// Returns what the link in the struct, which is also in `held`, does in a slot, and writes it if it acts.
+fn use_slot(held: &mut Link, c_struct: &mut CTimedEnd) -> LinkSlot
+    ensures represents { (l : LinkState) → RepresentsLink c_struct.old l → L.Represents held.old l
+        → RepresentsLink c_struct.new (slot_outcome l).link }
+    ensures written { (l : LinkState) → L.Represents held.old l → IsLinkWritten (acts_in_slot l) c_struct.old c_struct.new }
+    ensures block { (l : LinkState) → L.Represents held.old l
+        → result.block ≡ option_map (octets_of l.endpoint.channel) (slot_outcome l).frame }
+    ensures gave_up { (l : LinkState) → L.Represents held.old l → notices_if result.gave_up ≡ (slot_outcome l).notices }
+{
+    if !held.acts_in_slot() {
+        return LinkSlot {
+            block: None,
+            gave_up: false,
+        };
+    }
+    let slot = held.slot();
+    write_link(&held.parts(), c_struct);
+    slot
+}
+
+/// Returns what the link of SAPI 3 does in a slot that it has, and writes it if it acts.
+fn use_slot_of_sapi3(acts3: bool, held: &mut Link, c_struct: &mut CTimedEnd) -> LinkSlot
+    ensures represents { (l : LinkState) → RepresentsLink c_struct.old l → acts3 ≡ acts_in_slot l
+        → RepresentsLink c_struct.new (slot_outcome l).link }
+    ensures written { (l : LinkState) → RepresentsLink c_struct.old l → acts3 ≡ acts_in_slot l
+        → IsLinkWritten (acts_in_slot l) c_struct.old c_struct.new }
+    ensures block { (l : LinkState) → RepresentsLink c_struct.old l → acts3 ≡ acts_in_slot l
+        → result.block ≡ option_map (octets_of l.endpoint.channel) (slot_outcome l).frame }
+    ensures gave_up { (l : LinkState) → RepresentsLink c_struct.old l → acts3 ≡ acts_in_slot l
+        → notices_if result.gave_up ≡ (slot_outcome l).notices }
+{
+    if !acts3 {
+        return LinkSlot {
+            block: None,
+            gave_up: false,
+        };
+    }
+    read_link(c_struct, held);
+    use_slot(held, c_struct)
+}
+
+/// Returns what the data link, whose clocks were moved, does in a slot, and writes each link that acts; `held` is that of SAPI 0.
+fn fill_slot(acts3: bool, held: &mut Link, data_link: &mut CDataLink) -> Slot
+    ensures { (s : DataLinkState) → RepresentsDataLink data_link.old s → L.Represents held.old s.link0
+        → acts3 ≡ acts_in_slot s.link3 → SlotIsFilled s result data_link.old data_link.new }
+{
+    let slot0 = use_slot(held, &mut data_link.link0);
+    if let Some(_) = slot0.block {
+        return Slot {
+            block: slot0.block,
+            gave_up0: slot0.gave_up,
+            gave_up3: false,
+        };
+    }
+    let slot3 = use_slot_of_sapi3(acts3, held, &mut data_link.link3);
+    Slot {
+        block: slot3.block,
+        gave_up0: slot0.gave_up,
+        gave_up3: slot3.gave_up,
+    }
 }
 
 fn slot_block(block: Option<[u8; BLOCK_OCTETS]>, role: Role, channel: Channel) -> [u8; BLOCK_OCTETS]

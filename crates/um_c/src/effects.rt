@@ -105,10 +105,5 @@ impl CNotice {
 fn reason_number(reason: Reason) -> u8
     ensures { result ≡ reason_number reason }
 {
-    match reason {
-        Reason::Contention => 0,
-        Reason::Failed => 1,
-        Reason::Refused => 2,
-        Reason::Released => 3,
-    }
+    reason as u8
 }

@@ -7,11 +7,7 @@ ghost use Rattle.um_air.specs.segmenting.Buffers.{octets_in_buffer};
 ghost use Rattle.um_air.specs.lapdm_window.Ends.{EndpointState};
 ghost use Rattle.lapdm_end.specs.Abstraction.{Represents, role_of as link_role, sapi_of as link_sapi};
 ghost use Rattle.um_air.specs.lapdm_window.Calls.{endpoint_call_of, IsCallAllowedFor, IsCallAllowedForEndpoint, IsUiFrameCall, Opens};
-ghost use Rattle.um_air.specs.lapdm_window.Calls.{OpensWithoutInfo, Sends};
-ghost use Rattle.um_air.specs.lapdm_window.Calls.{SendsUi};
-ghost use Rattle.um_air.specs.lapdm_window.Calls.{Closes};
-ghost use Rattle.um_air.specs.lapdm_window.Calls.{T200Expires};
-ghost use Rattle.um_air.specs.lapdm_window.Calls.{SendsFillFrame};
+ghost use Rattle.um_air.specs.lapdm_window.Calls.{OpensWithoutInfo, Sends, SendsUi, Closes, T200Expires, SendsFillFrame};
 ghost use Rattle.lapdm_end.specs.Parts.{values_of};
 ghost use Rattle.um_c.specs.States.{c_endpoint, IsCanonicalStruct};
 ghost use Rattle.um_c.specs.Effects.{c_effects};
@@ -258,12 +254,5 @@ fn write_call_effects(answer: Result<(), Refused>, output: &Effects, effects: &m
 pub(crate) fn call_refusal_number(reason: Refused) -> u8
     ensures { result ≡ call_refusal_number reason }
 {
-    match reason {
-        Refused::NotIdle => 1,
-        Refused::NotOpen => 2,
-        Refused::NotRunning => 3,
-        Refused::Empty => 4,
-        Refused::TooLong => 5,
-        Refused::Full => 6,
-    }
+    reason as u8 + 1
 }

@@ -4,8 +4,7 @@ ghost use Rattle.lapdm_frame.specs.declared.Channel.{Channel as ChannelOf};
 ghost use Rattle.lapdm_frame.specs.Content.{content_of_body, field_values_of_frame_fields, frame_of_view};
 ghost use Rattle.lapdm_frame.specs.Frames.{FrameFits};
 ghost use Rattle.um_c.specs.Plain.{channel_of, frame_refusal_number, c_struct, c_frame_of_fields, frame_from_fields, content_from_fields};
-ghost use Rattle.um_c.specs.Plain.{IsFrameReadResult};
-ghost use Rattle.um_c.specs.Plain.{IsFrameWriteResult};
+ghost use Rattle.um_c.specs.Plain.{IsFrameReadResult, IsFrameWriteResult};
 
 use lapdm_frame::{
     BLOCK_OCTETS, Body, Channel, FrameFields, FrameView, Kind, Refusal, fits_on, read_on, write_on,
@@ -94,15 +93,7 @@ pub(crate) fn channel_of(number: u8) -> Option<Channel>
 fn frame_refusal_number(refusal: Refusal) -> u8
     ensures { result ≡ frame_refusal_number refusal }
 {
-    match refusal {
-        Refusal::Lpd => 1,
-        Refusal::Ea => 2,
-        Refusal::Control => 3,
-        Refusal::El => 4,
-        Refusal::Length => 5,
-        Refusal::Empty => 6,
-        Refusal::More => 7,
-    }
+    refusal as u8 + 1
 }
 
 /// Converts the frame, which must fit in a block, to a C struct.

@@ -8,18 +8,8 @@ ghost use Rattle.um_air.specs.lapdm_window.Calls.{Call};
 ghost use Rattle.um_c.specs.declared.states.CEndpoint.{CEndpoint};
 ghost use Rattle.um_c.specs.declared.effects.CEffects.{CEffects};
 ghost use Rattle.um_c.specs.EndCalls.{EndpointAnswersCall, EndpointReceivesBlock};
-ghost use Rattle.um_c.specs.Joined.{
-  ProgramState,
-  ProgramStep,
-  Calls,
-  TakesOldestBlock,
-  TakesOtherSapiBlock,
-  HasNoFrameOnSapi,
-  IsProgramStep,
-};
-ghost use Rattle.um_c.specs.Joined.{IsProgramStart};
-ghost use Rattle.um_c.specs.Joined.{IsProgramRun, DeliversOldestBlock, ReceivesOldestBlock};
-ghost use Rattle.um_c.specs.Joined.{AnyStepAllowed};
+ghost use Rattle.um_c.specs.Joined.{ProgramState, ProgramStep, Calls, TakesOldestBlock, TakesOtherSapiBlock, HasNoFrameOnSapi};
+ghost use Rattle.um_c.specs.Joined.{IsProgramStep, IsProgramStart, IsProgramRun, DeliversOldestBlock, ReceivesOldestBlock, AnyStepAllowed};
 ghost use Rattle.um_c.specs.Joined.{session_log};
 
 use lapdm_frame::BLOCK_OCTETS;

@@ -7,8 +7,7 @@ ghost use Rattle.um_air.specs.lapdm_window.Ends.{Mobile, Network, EndpointState}
 ghost use Rattle.um_c.specs.Joined.{ProgramState, IsProgramRun, DeliversOldestBlock};
 ghost use Rattle.um_c.specs.States.{StructRepresents};
 ghost use Rattle.um_c.specs.Opening.{program_of_two_endpoints, first_block, establishment_steps, CanEstablishLink, BothAreIdle};
-ghost use Rattle.um_c.specs.Opening.{mobile_after_establishment};
-ghost use Rattle.um_c.specs.Opening.{network_after_establishment};
+ghost use Rattle.um_c.specs.Opening.{mobile_after_establishment, network_after_establishment};
 
 use crate::effects::CEffects;
 use crate::ends::{um_end_open, um_end_take};

@@ -10,10 +10,9 @@ ghost use Rattle.lapdm_frame.specs.Layout.{largest_n201};
 ghost use Rattle.um_air.specs.segmenting.Segments.{max_message_octets, max_segments_per_message};
 ghost use Rattle.um_c.specs.Plain.{channel_of};
 ghost use Rattle.um_c.specs.States.{role_of, sapi_of, state_of, reassembly_from_number, window_values_from, endpoint_values_from};
-ghost use Rattle.um_c.specs.States.{StructRepresents, RepresentsSomeEndpoint, IsCanonicalStruct};
+ghost use Rattle.um_c.specs.States.{StructRepresents, RepresentsSomeEndpoint, IsCanonicalStruct, role_number, sapi_number, channel_number};
+ghost use Rattle.um_c.specs.States.{state_number, reassembly_number, buffers_of_messages, c_endpoint};
 ghost use Rattle.um_c.specs.declared.states.CEndpoint.{CEndpoint as Struct};
-ghost use Rattle.um_c.specs.States.{role_number};
-ghost use Rattle.um_c.specs.States.{sapi_number, channel_number, state_number, reassembly_number, buffers_of_messages, c_endpoint};
 
 use crate::frames::channel_of;
 use lapdm_end::{
@@ -214,10 +213,7 @@ fn write_buffers(messages: &[MessageBuffer], buffers: &mut [MessageBuffer; 8])
 fn role_number(role: Role) -> u8
     ensures { result ≡ role_number role }
 {
-    match role {
-        Role::Mobile => 0,
-        Role::Network => 1,
-    }
+    role as u8
 }
 
 fn sapi_number(sapi: Sapi) -> u8
@@ -232,30 +228,17 @@ fn sapi_number(sapi: Sapi) -> u8
 fn channel_number(channel: Channel) -> u8
     ensures { result ≡ channel_number channel }
 {
-    match channel {
-        Channel::Sdcch => 0,
-        Channel::Sacch => 1,
-    }
+    channel as u8
 }
 
 fn state_number(state: State) -> u8
     ensures { result ≡ state_number state }
 {
-    match state {
-        State::Idle => 0,
-        State::Opening => 1,
-        State::Open => 2,
-        State::Closing => 3,
-        State::Closed => 4,
-    }
+    state as u8
 }
 
 fn reassembly_number(reassembly: ReassemblyState) -> u8
     ensures { result ≡ reassembly_number reassembly }
 {
-    match reassembly {
-        ReassemblyState::Open => 0,
-        ReassemblyState::Whole => 1,
-        ReassemblyState::Discarding => 2,
-    }
+    reassembly as u8
 }

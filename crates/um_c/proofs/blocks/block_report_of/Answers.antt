@@ -1,7 +1,7 @@
 use Rattle.{
   std.proofs.{Common.{◌≡◌, map, refl, ap₂, ◌∙◌}, lemmas.Int.to_z-of_z},
   um_block.specs.{bit_blocks.SoftValues.count_wrong_bits, conv_code.Code.encoding, Received.coded_soft_bits},
-  um_block.proofs.interleave.Lemmas.same_coded,
+  um_block.proofs.interleave.Bursts.same_coded,
 }
 use Rattle.um_c.proofs.blocks.block_report_of.Goals as goal
 

@@ -1,4 +1,3 @@
-use Rattle.std.proofs.Common.{refl}
 use Rattle.um_air.specs.lapdm_window.Calls.{endpoint_call_of}
 use Rattle.um_c.proofs.DataLinkCalls.{answers_err, answers_ok, answers_unsupported, answers_call_by_7}
 use Rattle.um_c.proofs.datalinks.call_data_link.Goals as goal

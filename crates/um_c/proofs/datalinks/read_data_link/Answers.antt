@@ -1,4 +1,4 @@
-use Rattle.std.proofs.Common.{◌≡◌, sym, ◌∙◌}
+use Rattle.std.proofs.Common.{sym, ◌∙◌}
 use Rattle.std.proofs.lemmas.Bool.{false≢true}
 use Rattle.um_c.proofs.DataLinkCalls.{some_data_link}
 use Rattle.um_c.proofs.datalinks.read_data_link.Goals as goal

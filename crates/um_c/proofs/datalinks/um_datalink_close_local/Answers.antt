@@ -1,4 +1,3 @@
-use Rattle.std.proofs.Common.{refl}
 use Rattle.lapdm_datalink.specs.Links.{afresh}
 use Rattle.um_c.proofs.DataLinkCalls.{changes_link, changes_link_by_7}
 use Rattle.um_c.proofs.datalinks.um_datalink_close_local.Goals as goal

@@ -1,4 +1,3 @@
-use Rattle.std.proofs.Common.{refl}
 use Rattle.lapdm_datalink.specs.DataLinks.{having_main}
 use Rattle.um_c.proofs.DataLinkCalls.{changes, changes_by_7}
 use Rattle.um_c.proofs.datalinks.um_datalink_main.Goals as goal

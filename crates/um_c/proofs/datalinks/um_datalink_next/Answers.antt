@@ -1,24 +1,21 @@
-use Rattle.std.proofs.Common.{refl, sym, ◌∙◌}
 use Rattle.lapdm_end.specs.Addresses.{spec_role_of}
-use Rattle.um_c.proofs.DataLinkCalls.{fills_slot, fills_slot_by_7}
+use Rattle.lapdm_datalink.specs.DataLinks.{with_clocks_moved}
+use Rattle.um_c.proofs.DataLinkCalls.{fills_slot_by_7}
+use Rattle.um_c.proofs.OneLink.{fills_slot, clocks_counted}
 use Rattle.um_c.proofs.datalinks.um_datalink_next.Goals as goal
 
 pub returns : goal.returns
 returns c =
-    fills_slot (record {
-      represents = c.read_data_link.ensures.represents c.if-not-read_data_link.false;
-      some = c.read_data_link.ensures.valid.0 c.if-not-read_data_link.false;
-    })
-    c.args.layer1.now c.next-slot.result.block c.channel.result (spec_role_of c.role.result) c.next-slot.result.gave_up0
-    c.next-slot.result.gave_up3 c.next-slot.new.self c.write_data_link.new.data_link c.args.block.now c.with_layer1.result
-    c.slot_block-written.result c.args.report.now c.write_given_up.new.report c.slot_answer.result
-    (c.channel.ensures.channel ∙ c.next-slot.ensures.channel) (c.role.ensures.role ∙ c.next-slot.ensures.role) c.write_data_link.ensures
-    c.slot_block-written.ensures
-    (rw (c.channel-2.ensures.channel ∙ sym c.channel.ensures.channel) at c.with_layer1.ensures)
-    c.write_given_up.ensures c.slot_answer.ensures c.next-slot.ensures.represents
-    c.next-slot.ensures.block c.next-slot.ensures.gave_up0 c.next-slot.ensures.gave_up3
+    let before = c.args.data_link.now in
+    let read = c.in-Some.ensures in
+    fills_slot read c.args.layer1.now c.fill_slot-slot.result c.channel-channel.result (spec_role_of c.role-role.result)
+    c.fill_slot-slot.new.data_link c.args.block.now c.with_layer1.result c.slot_block-written.result c.args.report.now
+    c.write_given_up.new.report c.slot_answer.result c.channel-channel.ensures c.role-role.ensures
+    (λ s h. rw (← c.count_slot.ensures) (c.fill_slot-slot.ensures (with_clocks_moved s)
+    (rw c.count_slot.ensures (clocks_counted before s h))
+    (c.count_slot_unless.ensures.represents s.link0 (read.link0_is s h)) (read.acts3_is s h)))
+    c.slot_block-written.ensures c.with_layer1.ensures c.write_given_up.ensures c.slot_answer.ensures
 
-pub returns-then-not-read_data_link : goal.returns-then-not-read_data_link
-returns-then-not-read_data_link c =
-    fills_slot_by_7 c.args.data_link.now (c.read_data_link.ensures.invalid c.if-not-read_data_link.true)
-    c.args.layer1.now c.args.block.now c.args.report.now
+pub returns-in_default : goal.returns-in_default
+returns-in_default c =
+    fills_slot_by_7 c.args.data_link.now c.in_default.ensures c.args.layer1.now c.args.block.now c.args.report.now

@@ -1,33 +1,31 @@
-use Rattle.std.proofs.Common.{refl, ◌∙◌, ap, Option}
+use Rattle.std.proofs.Common.{◌∙◌, ap, Option}
 use Rattle.lapdm_frame.specs.Content.{frame_of_view}
 use Rattle.um_air.specs.lapdm_window.declared.Sapi.{Sapi}
 use Rattle.lapdm_datalink.specs.DataLinks.{notices_of_taking}
 use Rattle.um_c.specs.DataLinkCalls.{c_report, reports_if_taken}
-use Rattle.um_c.proofs.DataLinkCalls.{receives, receives_none, receives_by_7}
+use Rattle.um_c.proofs.DataLinkCalls.{receives_by_7}
+use Rattle.um_c.proofs.OneLink.{both, receives, receives_none, taken}
 use Rattle.um_c.proofs.datalinks.um_datalink_take.Goals as goal
-
-pub returns-in_default : goal.returns-in_default
-returns-in_default c =
-    receives_none (record {
-      represents = c.read_data_link.ensures.represents c.if-not-read_data_link.false;
-      some = c.read_data_link.ensures.valid.0 c.if-not-read_data_link.false;
-    })
-    c.args.octets.now c.channel.result _ c.args.report.now c.channel.ensures.represents
-    c.in_default.ensures.refusal
 
 pub returns : goal.returns
 returns c =
     let f = frame_of_view c.in-Ok.frame in
-    receives (record {
-      represents = c.read_data_link.ensures.represents c.if-not-read_data_link.false;
-      some = c.read_data_link.ensures.valid.0 c.if-not-read_data_link.false;
-    })
-    c.args.octets.now c.channel.result f c.take-sapi.new.self c.write_data_link.new.data_link c.args.report.now
-    c.write_taken.new.report c.channel.ensures.represents c.in-Ok.ensures.frame c.write_data_link.ensures c.take-sapi.ensures.represents
-    (λ s h. c.write_taken.ensures ∙ (λ i. c_report (reports_if_taken (c.take-sapi.ensures.sapi s h i)
-    ((c.as_slice.ensures.value ∙ c.take-sapi.ensures.notices s h
-    ∙ ap (λ (p : Option Sapi). notices_of_taking p f s) (c.take-sapi.ensures.sapi s h)) i))))
+    let read = c.in-Some.ensures in
+    let sapi = c.sapi_for-sapi.result in
+    let before = c.args.data_link.now in
+    receives read c.args.octets.now c.channel.result f c.hear.new.data_link c.args.report.now c.write_taken.new.report
+    c.channel.ensures c.in-Ok.ensures.frame
+    (λ s h. taken sapi f s before c.pass_frame.new.data_link c.hear.new.data_link c.pass_frame.new.effects.notices
+    (c.sapi_for-sapi.ensures s (read.link0_is s h) (both before s h).main) (c.pass_frame.ensures s h) c.hear.ensures)
+    (λ s h. c.write_taken.ensures ∙ ap c_report (ap (reports_if_taken sapi) c.as_slice.ensures.value
+    ∙ (c.pass_frame.ensures s h).reports
+    ∙ ap (λ (p : Option Sapi). reports_if_taken p (notices_of_taking p f s))
+    (c.sapi_for-sapi.ensures s (read.link0_is s h) (both before s h).main)))
 
-pub returns-then-not-read_data_link : goal.returns-then-not-read_data_link
-returns-then-not-read_data_link c =
-    receives_by_7 c.args.data_link.now (c.read_data_link.ensures.invalid c.if-not-read_data_link.true) c.args.octets.now c.args.report.now
+pub returns-in_default : goal.returns-in_default
+returns-in_default c = receives_by_7 c.args.data_link.now c.in_default.ensures c.args.octets.now c.args.report.now
+
+pub returns-in_default-read_on : goal.returns-in_default-read_on
+returns-in_default-read_on c =
+    receives_none c.in-Some.ensures c.args.octets.now c.channel.result _ c.args.report.now c.channel.ensures
+    c.in_default-read_on.ensures.refusal

@@ -1,4 +1,3 @@
-use Rattle.std.proofs.Common.{refl}
 use Rattle.um_c.proofs.DataLinkCalls.{unit_refused, unit_written}
 use Rattle.um_c.proofs.datalinks.um_datalink_unit.Goals as goal
 

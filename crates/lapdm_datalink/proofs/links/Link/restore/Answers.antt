@@ -1,36 +1,38 @@
-use Rattle.std.proofs.Common.{sym, ◌∙◌, refl}
-use Rattle.std.proofs.lemmas.Bool.{false≢true}
-use Rattle.lapdm_datalink.specs.Parts.{values_of_parts}
-use Rattle.lapdm_datalink.proofs.Lemmas.{some_endpoint, endpoint_values, some_answer, some_link, link_with_values}
+use Rattle.std.proofs.Common.{◌≡◌, sym, ◌∙◌, ap, refl, Bool, true, false}
+use Rattle.std.specs.Prelude.{IsTrue}
+use Rattle.lapdm_end.specs.Addresses.{spec_role_of}
+use Rattle.lapdm_datalink.specs.declared.links.Link.{Link}
+use Rattle.lapdm_datalink.specs.Parts.{LinkValues, values_of, IsAtSameAddress}
+use Rattle.lapdm_datalink.specs.Abstraction.{role_of, sapi_of, channel_of}
 use Rattle.lapdm_datalink.proofs.links.Link.restore.Goals as goal
 
-pub returns-then-not-restore-clause-valid : goal.returns-then-not-restore-clause-valid
-returns-then-not-restore-clause-valid c = (
-  λ s. absurd (false≢true s),
-  λ h. absurd (false≢true (sym c.if-not-restore.true ∙ c.restore.ensures.valid.1
-      (some_endpoint (values_of_parts c.args.parts.now) h.1))),
-)
+-- a link restored from values at its address, or not restored, keeps its address
+record Stays (m n : Link) : Type 0 where
+  role : role_of n ≡ role_of m
+  sapi : sapi_of n ≡ sapi_of m
+  channel : channel_of n ≡ channel_of m
 
-pub returns-then-not-has_answer_block_if_any-clause-valid : goal.returns-then-not-has_answer_block_if_any-clause-valid
-returns-then-not-has_answer_block_if_any-clause-valid c = (
-  λ s. absurd (false≢true s),
-  λ h. absurd (false≢true (sym c.if-not-has_answer_block_if_any.true
-      ∙ c.has_answer_block_if_any.ensures.1 (some_answer (values_of_parts c.args.parts.now) h.1))),
-)
+stays : (m n : Link) (x : LinkValues) (b : Bool) → IsAtSameAddress m x → (IsTrue b → values_of n ≡ x) →
+    (b ≡ false → n ≡ m) → Stays m n
+stays m n x true at same refused =
+    let is = same refl in record {
+      role = ap (λ (y : LinkValues). spec_role_of y.endpoint.role) is ∙ at.role;
+      sapi = ap (λ (y : LinkValues). y.endpoint.sapi) is ∙ at.sapi;
+      channel = sym n.endpoint.one_channel ∙ ap (λ (y : LinkValues). y.endpoint.window.channel) is ∙ at.channel;
+    }
+stays m n x false at same refused = rw (refused refl) (record { role = refl; sapi = refl; channel = refl })
 
-pub returns-clause-valid : goal.returns-clause-valid
-returns-clause-valid c =
-    let x = values_of_parts c.args.parts.now in (
-      λ s. (
-        c.has_address_of.ensures.0 c.if-not-has_address_of.false,
-        some_link x (c.restore.ensures.valid.0 c.if-not-restore.false)
-            (c.has_answer_block_if_any.ensures.0 c.if-not-has_answer_block_if_any.false),
-      ),
-      λ h. refl,
-    )
+pub returns-clause-role : goal.returns-clause-role
+returns-clause-role c =
+    (stays c.args.self.now c.restore_any.new.self _ c.restore_any.result (c.has_address_of.ensures.0 c.if-not-has_address_of.false)
+    c.restore_any.ensures.same c.restore_any.ensures.refused).role
 
-pub returns-clause-represents : goal.returns-clause-represents
-returns-clause-represents c = λ _ l h.
-    let x = values_of_parts c.args.parts.now in
-    link_with_values x c.restore.new.self l h
-    (c.restore.ensures.represents c.if-not-restore.false l.endpoint (endpoint_values x l h))
+pub returns-clause-sapi : goal.returns-clause-sapi
+returns-clause-sapi c =
+    (stays c.args.self.now c.restore_any.new.self _ c.restore_any.result (c.has_address_of.ensures.0 c.if-not-has_address_of.false)
+    c.restore_any.ensures.same c.restore_any.ensures.refused).sapi
+
+pub returns-clause-channel : goal.returns-clause-channel
+returns-clause-channel c =
+    (stays c.args.self.now c.restore_any.new.self _ c.restore_any.result (c.has_address_of.ensures.0 c.if-not-has_address_of.false)
+    c.restore_any.ensures.same c.restore_any.ensures.refused).channel
