@@ -6,7 +6,6 @@ use Rattle.std.proofs.{
   lemmas.{Bool.{cases_Bool, cases_eq}, Int.{by_lt_z, ints}},
 }
 
--- `best` is below `end`, and every other index below `end` has a smaller score, or an equal score and comes later
 pub record LeadsBelow (score : ℕ → ℤ) (end best : ℕ) : Type 0 where
   pub in_range : best < end
   pub others : (n : ℕ) → n < end → n ≢ best → (score n <ℤ score best) ⊎ ((score n ≡ score best) × (best < n))
@@ -17,7 +16,6 @@ LeadsBelow-one score = record {
   others = λ n h ne. absurd (omega arith);
 }
 
--- if the next index has a greater score, it becomes the best
 pub LeadsBelow-overtaken : (score : ℕ → ℤ) (end best : ℕ) → LeadsBelow score end best → score best <ℤ score end →
     LeadsBelow score (end + 1) end
 LeadsBelow-overtaken score end best leads more = record {
@@ -28,7 +26,6 @@ LeadsBelow-overtaken score end best leads more = record {
   behind n h (inl same) = rw same more
   behind n h (inr other) = omega (arith, ints, leads.others n h other)
 
--- if the next index has no greater score, the best index remains the best
 pub LeadsBelow-kept : (score : ℕ → ℤ) (end best : ℕ) → LeadsBelow score end best → score end ≤ℤ score best →
     LeadsBelow score (end + 1) best
 LeadsBelow-kept score end best leads less = record {

@@ -35,7 +35,6 @@ at_passes_below test (suc n) h k lt =
 
 -- ## BitLists: The bitwise XOR of bit lists, which a loop builds bit by bit.
 
--- the XOR of two bits is their sum modulo 2
 pub bit_xor-bits : (x y : ℕ) → x ≤ 1 → y ≤ 1 → bit_xor x y ≡ (x + y) % 2
 bit_xor-bits (suc (suc x)) y h k = absurd (omega arith)
 bit_xor-bits x (suc (suc y)) h k = absurd (omega arith)
@@ -61,7 +60,6 @@ pub add_bits_more : (sum xs ys : List ℕ) (i : ℕ) → length sum ≡ length x
 add_bits_more sum xs ys i e e' h bx by below k lt =
     grind (arith, get_or-set_other, get_or-set_same, bit_xor-bits, get_or-xor_bits, bx i 0, by i 0, below k)
 
--- if a computed test succeeds for every entry, a constant table holds only bits
 pub AllBits-table : (table : List ℕ) → list_all (λ bit. leb bit 1) table ≡ true → AllBits table
 AllBits-table table found k d lt =
     let bit = AllPass-from_list_all (λ bit. leb bit 1) table found k d lt in
@@ -107,7 +105,6 @@ add_bits_self : (xs : List ℕ) → xor_bits xs xs ≡ replicate (length xs) 0
 add_bits_self [] = refl
 add_bits_self (x ∷ xs) = grind (arith, add_bits_self xs)
 
--- XOR with the same list twice gives back the original list
 pub add_bits_twice : (xs ys : List ℕ) → AllBits xs → length xs ≡ length ys → xor_bits (xor_bits xs ys) ys ≡ xs
 add_bits_twice xs ys b e = cc (xor_bits-assoc xs ys ys, add_bits_self ys, xor_bits-zeros xs (length ys) b e)
 
@@ -133,7 +130,6 @@ product_coefficient-xor_bits (x ∷ q) (y ∷ r) g (suc m) e =
     omega (arith, term_of_sum x y (get_or g (suc m) 0), product_coefficient-xor_bits q r g m (omega arith))
 product_coefficient-xor_bits q r g m e = absurd (omega arith)
 
--- beyond the length of a product of two polynomials, all its coefficients are 0
 product_at_past : (q g : List ℕ) (m : ℕ) → length q + length g ≤ m + 1 → product_coefficient q g m ≡ 0
 product_at_past [] g m h = refl
 product_at_past (x ∷ q) g zero h = grind (arith, get_or_past)
@@ -179,7 +175,6 @@ IsDivisibleBy-xor_bits x y g same (q, qx) (r, ry) =
       },
     )
 
--- a multiple of a polynomial remains a multiple of it after multiplication by a power of D
 IsDivisibleBy-append_zeros : (n : ℕ) (x g : List ℕ) → IsDivisibleBy x g → IsDivisibleBy (x ++ replicate n 0) g
 IsDivisibleBy-append_zeros zero x g h = rw append-nil h
 IsDivisibleBy-append_zeros (suc n) x g (q, qx) =
@@ -195,7 +190,6 @@ IsDivisibleBy-append_zeros (suc n) x g (q, qx) =
       },
     ))
 
--- a multiple of a polynomial remains a multiple of it when zeros are put before it
 pub IsDivisibleBy-zeros_append : (n : ℕ) (x g : List ℕ) → IsDivisibleBy x g → IsDivisibleBy (replicate n 0 ++ x) g
 IsDivisibleBy-zeros_append zero x g h = h
 IsDivisibleBy-zeros_append (suc n) x g h = let (q, qx) = IsDivisibleBy-zeros_append n x g h in (
@@ -207,7 +201,6 @@ IsDivisibleBy-zeros_append (suc n) x g h = let (q, qx) = IsDivisibleBy-zeros_app
   },
 )
 
--- if the first k coefficients of the product of a generator and a quotient of length k are 0, the quotient is 0
 quotient_of_zeros : (k : ℕ) (q t : List ℕ) → length q ≡ k → AllBits q →
     ((m : ℕ) → m < k → 0 ≡ product_coefficient q (1 ∷ t) m % 2) → q ≡ replicate k 0
 quotient_of_zeros zero [] t e b h = refl
@@ -216,7 +209,6 @@ quotient_of_zeros (suc k) (zero ∷ q) t e b h =
 quotient_of_zeros (suc k) (suc x ∷ q) t e b h = absurd (omega (arith, h 0 (omega arith), All-head IsBit (suc x) q b))
 quotient_of_zeros k q t e b h = absurd (omega arith)
 
--- a multiple of lower degree than its generator is 0
 zeros_of_multiple : (k : ℕ) (r t : List ℕ) → length r ≡ length t → IsDivisibleBy (replicate k 0 ++ r) (1 ∷ t) →
     r ≡ replicate (length r) 0
 zeros_of_multiple k r t e (q, qx) =
@@ -230,7 +222,6 @@ zeros_of_multiple k r t e (q, qx) =
     let coefficient = product_coefficient-zeros k (1 ∷ t) (k + j) in
     grind (arith, get_or-append-add (replicate k 0) r j 0, length-replicate, qx.each_coefficient (k + j), coefficient))
 
--- the remainder is unique: at most one list with as many bits as the generator's degree makes `front` a multiple when appended to it
 pub same_remainder : (front r s t : List ℕ) → AllBits r → AllBits s → length r ≡ length t → length s ≡ length t →
     IsDivisibleBy (front ++ r) (1 ∷ t) → IsDivisibleBy (front ++ s) (1 ∷ t) → r ≡ s
 same_remainder front r s t br bs er es mr ms =
@@ -242,8 +233,7 @@ same_remainder front r s t br bs er es mr ms =
     (rw split at (IsDivisibleBy-xor_bits (front ++ r) (front ++ s) (1 ∷ t) (simp length-append (omega arith)) mr ms)) in
     cc (add_bits_twice r s br e, zeros, count, xor_bits-comm (replicate (length r) 0) s, xor_bits-zeros s (length r) bs (sym e))
 
--- One step of long division, by as many bits as `out` has. If `front ++ out ++ rest` and `start ++ tail` are multiples, then so is
--- `front`, followed by the sum of `out` and `start`, followed by the sum of `tail` and `rest` shifted to the left.
+-- one step of long division, by as many bits as `out` has
 pub divided_more : (front out rest next start tail g : List ℕ) → AllBits front → length start ≡ length out →
     length tail ≡ length rest + length out → xor_bits out start ≡ next →
     IsDivisibleBy (front ++ (out ++ rest)) g → IsDivisibleBy (start ++ tail) g →
@@ -318,7 +308,6 @@ octets_of-append zero [] ys e = refl
 octets_of-append (suc n) (a ∷ b ∷ c ∷ d ∷ f ∷ g ∷ h ∷ i ∷ xs) ys e = cc (octets_of-append n xs ys (omega arith))
 octets_of-append n xs ys e = absurd (omega arith)
 
--- eight bits are packed into one octet, whose bits are these eight
 octet_of_eight : (bits : List ℕ) → length bits ≡ 8 → AllBits bits →
     (n : ℕ) × (n < 256) × (octet_bits n ≡ bits) × (octets_of bits ≡ n ∷ [])
 octet_of_eight (a ∷ b ∷ c ∷ d ∷ e ∷ f ∷ g ∷ h ∷ []) count all =
@@ -342,7 +331,6 @@ octets_of_more octets bits m octet n within count eight here before =
 
 -- ## OctetPlaces: The single bits of a list that `bits_of` unpacks from octets.
 
--- bit 8 m + i of the list that `bits_of` unpacks is bit i of octet m
 pub get_or-bits_of : (octets : List ℕ) (m i : ℕ) → i < 8 → get_or (bits_of octets) (8 * m + i) 0 ≡ bit_of (get_or octets m 0) i
 get_or-bits_of [] m i lt = rw (zero-div (2 ^ i))
 get_or-bits_of (octet ∷ octets) zero (suc (suc (suc (suc (suc (suc (suc (suc i)))))))) lt = absurd (omega arith)

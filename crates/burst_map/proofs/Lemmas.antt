@@ -16,7 +16,6 @@ take-slice_range xs i j h =
 
 -- ## Filling: A burst of zeros is filled from the front to the end.
 
--- the burst consists of the `at` bits of `front`, followed by `rest` zeros
 pub record IsFilled (burst front : List ℕ) (at rest : ℕ) : Type 0 where
   pub content : burst ≡ front ++ replicate rest 0
   pub right_length : length front ≡ at

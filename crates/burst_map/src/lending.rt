@@ -3,7 +3,6 @@ ghost use Rattle.std.specs.Prelude.{◌≡◌, ◌≤◌, ◌-◌, length, slice
 ghost use Rattle.std.specs.Borrow.{sem, Lends, Array, u8};
 ghost use Rattle.burst_map.specs.Parts.{with_range_replaced};
 
-// Borrows `places[from..to]` mutably. The other bits stay unchanged.
 pub fn borrow_range_mut<const N: usize>(places: &mut [u8; N], from: usize, to: usize) -> &mut [u8]
     requires order { from ≤ to }
     requires within { to ≤ N }

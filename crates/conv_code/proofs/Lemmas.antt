@@ -85,7 +85,6 @@ delayed_bit-at_most_1 u k d bits =
       | false ↦ bit_at-most_1 u _ bits
     ]
 
--- XOR computes the two generator sums of the definition
 pub first_by_xor : (x three four : ℕ) → x ≤ 1 → three ≤ 1 → four ≤ 1 →
     bit_xor (bit_xor x three) four ≡ (x + three + four) % 2
 first_by_xor x three four hx h3 h4 =
@@ -121,7 +120,6 @@ coded_more u out k a b within before first second =
 
 -- ## States: The generator sums give the same coded bits as the state machine that starts in state 0.
 
--- the encoder's state before bit k
 pub state_at : List ℕ → ℕ → ℕ
 state_at u k = delayed_bit u k 1 + 2 * delayed_bit u k 2 + 4 * delayed_bit u k 3 + 8 * delayed_bit u k 4
 

@@ -182,7 +182,6 @@ remainder_more (suc n) front register bit taps positive bits within is_bit befor
     (carry_multiple (suc n) carry taps (and_le_r (bit_xor register bit) 1)))
 
 module _ (n taps : ℕ) (positive : 0 < n) (small : taps < 2 ^ n) where
-  -- if the register is the remainder of `front`, shifting in `bits` makes it the remainder of `front ++ bits`
   divided : (front bits : List ℕ) (register : ℕ) → AllBits front → AllBits bits → register < 2 ^ n →
       IsDivisibleBy (front ++ low_bits n register) (1 ∷ low_bits n taps) →
       IsDivisibleBy ((front ++ bits) ++ low_bits n (fold (shifted taps) register bits)) (1 ∷ low_bits n taps) ×
@@ -329,7 +328,6 @@ module _ (n k taps : ℕ) (d : List ℕ) (ed : length d ≡ n) where
   one_word : (p p' : List ℕ) → Word n k taps (d ++ p) → Word n k taps (d ++ p') → p ≡ p'
   one_word p p' w w' = one_crc k taps d p p' (crc_of_word p w) (crc_of_word p' w')
 
--- a word consists of its first n bits (the information bits) followed by the rest (the check bits)
 pub cut : (n : ℕ) (w s front back : List ℕ) → s ≡ w → AllBits s → front ≡ take n s → back ≡ drop n s →
     (w ≡ front ++ back) × AllBits front × AllBits back
 cut n w s front back same bits first second =
@@ -396,8 +394,6 @@ module _ (d : List ℕ) (register : ℕ) (ed : length d ≡ 184) (bits : AllBits
         ),
   )
 
-  -- the syndrome is the XOR of the remainder of the information bits and the inverted check bits; adding it to the check bits gives a
-  -- codeword, and it is 0 exactly if the word is a codeword
   pub syndrome_of : (check : ℕ) → register < 2 ^ 40 → check < 2 ^ 40 → let syndrome =
       bit_xor (bit_xor register check) 0xffffffffff in
       IsXcchCodeword (xor_bits (d ++ low_bits 40 check) (replicate 184 0 ++ low_bits 40 syndrome)) ×

@@ -7,7 +7,6 @@ ghost use Rattle.fire_code.specs.Registers.{low_bits};
 
 use bit_blocks::Bits;
 
-/// Returns the `N` lowest bits of a register, least significant bit first.
 pub(crate) fn bits_of_register<const N: usize>(register: u64) -> Bits<N>
     requires { N ≤ 64 }
     ensures value { result ≡ low_bits N register }
@@ -21,7 +20,6 @@ pub(crate) fn bits_of_register<const N: usize>(register: u64) -> Bits<N>
     bits
 }
 
-/// Returns the forty lowest bits of a register, least significant bit first.
 pub(crate) fn bits_of(register: u64) -> Bits<40>
     ensures value { result ≡ low_bits 40 register }
     ensures count { length result ≡ 40 }
@@ -73,7 +71,6 @@ pub(crate) fn register_from_bits(bits: &[u8]) -> u64
     register
 }
 
-/// Packs eight bits into an octet, least significant bit first.
 #[inline]
 pub(crate) fn pack_eight_bits(bits: &[u8]) -> u64
     requires count { length bits.now ≡ 8 }
@@ -88,7 +85,6 @@ pub(crate) fn pack_eight_bits(bits: &[u8]) -> u64
     apart.wrapping_mul(0x0102_0408_1020_4080) >> 56
 }
 
-/// Returns the eight bits of an octet, least significant bit first.
 #[inline]
 fn unpack_octet(octet: u64) -> [u8; 8]
     requires { octet < 256 }
@@ -101,7 +97,6 @@ fn unpack_octet(octet: u64) -> [u8; 8]
     ((kept.wrapping_add(0x7f7f_7f7f_7f7f_7f7f) >> 7) & 0x0101_0101_0101_0101).to_le_bytes()
 }
 
-/// Writes the eight bits of `octet` to `bits`, starting at index `at`.
 fn write_octet_bits(bits: &mut Bits<40>, at: usize, octet: &[u8; 8])
     requires count { length bits.old ≡ 40 }
     requires within { at + 8 ≤ 40 }

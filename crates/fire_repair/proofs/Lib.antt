@@ -1,1 +1,3 @@
-pub mod Lemmas
+mod Syndromes
+mod BurstBits
+pub mod RepairResults

@@ -1,1 +1,4 @@
-pub mod Lemmas
+pub mod Positions
+pub mod Bursts
+mod JoinedLanes
+mod PackedColumns

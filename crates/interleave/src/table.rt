@@ -51,7 +51,7 @@ static HALF_BURST_CODED_BIT_NUMBERS: [[u16; 57]; 8] = [
 ];
 
 /// The numbers of the coded bits in one half of burst number `burst_number`, in order of transmission.
-pub fn coded_bit_numbers(burst_number: usize, half: usize) -> &'static [u16; 57]
+pub(crate) fn coded_bit_numbers(burst_number: usize, half: usize) -> &'static [u16; 57]
     requires burst { burst_number < 4 }
     requires half { half ≤ 1 }
     ensures value { (i : ℕ) → i < 57 → slice_index result.now i ≡ coded_bit_number_in_burst burst_number (57 * half + i) }

@@ -29,7 +29,7 @@ abbrev values : {A : Type 0} → (ℕ → A) → ℕ → List A
 values f zero = []
 values f (suc n) = f n ∷ values f n
 
--- two functions agree for all numbers below n if the lists of their values are equal; `refl` proves this equality by computation
+-- `refl` proves the equality of the lists, by computation
 pub same_below : {A : Type 0} (f g : ℕ → A) {n : ℕ} → values f n ≡ values g n → (k : ℕ) → k < n → f k ≡ g k
 same_below f g {n = zero} h = λ k lt. absurd (omega arith)
 same_below f g {n = suc n} h = λ k lt. below_more (λ k. f k ≡ g k) n (same_below f g (cc)) (cc) k (omega arith)
@@ -141,7 +141,6 @@ pub top-compared : (w : Width) (x y : ℕ) → top (hbits w) (compared w x y) �
 top-compared w x y = ap (λ l. get_or l 0 false)
     (tops_compared w (λ x y. int_lt (cast_signed w x) (cast_signed w y)) (x ∷ []) (y ∷ []))
 
--- for each lane, whether a is less than b there
 abbrev pub less_lanes : Width → ℕ → List ℤ → List ℤ → List Bool
 less_lanes w n a b = map (top (hbits w)) (zip2 (compared w) (bits_of w a) (bits_of w b))
 
@@ -172,7 +171,6 @@ module _ (w : Width) (n : ℕ) (a b : List ℤ) (sa : AreSigned w n a) (sb : Are
       lanewise-at (less_lanes w) _ refl (λ n x y xs ys. refl) n a b sa.count sb.count k lt (pos 0) (pos 0) false
       ∙ tested w _ _ (sa.fits k lt) (sb.fits k lt)
 
--- in this module, `signs` states for each lane whether it is negative
 module _ (w : Width) (zero_is : cast_signed w 0 ≡ pos 0) (n : ℕ) (few : n ≤ 64) (a : List ℤ) (sa : AreSigned w n a) where
   abbrev signs : ℕ → List ℤ → List ℤ → List Bool
   signs n a b = map (top (hbits w)) (zip2 (compared w) (bits_of w a) (replicate n 0))
@@ -206,7 +204,6 @@ lane_of_two-first n a b k lt = grind arith
 pub lane_of_two-second : (n : ℕ) (a b : List ℤ) (k : ℕ) → lane_of_two n a b (n + k) ≡ lane b k
 lane_of_two-second n a b k = let back : n + k - n ≡ k = omega arith in grind arith
 
--- a property of the lanes of two vectors at each index, from the same property of the lanes of each
 pub by_two : (P : ℕ → Type 0) (n m : ℕ) → ((k : ℕ) → k < n → P k) → ((k : ℕ) → k < m → P (n + k)) → (k : ℕ) →
     k < n + m → P k
 by_two P n m first second k lt = elim (cases_lt k n) [

@@ -44,7 +44,6 @@ information-empty x none = grind arith
 
 -- ## FieldLaws: Lemmas about frame contents that are given by a kind and fields.
 
--- a frame that fits on the channel can have these fields
 pub record FieldsFit (channel : Channel) (f : Fields) : Type 0 where
   pub sent : f.ns ≤ 7
   pub received : f.nr ≤ 7
@@ -107,7 +106,6 @@ only_refusal _ _ reason refused = record {
 
 -- ## Order: At most one reason for refusal is the first that applies to a block. A block to which no reason applies encodes a frame.
 
--- none of the first n reasons for refusal applies to the octets
 pub record NoneBefore (channel : Channel) (octets : List ℕ) (n : ℕ) : Type 0 where
   pub none : (reason : Refusal) → refusal_test_index reason < n → ¬ RefusalAppliesToBlock channel octets reason
 
@@ -426,11 +424,9 @@ module _ (size : ℕ) (info : List ℕ) (fits : length info ≤ size) where
       get_or-append_right info _ (length info) k 0 refl low
       ∙ get_or-replicate _ _ 0x2b 0 within
 
--- on SDCCH, octet k of a block, for k from 3 on, is octet k - 3 of the octets after the address, control and length octets
 past_sdcch : (a b c : ℕ) (xs : List ℕ) (k : ℕ) → 3 ≤ k → get_or (a ∷ b ∷ c ∷ xs) k 0 ≡ get_or xs (k - 3) 0
 past_sdcch a b c xs k low = grind arith
 
--- on SACCH, octet k of a block, for k from 5 on, is octet k - 5 of the octets after the layer 1, address, control and length octets
 past_sacch : (a b c d e : ℕ) (xs : List ℕ) (k : ℕ) → 5 ≤ k →
     get_or (a ∷ b ∷ c ∷ d ∷ e ∷ xs) k 0 ≡ get_or xs (k - 5) 0
 past_sacch a b c d e xs k low = grind arith

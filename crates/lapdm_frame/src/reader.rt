@@ -9,8 +9,7 @@ ghost use Rattle.lapdm_frame.specs.Readings.{IsOnlyEncodedFrame, IsOnlyRefusalRe
 use crate::{Body, Channel, FrameView, Refusal};
 use bit_blocks::BLOCK_OCTETS;
 
-// Returns the frame body that the control octet encodes, or `None` if it encodes none. Uses `more` and `info` only if the frame kind has
-// these fields.
+// Uses `more` and `info` only if the frame kind has these fields.
 fn body_from_control<'a>(control: u8, more: bool, info: &'a [u8]) -> Option<Body<'a>>
     ensures known { IfSome result (λ body. IsControlOctetOf control (content_of_body body)) }
     ensures unknown { IfNone result ((content : Content) → ¬ IsControlOctetOf control content) }
@@ -68,7 +67,6 @@ fn has_no_information(body: &Body<'_>) -> bool
     }
 }
 
-// Returns the first reason why a frame of this kind cannot have the length octet `length`, or `None` if it can.
 fn length_fault(body: &Body<'_>, length: u8, max_length: usize) -> Option<Refusal>
     ensures fault { IfSome result (IsLengthFault max_length (content_of_body body.now) length) }
     ensures none { IfNone result (HasNoLengthFault max_length (content_of_body body.now) length) }

@@ -1,7 +1,6 @@
 -- The calls of layer 3 to an endpoint, and the reasons for refusing them.
 use Rattle.std.specs.Prelude.{◌≡◌, ◌+◌, Bool, true, false, not, if◌then◌else◌, nat_eq, nat_lt, nat_le, List, []}
-use Rattle.std.specs.Prelude.{◌∷◌, ◌++◌, length, Option}
-use Rattle.std.specs.Prelude.{Some, None}
+use Rattle.std.specs.Prelude.{◌∷◌, ◌++◌, length, Option, Some, None}
 use Rattle.segmenting.specs.lapdm_frame.Layout.{n201}
 use Rattle.segmenting.specs.lapdm_frame.Content.{Sabm, Ui, Disc, Frame, fill_frame}
 use Rattle.segmenting.specs.Segments.{Message, max_message_octets}
@@ -15,8 +14,7 @@ use Rattle.lapdm_window.specs.declared.Reason.TheVariants as R
 use Rattle.lapdm_window.specs.declared.Refused.{Refused}
 use Rattle.lapdm_window.specs.declared.Refused.TheVariants as No
 use Rattle.lapdm_window.specs.Ends.{Role, Mobile, EndpointState, Outcome, sends_frame, command_frame, command_cr, unacked_message_count}
-use Rattle.lapdm_window.specs.Ends.{awaits_answer}
-use Rattle.lapdm_window.specs.Ends.{n200}
+use Rattle.lapdm_window.specs.Ends.{awaits_answer, n200}
 use Rattle.lapdm_window.specs.Rules.{is_open, sends_next_segment, outstanding_frame}
 use Rattle.lapdm_window.specs.Tables.{closes_and_reports}
 

@@ -12,8 +12,7 @@ use Rattle.lapdm_window.specs.declared.State.TheVariants.{Open}
 use Rattle.lapdm_window.specs.declared.Notice.{Notice}
 use Rattle.lapdm_window.specs.declared.Notice.TheVariants.{Got, Acked, Oversize}
 use Rattle.lapdm_window.specs.Ends.{EndpointState, Outcome, no_effect, sends_frame, reports_notice, ◌then◌}
-use Rattle.lapdm_window.specs.Ends.{command_frame, response_frame, awaits_ack}
-use Rattle.lapdm_window.specs.Ends.{segments_of_all_messages}
+use Rattle.lapdm_window.specs.Ends.{command_frame, response_frame, awaits_ack, segments_of_all_messages}
 use Rattle.lapdm_window.specs.Ends.{first_unacked_segment, acked_message_count, vs, va, vr, capped_at_64_bits}
 
 -- the I frame that carries the outstanding segment, with this P bit (section 5.5.1)

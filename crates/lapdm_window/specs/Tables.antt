@@ -13,9 +13,7 @@ use Rattle.lapdm_window.specs.declared.Reason.{Reason}
 use Rattle.lapdm_window.specs.declared.Reason.TheVariants as R
 use Rattle.lapdm_window.specs.declared.Notice.TheVariants as N
 use Rattle.lapdm_window.specs.Ends.{Role, Mobile, Network, EndpointState, Outcome, no_effect}
-use Rattle.lapdm_window.specs.Ends.{sends_frame, reports_notice, ◌then◌, command_cr}
-use Rattle.lapdm_window.specs.Ends.{sapi_number}
-use Rattle.lapdm_window.specs.Ends.{response_frame}
+use Rattle.lapdm_window.specs.Ends.{sends_frame, reports_notice, ◌then◌, command_cr, sapi_number, response_frame}
 use Rattle.lapdm_window.specs.Rules.{takes_i_frame, takes_rr, takes_rej}
 
 -- whether a received frame is a command, by its C/R bit

@@ -10,11 +10,16 @@ use Rattle.{
     },
     proofs.Classes.{DeviatesAt-tail, deviates, lex_before-deviates, lex_behind-deviates},
   },
-  std.proofs.Common.{Bool, List, [], ap, ap₂, arith, below_more, cond, drop, eq-eqb, eqb, false, get_or, inl, inr, length, ltb, ne_eqb},
-  std.proofs.Common.{pos, refl, slice_set, suc, sym, take, true, zero, ℕ, ℤ, ◌%◌, ◌++◌, ◌+ℤ◌, ◌+◌, ◌-ℤ◌},
-  std.proofs.{Common.{◌/◌, ◌<◌, ◌^◌, ◌∙◌, ◌∷◌, ◌≡◌, ◌≢◌, ◌≤◌, ◌⊎◌}, lemmas.Bool.cases_lt},
-  std.proofs.lemmas.{Cmp.same_from_slice_cmp_tested, Int.{by_lt_z, ints}, List.{length-take, take-append-drop, take_more_set, take_more}},
-  std.specs.{Cmp.Lexicographic.slice_partial_cmp, Ordering.{is_lt, is_some_and, nat_cmp}, Prelude.{Some, ◌<ℤ◌, ◌≤ℤ◌}},
+  std.{
+    proofs.{
+      Common.{Bool, List, [], ap, ap₂, arith, below_more, cond, drop, eq-eqb, eqb, false, get_or, inl, inr, length, ltb, ne_eqb, pos},
+      Common.{refl, slice_set, suc, sym, take, true, zero, ℕ, ℤ, ◌%◌, ◌++◌, ◌+ℤ◌, ◌+◌, ◌-ℤ◌, ◌*◌, ◌/◌},
+      Common.{◌<◌, ◌^◌, ◌∙◌, ◌∷◌, ◌≡◌, ◌≢◌, ◌≤◌, ◌⊎◌},
+      lemmas.{Bool.cases_lt, Cmp.same_from_slice_cmp_tested, Int.{by_lt_z, ints}, List.{append_assoc, drop_more, length-take}},
+      lemmas.List.{take-append-drop, take_more_set, take_more},
+    },
+    specs.{Cmp.Lexicographic.slice_partial_cmp, Ordering.{is_lt, is_some_and, nat_cmp}, Prelude.{Some, ◌<ℤ◌, ◌≤ℤ◌}},
+  },
   trellis_decode.{
     proofs.Lemmas.{HasTailBits-bits, IsNoBetterPath-same, length-traceback, metric_from_state-cons},
     specs.Trellis.{AreDecisions, IsNoBetterPath, IsSurvivor, branch_metric, metric_from_state, next_trellis_state, traceback},
@@ -149,6 +154,39 @@ chosen_bit (row ∷ rows) state (suc k) within = chosen_bit rows _ k (omega arit
 pub traceback-small : (rows : List ℕ) (state k : ℕ) → get_or (traceback rows state) k 0 ≤ 1
 traceback-small (row ∷ rows) state (suc k) = traceback-small rows _ k
 traceback-small rows state k = omega arith
+
+-- traceback writes one more bit
+pub traceback-more : (rows u : List ℕ) (k n state bit : ℕ) → k + 1 ≡ n → k < length u → k < length rows →
+    bit ≡ get_or rows k 0 / 2 ^ state % 2 →
+    take n (slice_set u k bit) ++ traceback (drop n rows) (next_trellis_state state bit) ≡ take k u ++ traceback (drop k rows) state
+traceback-more rows u k n state bit next within in_rows is =
+    ap (λ n. take n (slice_set u k bit) ++ traceback (drop n rows) (next_trellis_state state bit)) (sym next)
+    ∙ ap (λ front. front ++ traceback (drop (k + 1) rows) (next_trellis_state state bit)) (take_more_set u k bit within)
+    ∙ append_assoc (take k u) (bit ∷ []) _
+    ∙ ap (λ bit. take k u ++ bit ∷ traceback (drop (k + 1) rows) (next_trellis_state state bit)) is
+    ∙ ap (λ rest. take k u ++ traceback rest state) (sym (drop_more rows k 0 in_rows))
+
+state_after-next : (u : List ℕ) (k j state : ℕ) → k + 1 ≡ j → k < length u →
+    state_after_bits state (take j u) ≡ next_trellis_state (state_after_bits state (take k u)) (get_or u k 0)
+state_after-next u k j state next within = rw (← next) (state_after-more u k state within)
+
+-- a state consists of the last four bits
+pub traceback-after_four : (rows u : List ℕ) (from k n state : ℕ) → u ≡ traceback rows from → k + 4 ≡ n →
+    n ≤ length rows →
+    state ≡ 8 * get_or u k 0 + 4 * get_or u (k + 1) 0 + 2 * get_or u (k + 2) 0 + get_or u (k + 3) 0 →
+    drop n u ≡ traceback (drop n rows) state
+traceback-after_four rows u from k n state is end within last =
+    let long = ap length is ∙ length-traceback rows from in
+    let b0 : get_or u k 0 ≤ 1 = rw is (traceback-small rows from k) in
+    let b1 : get_or u (k + 1) 0 ≤ 1 = rw is (traceback-small rows from (k + 1)) in
+    let b2 : get_or u (k + 2) 0 ≤ 1 = rw is (traceback-small rows from (k + 2)) in
+    let b3 : get_or u (k + 3) 0 ≤ 1 = rw is (traceback-small rows from (k + 3)) in
+    let s1 = state_after-next u k (k + 1) from refl (omega arith) in
+    let s2 = state_after-next u (k + 1) (k + 2) from (omega arith) (omega arith) in
+    let s3 = state_after-next u (k + 2) (k + 3) from (omega arith) (omega arith) in
+    let s4 = state_after-next u (k + 3) n from (omega arith) (omega arith) in
+    follows-drop n u rows from (follows_later 0 n u rows from is (omega arith) within)
+    ∙ ap (traceback (drop n rows)) (omega arith)
 
 pub follows_past : (u rows : List ℕ) (index state : ℕ) → FollowsSurvivors index u rows 0 → index < length rows →
     state ≡ state_after_bits 0 (take index u)

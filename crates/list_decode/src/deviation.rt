@@ -208,37 +208,34 @@ pub(crate) fn apply_deviation(rows: &[u16], point: DeviationPoint, u: &mut [u8])
         traceback (drop (point.index + 1) rows.now) (next_trellis_state point.state (1 - slice_index u.old point.index)) }
 {
     let index = usize::from(point.index);
-    let old = u[index];
-    let bit = 1 - old;
+    let bit = 1 - u[index];
     u[index] = bit;
-    let before = u16::from(point.state);
-    let old_state = (2 * before + u16::from(old)) % 16;
-    let state = (2 * before + u16::from(bit)) % 16;
-    replace_until_merged(&rows[index + 1..], old_state, state, &mut u[index + 1..]);
+    let state = (2 * u16::from(point.state) + u16::from(bit)) % 16;
+    replace_until_merged(&rows[index + 1..], state, &mut u[index + 1..]);
 }
 
-/// Replaces the survivor of state `old_state` in `u` by the survivor of `state`. Once the two reach the same state, they agree, so the loop
-/// ends there, usually after some twenty positions. It compares the states only before every fourth position, which takes fewer
-/// instructions.
-fn replace_until_merged(rows: &[u16], old_state: u16, state: u16, u: &mut [u8])
-    requires chosen { u.old ≡ traceback rows.now old_state }
-    requires old_state { old_state < 16 }
+/// Replaces the survivor of some state in `u` by the survivor of `state`. Once the two reach the same state, they agree, so the loop ends
+/// there, usually after some twenty positions. A state is the last four bits, so the states are compared after every fourth position, and
+/// the old one is read from `u`.
+fn replace_until_merged(rows: &[u16], state: u16, u: &mut [u8])
+    requires count { length u.old ≡ length rows.now }
+    requires chosen { (old_state : ℕ) × (u.old ≡ traceback rows.now old_state) }
     requires state { state < 16 }
     ensures { u.new ≡ traceback rows.now state }
 {
     let groups = rows.len() / 4;
-    let mut old_state = old_state;
     let mut state = state;
     for group in 0..groups {
+        let k = 4 * group;
+        let first_two = 2 * u16::from(u[k]) + u16::from(u[k + 1]);
+        let old_state = 2 * (2 * first_two + u16::from(u[k + 2])) + u16::from(u[k + 3]);
+        for i in 0..4 {
+            let bit = (rows[k + i] >> state) & 1;
+            u[k + i] = bit as u8;
+            state = (2 * state + bit) % 16;
+        }
         if state == old_state {
             return;
-        }
-        for i in 0..4 {
-            let k = 4 * group + i;
-            let bit = (rows[k] >> state) & 1;
-            old_state = (2 * old_state + u16::from(u[k])) % 16;
-            u[k] = bit as u8;
-            state = (2 * state + bit) % 16;
         }
     }
     trace_back(&rows[4 * groups..], state, &mut u[4 * groups..]);

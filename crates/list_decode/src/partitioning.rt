@@ -11,7 +11,6 @@ use crate::choice::find_first_ranked_branch;
 use crate::pass::ViterbiPass;
 use crate::words::RankedWords;
 
-/// The next word in the ranking.
 #[derive(Clone, Copy)]
 pub(crate) struct NextWord {
     /// The index of the branch whose most likely word is the next word.

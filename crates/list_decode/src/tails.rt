@@ -4,6 +4,7 @@
 //! there costs both the same path metric. So a search for the best deviation from the word can end at that position.
 
 ghost use Rattle.std.specs.Prelude.{◌≡◌, ◌+◌, ◌<◌, ◌≤◌, length, take, slice_index};
+ghost use Rattle.weight_bound.specs.bit_blocks.Bits.{AllBits};
 ghost use Rattle.trellis_decode.specs.Trellis.{traceback};
 ghost use Rattle.list_decode.specs.DeviatingWords.{state_after_bits};
 ghost use Rattle.list_decode.specs.LeastLosses.{IsPossibleDeviation};
@@ -99,6 +100,7 @@ pub(crate) fn find_merging_index(
     states: &[u8; ENCODER_INPUT_BITS],
     span: &WordSpan,
 ) -> u8
+    requires bits { AllBits list.now }
     requires order { span.now.from ≤ span.now.to }
     requires end { span.now.to + 4 ≤ length list.now }
     requires at_most { length list.now ≤ ENCODER_INPUT_BITS }
@@ -108,12 +110,12 @@ pub(crate) fn find_merging_index(
     ensures to { result ≤ span.now.to }
     ensures merged { result < span.now.to → state_after_bits 0 (take result list.now) ≡ slice_index states.now result }
 {
-    let mut state = usize::from(span.state);
+    let mut state = span.state;
     for k in usize::from(span.from)..usize::from(span.to) {
-        if state == usize::from(states[k]) {
+        if state == states[k] {
             return k as u8;
         }
-        state = (2 * state + usize::from(list[k])) % 16;
+        state = (2 * state + list[k]) % 16;
     }
     span.to
 }

@@ -152,7 +152,6 @@ impl RankedWords {
         }
     }
 
-    /// Returns the chain of words from word 0 to word number `word_index`.
     fn chain_to_word(&self, word_index: u8) -> DeviationChain
         requires ranking { IsRanking self.now }
         requires within { word_index < self.now.count }
@@ -236,7 +235,6 @@ impl RankedWords {
     }
 }
 
-/// Pads a word with zeros to 228 bits.
 fn pad_with_zeros(word: &[u8]) -> [u8; ENCODER_INPUT_BITS]
     requires { length word.now ≤ ENCODER_INPUT_BITS }
     ensures { take (length word.now) result ≡ word.now }

@@ -104,7 +104,6 @@ delivered_is_completed ps (octets, false) =
 -- ## Cutting: `segments` is the only correct segmentation of a message, and each segment can be computed from its index. The proofs are by
 -- induction on the number of full segments.
 
--- the message m fills k segments of n octets and leaves 1 to n octets for the last segment
 pub record Fills (n k : ℕ) (m : List ℕ) : Type 0 where
   pub above : k * n < length m
   pub below : length m ≤ k * n + n
@@ -136,7 +135,6 @@ are_segments n m some_room h =
       full_except_last = AreFullExceptLast-cut_segments n _ m (Fills-valid n m some_room h);
     }
 
--- cutting the joined octets of the segments ps with `cut_segments` gives ps again: k full segments and the last one
 record IsCounted (n : ℕ) (ps : List Segment) (k : ℕ) : Type 0 where
   is_cut : ps ≡ cut_segments n k (reassembled_octets ps)
   fill : Fills n k (reassembled_octets ps)
@@ -315,7 +313,6 @@ pub count-all : (n : ℕ) (ms : List Message) → message_count (flat_map (segme
 count-all n [] = refl
 count-all n (m ∷ ms) = omega (arith, count-segments n m (flat_map (segments n) ms), count-all n ms)
 
--- the first k messages are complete after the first r segments if and only if all their segments are among these r
 completed_by_length : (n r k : ℕ) (m : Message) (ms : List Message) →
     ((j : ℕ) → (k ≤ message_count (take j (flat_map (segments n) ms))) ↔ (length (flat_map (segments n) (take k ms)) ≤ j)) →
     (suc k ≤ message_count (take r (flat_map (segments n) (m ∷ ms)))) ↔
@@ -381,7 +378,6 @@ pub completes : (ps : List Segment) (octets held : List ℕ) → held ≡ partia
 completes ps octets held e some h =
     grind (arith, message_if_fits-some held h, partial_message_after-last [] ps octets, completed_message_after-last [] ps octets)
 
--- after a segment with M = 1 that makes the message longer than 251 octets, the joiner holds no octets and discards the rest of the message
 pub taken_oversize : (ps : List Segment) (octets : List ℕ) → max_message_octets < length (partial_message ps ++ octets) →
     HoldsReassemblyOf P.Discarding [] (ps ++ (octets, true) ∷ [])
 taken_oversize ps octets h =
@@ -392,7 +388,6 @@ taken_oversize ps octets h =
       completed_message_after-more [] ps octets,
     )
 
--- after a segment with M = 0 that makes the message longer than 251 octets, the joiner holds no octets and expects a new message
 pub drops : (ps : List Segment) (octets : List ℕ) → max_message_octets < length (partial_message ps ++ octets) →
     HoldsReassemblyOf P.Open [] (ps ++ (octets, false) ∷ [])
 drops ps octets h =
@@ -427,7 +422,6 @@ HoldsReassemblyOf-same _ _ _ ps _ _ _ e f h = grind arith
 -- ## Histories: For every state of a joiner, some list of segments leads to it, and the length of this list modulo 8 can be chosen. The
 -- list consists of empty segments with M = 0 and one last segment that brings the joiner into the state.
 
--- there is a list of segments after which a joiner holds these octets, and the length of the list modulo 8 is `number`
 pub record HasHistory (part : ReassemblyState) (held : List ℕ) (number : ℕ) : Type 0 where
   pub taken : List Segment
   pub count : length taken % 8 ≡ number
@@ -513,12 +507,10 @@ thirteen_on_sdcch = refl
 fourteen_on_sacch : segments 18 (replicate 251 7) ≡ replicate 13 (replicate 18 7, true) ++ (replicate 17 7, false) ∷ []
 fourteen_on_sacch = refl
 
--- a message of 251 octets is delivered
 longest_message : messages (replicate 12 (replicate 20 7, true) ++ (replicate 11 8, false) ∷ []) ≡ (replicate 240 7 ++ replicate 11 8)
     ∷ []
 longest_message = refl
 
--- a message of 252 octets is discarded, and the next segment begins a new message
 one_octet_too_many : messages (replicate 12 (replicate 20 7, true) ++ (replicate 12 8, false) ∷ (9 ∷ [], false) ∷ []) ≡ (9 ∷ [])
     ∷ []
 one_octet_too_many = refl

@@ -102,7 +102,6 @@ impl Joiner {
         }
     }
 
-    // Returns the write index for the octets of the segment, or `None` if they make the message too long.
     fn write_position_for(&self, segment: &[u8]) -> Option<usize>
         ensures space { IfSome result (λ start. start + length segment.now ≤ max_message_octets) }
         ensures place { (taken : List Segment) → HasTakenSegments self.now taken → MatchOption result

@@ -7,8 +7,7 @@ ghost use Rattle.lapdm_frame.specs.declared.Channel.{Channel};
 ghost use Rattle.lapdm_frame.specs.Layout.{n201};
 ghost use Rattle.segmenting.specs.Segments.{Message, Segment, IsValidMessage, AreSegments, segments};
 ghost use Rattle.segmenting.specs.Joining.{messages_ending_in_segments, messages, message_count, reassembly_result, message_if_whole};
-ghost use Rattle.segmenting.specs.Joining.{message_delivered_by_segment};
-ghost use Rattle.segmenting.specs.Joining.{completed_message};
+ghost use Rattle.segmenting.specs.Joining.{message_delivered_by_segment, completed_message};
 
 /// Law: for any segment size above 0, there is exactly one way to cut a message of 1 to 251 octets into segments.
 pub fn law_segmentation_is_unique()

@@ -1,24 +1,21 @@
 -- No frame carries bursts of two rows, and the bursts of a block have one place.
-use Rattle.bit_blocks.proofs.Lemmas.{at_passes_below, both_true, passes_below}
-use Rattle.std.proofs.Common.{Bool, Contains, List, Option, None, Some, [], ap, arith, eqb, false, ltb, not, refl, subst, sym, true}
-use Rattle.std.proofs.Common.{ℕ, cond, inl, inr, ◌%◌, ◌&&◌, ◌*◌, ◌+◌, ◌-◌, ◌/◌, ◌<◌, ◌∙◌, ◌≡◌}
-use Rattle.std.proofs.Common.{◌≢◌, ◌∷◌, ◌⊎◌, ◌||◌}
-use Rattle.std.specs.List.{list_all}
-use Rattle.std.proofs.lemmas.Bool.Decides.{Decides-eqb, Decides-ltb, Decides-or, nat_tests}
-use Rattle.std.proofs.lemmas.List.Elements.{All-cons, All-contains, All-nil, Contains-append_left, Contains-append_right, Contains-push}
-use Rattle.std.proofs.lemmas.Bool.{cases_lt}
-use Rattle.tdma.specs.declared.channels.Channel.TheVariants.{Sacch}
-use Rattle.std.proofs.lemmas.List.Sums.{AllPass-from_list_all}
-use Rattle.tdma.specs.Channels.{Mapping, burst_spacing, carries, frames_since, mappings, place_at, place_of, position_among, position_of}
-use Rattle.tdma.specs.declared.TheConstants.{HYPERFRAME}
-use Rattle.tdma.specs.declared.channels.Combination.{Combination}
-use Rattle.tdma.specs.declared.channels.Combination.TheVariants.{BcchCcch, BcchCcchSdcch4, Sdcch8, TchF}
-use Rattle.tdma.specs.declared.channels.Direction.{Direction}
-use Rattle.tdma.specs.declared.channels.Direction.TheVariants.{Downlink, Uplink}
-use Rattle.tdma.specs.declared.places.Place.{Place}
-use Rattle.tdma.specs.declared.schedule.Position.{Position}
-use Rattle.tdma.proofs.Cycles.{position_at_remainder, repeats, same_since}
-use Rattle.tdma.proofs.Tables.{is_same, same_positions}
+use Rattle.{
+  bit_blocks.proofs.Lemmas.{at_passes_below, both_true, passes_below},
+  std.proofs.Common.{Bool, Contains, List, Option, None, Some, [], ap, arith, eqb, false, ltb, not, refl, subst, sym, true, ℕ, cond, inl},
+  std.proofs.Common.{inr, ◌%◌, ◌&&◌, ◌*◌, ◌+◌, ◌-◌, ◌/◌, ◌<◌, ◌∙◌, ◌≡◌, ◌≢◌, ◌∷◌},
+  std.proofs.{Common.{◌⊎◌, ◌||◌}, lemmas.Bool.{Decides.{Decides-eqb, Decides-ltb, Decides-or, nat_tests}, cases_lt}},
+  std.proofs.lemmas.List.Elements.{All-cons, All-contains, All-nil, Contains-append_left, Contains-append_right, Contains-push},
+  std.{proofs.lemmas.List.Sums.AllPass-from_list_all, specs.List.list_all},
+  tdma.{
+    specs.{
+      declared.channels.{Channel.TheVariants.Sacch, Combination.{Combination, TheVariants.{BcchCcch, BcchCcchSdcch4, Sdcch8, TchF}}},
+      declared.{channels.Direction.{Direction, TheVariants.{Downlink, Uplink}}, TheConstants.HYPERFRAME, places.Place.Place},
+      declared.schedule.Position.Position,
+      Channels.{Mapping, burst_spacing, carries, frames_since, mappings, place_at, place_of, position_among, position_of},
+    },
+    proofs.{Cycles.{position_at_remainder, repeats, same_since}, Tables.{is_same, same_positions}},
+  },
+}
 
 -- ## Alone: computed for each row at each of 102 frames.
 
@@ -65,7 +62,6 @@ all_alone Sdcch8 Downlink h = alone_vii_down
 all_alone Sdcch8 Uplink h = alone_vii_up
 all_alone TchF d h = absurd (h refl)
 
--- a row repeats every 51 or 102 frames, and begins within this length
 abbrev is_row : Mapping → Bool
 is_row m = repeats m && (ltb m.first m.repeat_length && ltb m.bursts 5)
 
@@ -136,7 +132,6 @@ alone_anywhere TchF d t f row = traffic_alone d t f row
 
 -- ## First: the first frame of a frame's block.
 
--- the frame carries this burst of a row
 record IsBurstOfRow (spacing : ℕ) (rows : List Mapping) (frame : ℕ) (position : Position) : Type 0 where
   row : Mapping
   among : Contains rows row
@@ -213,7 +208,6 @@ carries_burst : (s f b : ℕ) (row : Mapping) → b < row.bursts → frames_sinc
     carries s row f ≡ true
 carries_burst s f b row lt whole burst = grind (arith, nat_tests)
 
--- the frame of a row's burst, less the frames since the first burst, is a frame of the first burst
 since_at_first : (r start f : ℕ) → (r ≡ 51) ⊎ ((r ≡ 102) ⊎ (r ≡ 104)) → start < r →
     (((f + HYPERFRAME - (f % r + r - start) % r) % HYPERFRAME) % r + r - start) % r ≡ 0
 since_at_first r start f (inl h) within = rw h (since_at_first_51 start f (omega arith))
@@ -232,7 +226,6 @@ since_at_first r start f (inr (inr h)) within = rw h (since_at_first_104 start f
         (((f + HYPERFRAME - (f % 104 + 104 - start) % 104) % HYPERFRAME) % 104 + 104 - start) % 104 ≡ 0
     since_at_first_104 start f within = omega arith
 
--- the row repeats in a hyperframe, and begins within its length
 record IsPeriodic (row : Mapping) : Type 0 where
   length : (row.repeat_length ≡ 51) ⊎ ((row.repeat_length ≡ 102) ⊎ (row.repeat_length ≡ 104))
   start : row.first < row.repeat_length
@@ -257,7 +250,6 @@ periodic_in_traffic d t row slot among =
     All-contains IsPeriodic (mappings TchF d t) row
     (All-cons IsPeriodic _ [] (record { length = inr (inr refl); start = omega arith }) (All-nil IsPeriodic)) among
 
--- the row of which the frame `f` has burst `b` has its first burst in the frame `first`
 first_of_row : (c : Combination) (d : Direction) (timeslot f first : ℕ) (p : Position) (row : Mapping) → IsPeriodic row →
     Contains (mappings c d timeslot) row → carries (burst_spacing c) row f ≡ true →
     burst_spacing c * (frames_since row f / burst_spacing c) ≡ frames_since row f → 0 % burst_spacing c ≡ 0 →
@@ -279,7 +271,6 @@ first_of_row c d t f first p row periodic among carried whole none zeroth burst 
     placed
     ∙ ap (λ (q : Position). Some (let made : Place = record { first = first; position = record q { burst = 0 } } in made)) (sym burst)
 
--- the first frame of a frame's block has the place of the block's first burst
 pub first_of_block : (c : Combination) (d : Direction) (timeslot f : ℕ) (p : Place) → timeslot < 8 →
     place_of c d timeslot f ≡ Some p →
     place_of c d timeslot p.first ≡ Some (record { first = p.first; position = record p.position { burst = 0 } })

@@ -1,18 +1,20 @@
 -- The tables repeat: what a frame carries depends on its place in a cycle of 102 frames, or 104 for a traffic channel.
-use Rattle.bit_blocks.proofs.Lemmas.{both_true}
-use Rattle.std.proofs.Common.{Bool, List, Option, [], ap, arith, eqb, refl, sym, true}
-use Rattle.std.proofs.Common.{ℕ, inl, inr, ◌%◌, ◌&&◌, ◌+◌, ◌-◌, ◌<◌, ◌∙◌, ◌≡◌, ◌≢◌, ◌⊎◌}
-use Rattle.std.proofs.Common.{◌∷◌}
-use Rattle.std.proofs.Common.{Some, leb, ◌||◌}
-use Rattle.std.specs.List.{list_all}
-use Rattle.std.proofs.lemmas.Bool.Decides.{nat_tests, Decides-eqb, Decides-or}
-use Rattle.tdma.specs.Channels.{burst_spacing, Mapping, frames_since, mappings, position_among, position_of}
-use Rattle.tdma.specs.declared.TheConstants.{HYPERFRAME}
-use Rattle.tdma.specs.declared.channels.Combination.{Combination}
-use Rattle.tdma.specs.declared.channels.Combination.TheVariants.{BcchCcch, BcchCcchSdcch4, Sdcch8, TchF}
-use Rattle.tdma.specs.declared.channels.Direction.{Direction}
-use Rattle.tdma.specs.declared.channels.Direction.TheVariants.{Downlink, Uplink}
-use Rattle.tdma.specs.declared.schedule.Position.{Position}
+use Rattle.{
+  bit_blocks.proofs.Lemmas.both_true,
+  std.{
+    proofs.{
+      Common.{Bool, List, Option, [], ap, arith, eqb, refl, sym, true, ℕ, inl, inr, ◌%◌, ◌&&◌, ◌+◌, ◌-◌, ◌<◌},
+      Common.{◌∙◌, ◌≡◌, ◌≢◌, ◌⊎◌, ◌∷◌, Some, leb, ◌||◌},
+      lemmas.Bool.Decides.{nat_tests, Decides-eqb, Decides-or},
+    },
+    specs.List.list_all,
+  },
+  tdma.specs.{
+    Channels.{burst_spacing, Mapping, frames_since, mappings, position_among, position_of},
+    declared.{TheConstants.HYPERFRAME, channels.Combination.{Combination, TheVariants.{BcchCcch, BcchCcchSdcch4, Sdcch8, TchF}}},
+    declared.{channels.Direction.{Direction, TheVariants.{Downlink, Uplink}}, schedule.Position.Position},
+  },
+}
 
 abbrev pub cycle : Combination → ℕ
 cycle TchF = 104

@@ -1,17 +1,15 @@
 -- Frame numbers, the bits of a synchronisation burst, and the tables of the channels.
-use Rattle.bit_blocks.proofs.Lemmas.{at_passes_below, octets_of-bits_of, passes_below}
-use Rattle.bit_blocks.specs.Octets.{AllOctets, IsOctet, bits_of, octets_of}
-use Rattle.std.proofs.Common.{Bool, List, [], ap, ap₂, arith, eqb, get_or, length, refl, rules, sym, take, tests, true}
-use Rattle.std.proofs.Common.{suc, ℕ, ◌%◌, ◌*◌, ◌++◌, ◌+◌, ◌-◌, ◌/◌, ◌<◌, ◌∙◌, ◌∷◌, ◌≡◌}
-use Rattle.std.proofs.Common.{◌≤◌, inl, inr}
-use Rattle.std.proofs.lemmas.Bool.{cases_lt}
-use Rattle.std.proofs.lemmas.List.{take_all}
-use Rattle.std.proofs.Math.Seq.{take-suc}
-use Rattle.std.proofs.lemmas.List.Elements.{All-cons, All-nil}
-use Rattle.tdma.specs.Frames.{IsFrameAt}
-use Rattle.tdma.specs.Numbers.{bsic_bits}
-use Rattle.tdma.specs.Sync.{HasSch, reduced_t3, sch_bits, t2_of_bits, t3_of_bits}
-use Rattle.tdma.specs.declared.sync.SchInfo.{SchInfo}
+use Rattle.{
+  bit_blocks.{proofs.Lemmas.{at_passes_below, octets_of-bits_of, passes_below}, specs.Octets.{AllOctets, IsOctet, bits_of, octets_of}},
+  std.proofs.{
+    Common.{Bool, List, [], ap, ap₂, arith, eqb, get_or, length, refl, rules, sym, take, tests, true, suc, ℕ, ◌%◌, ◌*◌},
+    Common.{◌++◌, ◌+◌, ◌-◌, ◌/◌, ◌<◌, ◌∙◌, ◌∷◌, ◌≡◌, ◌≤◌, inl, inr},
+    lemmas.{Bool.cases_lt, List.{take_all, Elements.{All-cons, All-nil}}},
+    Math.Seq.take-suc,
+  },
+  tdma.specs.{Frames.IsFrameAt, Numbers.bsic_bits, Sync.{HasSch, reduced_t3, sch_bits, t2_of_bits, t3_of_bits}},
+  tdma.specs.declared.sync.SchInfo.SchInfo,
+}
 
 -- ## Lists: short lists by their elements.
 

@@ -1,16 +1,15 @@
 -- The tables of the channels: the computed schedule agrees with them, checked at each of 102 frames.
-use Rattle.bit_blocks.proofs.Lemmas.{at_passes_below, both_true, passes_below}
-use Rattle.std.proofs.Common.{Bool, Option, None, Some, ap, eqb, false, refl, sym, true}
-use Rattle.std.proofs.Common.{ℕ, cond, ◌%◌, ◌&&◌, ◌+◌, ◌<◌, ◌∙◌, ◌≡◌}
-use Rattle.std.proofs.lemmas.Bool.Decides.{Decides-eqb}
-use Rattle.tdma.specs.Channels.{position_of}
-use Rattle.tdma.specs.Uplink.{uplink_after}
-use Rattle.tdma.specs.declared.channels.Combination.{Combination}
-use Rattle.tdma.specs.declared.channels.Combination.TheVariants.{BcchCcch, BcchCcchSdcch4, Sdcch8}
-use Rattle.tdma.specs.declared.channels.Direction.TheVariants.{Downlink, Uplink}
-use Rattle.tdma.specs.declared.channels.Channel.{Channel}
-use Rattle.tdma.specs.declared.channels.Channel.TheVariants.{Sdcch, Sacch, Bcch, Ccch, Fcch, Sch, Rach}
-use Rattle.tdma.specs.declared.schedule.Position.{Position}
+use Rattle.{
+  bit_blocks.proofs.Lemmas.{at_passes_below, both_true, passes_below},
+  std.proofs.Common.{Bool, Option, None, Some, ap, eqb, false, refl, sym, true, ℕ, cond, ◌%◌, ◌&&◌, ◌+◌, ◌<◌, ◌∙◌},
+  std.proofs.{Common.◌≡◌, lemmas.Bool.Decides.Decides-eqb},
+  tdma.specs.{
+    Channels.position_of,
+    Uplink.uplink_after,
+    declared.channels.{Combination.{Combination, TheVariants.{BcchCcch, BcchCcchSdcch4, Sdcch8}}, Direction.TheVariants.{Downlink, Uplink}},
+    declared.{channels.Channel.{Channel, TheVariants.{Sdcch, Sacch, Bcch, Ccch, Fcch, Sch, Rach}}, schedule.Position.Position},
+  },
+}
 
 -- ## Same: a test whether two positions are the same.
 

@@ -1,7 +1,6 @@
 -- The channels of a time slot (GSM 05.02, today 3GPP TS 45.002, section 7, tables 1, 3 and 4): where the bursts of each block come.
-use Rattle.std.specs.Prelude.{ℕ, zero, suc, ◌+◌, ◌-◌, ◌*◌, ◌/◌, ◌%◌, ◌==◌, nat_lt, ◌&&◌}
-use Rattle.std.specs.Prelude.{if◌then◌else◌, List, [], ◌∷◌, ◌++◌}
-use Rattle.std.specs.Prelude.{◌≡◌, ◌<◌, Bool, Option, Some, None}
+use Rattle.std.specs.Prelude.{ℕ, zero, suc, ◌+◌, ◌-◌, ◌*◌, ◌/◌, ◌%◌, ◌==◌, nat_lt, ◌&&◌, if◌then◌else◌}
+use Rattle.std.specs.Prelude.{List, [], ◌∷◌, ◌++◌, ◌≡◌, ◌<◌, Bool, Option, Some, None}
 use Rattle.tdma.specs.declared.TheConstants.{HYPERFRAME}
 use Rattle.tdma.specs.declared.channels.Combination.{Combination}
 use Rattle.tdma.specs.declared.channels.Combination.TheVariants.{BcchCcch, BcchCcchSdcch4, Sdcch8, TchF}

@@ -50,7 +50,6 @@ sign_at [] i h = absurd (omega (arith, h))
 sign_at (bit ∷ bits) zero h = refl
 sign_at (bit ∷ bits) (suc i) h = sign_at bits i (omega (arith, h))
 
--- in the list of the signs of all eight training sequences at one index, element `tsc` is the sign of that sequence
 pub sign_in_row : (tsc i : ℕ) → tsc ≤ 7
     → get_or (map (λ bits. sign_of_bit (get_or bits i 0)) training_sequences) tsc (pos 0) ≡ sign_of_bit (get_or (midamble tsc) i 0)
 sign_in_row tsc i h = get_or-map (λ bits. sign_of_bit (get_or bits i 0)) training_sequences tsc [] (pos 0) (omega arith)
@@ -106,7 +105,7 @@ module _ (totals : List ℤ) (value : ℤ) (signs : List ℤ) (long : length tot
       (pos 0) (pos 0) (pos 0)
       ∙ one_lane (get_or totals k (pos 0)) value (get_or signs k (pos 0)) t v s
 
--- totals that are at most 13312 in absolute value are unchanged by conversion to 16 bits and back
+-- 13312 is 4 * 26 * 128, which no correlation of four midambles exceeds
 pub passed : (totals : List ℤ) → length totals ≡ 8 → ((k : ℕ) → k ≤ 7 →
     IsMagnitudeWithin 13312 (get_or totals k (pos 0))) →
     map (to_z w16) (map (of_z w16) totals) ≡ totals
@@ -125,7 +124,6 @@ correlation_more soft bits i total all hs hb before =
     rw (drop_more soft i (pos 0), drop_more bits i 0) at before in
     omega (arith, ints)
 
--- the number of wrong soft bits from index i on is the number from i + 1 on, plus one if soft bit i is wrong
 pub wrong_more : (soft : List ℤ) (bits : List ℕ) (i : ℕ) → i < length soft → i < length bits →
     count_wrong_bits (drop i soft) (drop i bits) ≡ wrong_bits_at soft i (sign_of_bit (get_or bits i 0)) + count_wrong_bits
     (drop (i + 1) soft)
@@ -171,7 +169,6 @@ IsFirstMaximum-from_LeadsBelow score best leads = record {
   others = λ n h ne. leads.others n (omega arith) ne;
 }
 
--- if two scores are equal at every index, the first index with the greatest score is the same for both
 pub IsFirstMaximum-same : (score total : ℕ → ℤ) (last best : ℕ) → ((n : ℕ) → n ≤ last → score n ≡ total n) →
     IsFirstMaximum score last best → IsFirstMaximum total last best
 IsFirstMaximum-same score total last best same first = record {
@@ -191,7 +188,6 @@ IsFirstMaximum-first_greatest score = IsFirstMaximum-from_LeadsBelow score (firs
 pub some_first_greatest : (score : ℕ → ℤ) → (best : ℕ) × IsFirstMaximum score 7 best
 some_first_greatest score = (first_greatest score 7, IsFirstMaximum-first_greatest score)
 
--- the first index with the greatest score is unique
 pub one_first_greatest : (score : ℕ → ℤ) (last m n : ℕ) → IsFirstMaximum score last m → IsFirstMaximum score last n → m ≡ n
 one_first_greatest score last m n h g = elim (cases_eq m n) [
   | inl same ↦ same

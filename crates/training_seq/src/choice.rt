@@ -59,7 +59,6 @@ fn add_midambles(a: &[i8], b: &[i8], c: &[i8], d: &[i8]) -> [i16; 26]
     sums
 }
 
-// Returns the sum of the soft bits at index `i` of the four midambles.
 fn midamble_sum_at(a: &[i8], b: &[i8], c: &[i8], d: &[i8], i: usize) -> i16
     requires a { i < length a.now }
     requires b { i < length b.now }
@@ -71,7 +70,6 @@ fn midamble_sum_at(a: &[i8], b: &[i8], c: &[i8], d: &[i8], i: usize) -> i16
     i16::from(a[i]) + i16::from(b[i]) + i16::from(c[i]) + i16::from(d[i])
 }
 
-// Returns the training sequence code with the greatest correlation with the sums, or the lowest such code if there are several.
 fn most_correlated_tsc(sums: &[i16; 26]) -> u8
     requires small { All (IsMagnitudeWithin 512) sums.now }
     ensures { IsFirstMaximum (λ tsc. likelihood sums.now (midamble tsc)) 7 result }
@@ -89,7 +87,7 @@ fn most_correlated_tsc(sums: &[i16; 26]) -> u8
     best
 }
 
-// Counts for each midamble the soft bits that disagree with a training sequence. One loop over all four is vectorized better than four.
+// One loop over all four is vectorized better than four.
 fn count_wrong_training_bits(a: &[i8], b: &[i8], c: &[i8], d: &[i8], tsc: u8) -> [u8; 4]
     requires a { length a.now ≡ 26 }
     requires b { length b.now ≡ 26 }
@@ -110,8 +108,7 @@ fn count_wrong_training_bits(a: &[i8], b: &[i8], c: &[i8], d: &[i8], tsc: u8) ->
     [of_a as u8, of_b as u8, of_c as u8, of_d as u8]
 }
 
-// Returns 1 if the soft bit at index `i` disagrees with a training bit of this sign, else 0. Results and signs both have 16 bits, so a
-// vector holds eight of either.
+// Results and signs both have 16 bits, so that a vector holds eight of either.
 fn wrong_bits_at(midamble: &[i8], bit_index: usize, sign: i16) -> u16
     requires within { bit_index < length midamble.now }
     requires sign { IsMagnitudeWithin 1 sign }

@@ -17,7 +17,6 @@ pub fn correlate(soft: &[i8], tsc: u8) -> i32
     i32::from(correlate_sums(&widen_to_i16(soft))[tsc as usize])
 }
 
-/// Widens 26 soft bits to 16-bit numbers.
 fn widen_to_i16(soft: &[i8]) -> [i16; 26]
     requires { length soft.now ≡ 26 }
     ensures value { result ≡ soft.now }
@@ -30,7 +29,6 @@ fn widen_to_i16(soft: &[i8]) -> [i16; 26]
     wide
 }
 
-/// Returns the correlations of the sums of four midambles with the eight training sequences.
 pub(crate) fn correlate_sums(sums: &[i16; 26]) -> [i16; 8]
     requires small { All (IsMagnitudeWithin 512) sums.now }
     ensures value { (tsc : ℕ) → tsc ≤ 7 → soft_bit_at result tsc ≡ likelihood sums.now (midamble tsc) }
@@ -45,14 +43,12 @@ pub(crate) fn correlate_sums(sums: &[i16; 26]) -> [i16; 8]
     totals.lanes.to_array()
 }
 
-/// The correlations with the eight training sequences, summed over the indexes so far.
 #[derive(Clone, Copy)]
 struct CorrelationTotals {
     lanes: i16x8,
 }
 
 impl CorrelationTotals {
-    /// Adds to each total the product of `value` and the sign with the same index.
     #[inline]
     fn add_product(self, value: i16, signs: &[i16; 8]) -> CorrelationTotals
         requires count { length self.lanes ≡ 8 }
@@ -69,7 +65,6 @@ impl CorrelationTotals {
     }
 }
 
-/// Returns the product of `value` and `sign`, which is -1, 0 or 1.
 pub(crate) fn times_sign(value: i16, sign: i16) -> i16
     requires small { IsMagnitudeWithin 512 value }
     requires sign { IsMagnitudeWithin 1 sign }

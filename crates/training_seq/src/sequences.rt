@@ -62,7 +62,6 @@ static TRAINING_SIGNS: [[i16; 26]; 8] = [
     ],
 ];
 
-// The signs of the eight training sequences at each of the 26 indexes.
 static TRAINING_SIGNS_BY_BIT_INDEX: [[i16; 8]; 26] = [
     [1, 1, 1, 1, 1, 1, -1, -1],
     [1, 1, -1, -1, 1, -1, 1, -1],
@@ -110,7 +109,6 @@ pub(crate) fn signs(tsc: u8) -> &'static [i16; 26]
     &TRAINING_SIGNS[tsc as usize]
 }
 
-/// Returns the signs of the eight training sequences at index `i`.
 pub(crate) fn all_tsc_signs_at(bit_index: usize) -> &'static [i16; 8]
     requires { bit_index < 26 }
     ensures { result.now ≡ map (λ bits. sign_of_bit (slice_index bits bit_index)) training_sequences }

@@ -1,7 +1,6 @@
 -- Decoding of hard bits (soft bits that are all 127 or -127): one vector of 8-bit lanes holds the path metrics of all sixteen states.
 use Rattle.std.specs.Prelude.{ℕ, ◌≡◌, ◌+◌, ◌*◌, ◌/◌, ◌%◌, ◌<◌, ◌⊎◌, ◌≤ℤ◌, ℤ, pos, negsuc}
-use Rattle.std.specs.Prelude.{◌+ℤ◌, ◌*ℤ◌, List, length, if◌then◌else◌}
-use Rattle.std.specs.Prelude.{int_lt}
+use Rattle.std.specs.Prelude.{◌+ℤ◌, ◌*ℤ◌, List, length, if◌then◌else◌, int_lt}
 use Rattle.std.specs.Int.{w8}
 use Rattle.lanes.specs.Lanes.{AreBetween, AreSigned, lane}
 use Rattle.trellis_decode.specs.Trellis.{branch_metric}

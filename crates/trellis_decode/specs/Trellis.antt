@@ -1,8 +1,7 @@
 -- Paths through the trellis of sixteen states, used in the proof of the decoder. A state consists of the last four input bits, the newest
 -- as the least significant bit.
 use Rattle.std.specs.Prelude.{ℕ, ◌≡◌, ◌/◌, ◌%◌, ◌^◌, ◌-◌, ◌<◌, ◌≤◌, ◌⊎◌, ℤ, pos, ◌+ℤ◌}
-use Rattle.std.specs.Prelude.{◌-ℤ◌, ◌<ℤ◌, ◌≤ℤ◌, List, [], ◌∷◌, length}
-use Rattle.std.specs.Prelude.{slice_index_or, drop}
+use Rattle.std.specs.Prelude.{◌-ℤ◌, ◌<ℤ◌, ◌≤ℤ◌, List, [], ◌∷◌, length, slice_index_or, drop}
 use Rattle.conv_code.specs.bit_blocks.Bits.{IsBit}
 use Rattle.conv_code.specs.Likelihood.{likelihood}
 pub use Rattle.conv_code.specs.States.{next_trellis_state, first_coded_bit, second_coded_bit, encoding_from_state}

@@ -12,22 +12,22 @@ use std::simd::prelude::*;
 /// A vector of eight 16-bit numbers. It is wrapped in a struct because proofs handle a struct as a whole, but split a bare vector into its
 /// lanes.
 #[derive(Clone, Copy)]
-pub struct EightLanes {
-    pub lanes: i16x8,
+pub(crate) struct EightLanes {
+    pub(crate) lanes: i16x8,
 }
 
 /// Eight decisions, one per lane: -1 for bit 1, 0 for bit 0.
 #[derive(Clone, Copy)]
-pub struct EightDecisions {
-    pub lanes: i8x8,
+pub(crate) struct EightDecisions {
+    pub(crate) lanes: i8x8,
 }
 
 #[derive(Clone, Copy)]
-pub struct SixteenLanes {
-    pub lanes: i16x16,
+pub(crate) struct SixteenLanes {
+    pub(crate) lanes: i16x16,
 }
 
-pub fn add_branch_metrics(path_metrics: EightLanes, branch_metrics: EightLanes) -> EightLanes
+pub(crate) fn add_branch_metrics(path_metrics: EightLanes, branch_metrics: EightLanes) -> EightLanes
     requires headroom16 { HaveHeadroom16 path_metrics.lanes }
     requires branch_metrics { AreBranchMetrics branch_metrics.lanes }
     ensures { IsLanewise w16 8 ◌+ℤ◌ path_metrics.lanes branch_metrics.lanes result.lanes }
@@ -37,7 +37,10 @@ pub fn add_branch_metrics(path_metrics: EightLanes, branch_metrics: EightLanes) 
     }
 }
 
-pub fn subtract_branch_metrics(path_metrics: EightLanes, branch_metrics: EightLanes) -> EightLanes
+pub(crate) fn subtract_branch_metrics(
+    path_metrics: EightLanes,
+    branch_metrics: EightLanes,
+) -> EightLanes
     requires headroom16 { HaveHeadroom16 path_metrics.lanes }
     requires branch_metrics { AreBranchMetrics branch_metrics.lanes }
     ensures { IsLanewise w16 8 ◌-ℤ◌ path_metrics.lanes branch_metrics.lanes result.lanes }
@@ -47,7 +50,7 @@ pub fn subtract_branch_metrics(path_metrics: EightLanes, branch_metrics: EightLa
     }
 }
 
-pub fn lane_maxima(first: EightLanes, second: EightLanes) -> EightLanes
+pub(crate) fn lane_maxima(first: EightLanes, second: EightLanes) -> EightLanes
     requires first { AreInt16 first.lanes }
     requires second { AreInt16 second.lanes }
     ensures { IsLanewise w16 8 greater first.lanes second.lanes result.lanes }
@@ -58,7 +61,7 @@ pub fn lane_maxima(first: EightLanes, second: EightLanes) -> EightLanes
 }
 
 /// Interleaves the first four lanes of `first` and `second`.
-pub fn interleave_first_lanes(first: EightLanes, second: EightLanes) -> EightLanes
+pub(crate) fn interleave_first_lanes(first: EightLanes, second: EightLanes) -> EightLanes
     requires first { AreInt16 first.lanes }
     requires second { AreInt16 second.lanes }
     ensures each { result.lanes ≡ interleaved_lanes first.lanes second.lanes 0 1 2 3 }
@@ -72,7 +75,7 @@ pub fn interleave_first_lanes(first: EightLanes, second: EightLanes) -> EightLan
 }
 
 /// Interleaves the last four lanes of `first` and `second`.
-pub fn interleave_last_lanes(first: EightLanes, second: EightLanes) -> EightLanes
+pub(crate) fn interleave_last_lanes(first: EightLanes, second: EightLanes) -> EightLanes
     requires first { AreInt16 first.lanes }
     requires second { AreInt16 second.lanes }
     ensures each { result.lanes ≡ interleaved_lanes first.lanes second.lanes 4 5 6 7 }
@@ -86,7 +89,7 @@ pub fn interleave_last_lanes(first: EightLanes, second: EightLanes) -> EightLane
 }
 
 /// Returns -1 in each lane where `bit_1` is greater than `bit_0`, and 0 in the others.
-pub fn decisions_from_candidates(bit_0: EightLanes, bit_1: EightLanes) -> EightDecisions
+pub(crate) fn decisions_from_candidates(bit_0: EightLanes, bit_1: EightLanes) -> EightDecisions
     requires first { AreInt16 bit_0.lanes }
     requires second { AreInt16 bit_1.lanes }
     ensures each { (k : ℕ) → k < 8 → lane result.lanes k ≡
@@ -98,7 +101,7 @@ pub fn decisions_from_candidates(bit_0: EightLanes, bit_1: EightLanes) -> EightD
     }
 }
 
-pub fn subtract_lanes(minuend: EightLanes, subtrahend: EightLanes) -> EightLanes
+pub(crate) fn subtract_lanes(minuend: EightLanes, subtrahend: EightLanes) -> EightLanes
     requires first { AreInt16 minuend.lanes }
     requires second { AreInt16 subtrahend.lanes }
     requires fits_16_bits { DifferencesFit w16 8 minuend.lanes subtrahend.lanes }
@@ -110,7 +113,7 @@ pub fn subtract_lanes(minuend: EightLanes, subtrahend: EightLanes) -> EightLanes
 }
 
 /// Puts the lanes in state order: `low_states` holds the states 0 to 7 and `high_states` the states 8 to 15, both in bit-reversed order.
-pub fn to_state_order(low_states: EightLanes, high_states: EightLanes) -> SixteenLanes
+pub(crate) fn to_state_order(low_states: EightLanes, high_states: EightLanes) -> SixteenLanes
     requires low_lanes { AreInt16 low_states.lanes }
     requires high_lanes { AreInt16 high_states.lanes }
     ensures { result.lanes ≡ lanes_in_state_order low_states.lanes high_states.lanes }
@@ -123,7 +126,7 @@ pub fn to_state_order(low_states: EightLanes, high_states: EightLanes) -> Sixtee
     }
 }
 
-pub fn absolute_values(values: SixteenLanes) -> SixteenLanes
+pub(crate) fn absolute_values(values: SixteenLanes) -> SixteenLanes
     requires { AbsFit16Bits values.lanes }
     ensures each { (s : ℕ) → s < 16 → lane result.lanes s ≡
         (if int_lt (lane values.lanes s) (pos 0 -ℤ lane values.lanes s) then pos 0 -ℤ lane values.lanes s else lane values.lanes s) }
@@ -135,7 +138,7 @@ pub fn absolute_values(values: SixteenLanes) -> SixteenLanes
 }
 
 /// Bit `s` of the result is 1 if lane `s` is negative.
-pub fn signs(a: SixteenLanes) -> u16
+pub(crate) fn signs(a: SixteenLanes) -> u16
     requires { AbsFit16Bits a.lanes }
     ensures { (s : ℕ) → s < 16 → result / 2 ^ s % 2 ≡ (if int_lt (lane a.lanes s) (pos 0) then 1 else 0) }
 {

@@ -9,8 +9,7 @@ ghost use Rattle.trellis_decode.specs.Trellis.{IsDecision, candidate_metric};
 ghost use Rattle.lanes.specs.Lanes.{lane};
 ghost use Rattle.trellis_decode.specs.Candidates.{AreAcsCandidates};
 ghost use Rattle.trellis_decode.specs.AcsLanes.{AreBranchMetrics, AreInt16, AreDecisionLanes, lane_decisions, HasBranchMetrics};
-ghost use Rattle.trellis_decode.specs.AcsLanes.{HaveHeadroom16};
-ghost use Rattle.trellis_decode.specs.AcsLanes.{path_metric};
+ghost use Rattle.trellis_decode.specs.AcsLanes.{HaveHeadroom16, path_metric};
 
 use crate::acs_lanes::{
     EightDecisions, EightLanes, add_branch_metrics, decisions_from_candidates,
@@ -22,16 +21,16 @@ use std::simd::prelude::*;
 /// rescaling. In bit-reversed order the next states after bit 0 and after bit 1 are whole vectors; in natural order the compiler makes
 /// blends.
 #[derive(Clone, Copy)]
-pub struct PathMetrics {
+pub(crate) struct PathMetrics {
     /// The path metrics of the even states, in the bit-reversed order of their upper three bits.
-    pub even_states: EightLanes,
+    pub(crate) even_states: EightLanes,
     /// The path metrics of the odd states, in the bit-reversed order of their upper three bits.
-    pub odd_states: EightLanes,
+    pub(crate) odd_states: EightLanes,
 }
 
 impl PathMetrics {
     /// The path metrics after the last bit: 0 in every state.
-    pub fn new() -> PathMetrics
+    pub(crate) fn new() -> PathMetrics
         ensures each { (s : ℕ) → s < 16 → lane (path_metric result) s ≡ pos 0 }
         ensures even { AreInt16 result.even_states.lanes }
         ensures odd { AreInt16 result.odd_states.lanes }
@@ -45,7 +44,7 @@ impl PathMetrics {
         }
     }
 
-    pub fn metric_of_state_0(self) -> i32
+    pub(crate) fn metric_of_state_0(self) -> i32
         requires { AreInt16 self.even_states.lanes }
         ensures { result ≡ lane (path_metric self) 0 }
     {
@@ -57,28 +56,28 @@ impl PathMetrics {
 /// begins with bit 1, each minus 31,000. The `low_states` vectors hold states 0 to 7 and the `high_states` vectors states 8 to 15, both in
 /// bit-reversed order.
 #[derive(Clone, Copy)]
-pub struct Candidates {
-    pub low_states_bit_0: EightLanes,
-    pub low_states_bit_1: EightLanes,
-    pub high_states_bit_0: EightLanes,
-    pub high_states_bit_1: EightLanes,
+pub(crate) struct Candidates {
+    pub(crate) low_states_bit_0: EightLanes,
+    pub(crate) low_states_bit_1: EightLanes,
+    pub(crate) high_states_bit_0: EightLanes,
+    pub(crate) high_states_bit_1: EightLanes,
 }
 
 /// The result of one trellis step. The steps run backward: from the path metrics after a bit to the metrics before it.
 #[derive(Clone, Copy)]
-pub struct TrellisStep {
-    pub candidates: Candidates,
+pub(crate) struct TrellisStep {
+    pub(crate) candidates: Candidates,
     /// The path metrics before the bit.
-    pub values: PathMetrics,
+    pub(crate) values: PathMetrics,
     /// The decisions in the states 0 to 7, in bit-reversed order.
-    pub low_decisions: EightDecisions,
+    pub(crate) low_decisions: EightDecisions,
     /// The decisions in the states 8 to 15, in bit-reversed order.
-    pub high_decisions: EightDecisions,
+    pub(crate) high_decisions: EightDecisions,
 }
 
 impl TrellisStep {
     /// Computes the step over one bit: `after` holds the path metrics after the bit, and `branch_metrics` its branch metrics.
-    pub fn new(after: PathMetrics, branch_metrics: EightLanes) -> TrellisStep
+    pub(crate) fn new(after: PathMetrics, branch_metrics: EightLanes) -> TrellisStep
         requires even { HaveHeadroom16 after.even_states.lanes }
         requires odd { HaveHeadroom16 after.odd_states.lanes }
         requires branch_metrics { AreBranchMetrics branch_metrics.lanes }
@@ -117,7 +116,7 @@ impl TrellisStep {
 }
 
 /// Returns the path metrics before a tail bit, from those after it. A tail bit is always 0, so nothing is compared.
-pub fn tail_step(metrics_after: PathMetrics, branch_metrics: EightLanes) -> PathMetrics
+pub(crate) fn tail_step(metrics_after: PathMetrics, branch_metrics: EightLanes) -> PathMetrics
     requires even { HaveHeadroom16 metrics_after.even_states.lanes }
     requires branch_metrics { AreBranchMetrics branch_metrics.lanes }
     ensures each { (pair : List ℤ) → HasBranchMetrics branch_metrics.lanes pair → (s : ℕ) → s < 16 →

@@ -14,7 +14,7 @@ use crate::survivors::Survivors;
 
 /// Writes a survivor map for each group of four bits, from the last group to the first, and returns the path metrics before the first bit.
 /// One map for four bits lets traceback take 57 table lookups for a block instead of 228. The last four bits are the tail, all 0.
-pub fn fill_survivors(soft: &[i8], survivors: &mut [[u8; 16]]) -> PathMetrics
+pub(crate) fn fill_survivors(soft: &[i8], survivors: &mut [[u8; 16]]) -> PathMetrics
     requires count { length soft.now ≡ 8 * length survivors.old }
     requires at_least { 1 ≤ length survivors.old }
     requires at_most { length survivors.old ≤ 57 }
@@ -39,7 +39,7 @@ pub fn fill_survivors(soft: &[i8], survivors: &mut [[u8; 16]]) -> PathMetrics
 }
 
 /// Returns the path metrics before the four tail bits, from the eight soft bits of the tail.
-pub fn path_metrics_before_tail(soft: &[i8]) -> PathMetrics
+pub(crate) fn path_metrics_before_tail(soft: &[i8]) -> PathMetrics
     requires count { length soft.now ≡ 8 }
     requires octets { AreSignedOctets soft.now }
     ensures best { (s : ℕ) → s < 16 → IsSurvivor s (replicate 4 0) soft.now (lane (path_metric result) s) }
@@ -57,7 +57,7 @@ pub fn path_metrics_before_tail(soft: &[i8]) -> PathMetrics
 /// Returns the survivors over the first `places` bits of a group of four, and the path metrics before the group. `after` holds the path
 /// metrics after these bits.
 #[inline]
-pub fn extend_survivors(after: PathMetrics, soft: &[i8], places: usize) -> Survivors
+pub(crate) fn extend_survivors(after: PathMetrics, soft: &[i8], places: usize) -> Survivors
     requires count { length soft.now ≡ 8 }
     requires few { places ≤ 4 }
     requires octets { AreSignedOctets soft.now }

@@ -13,7 +13,7 @@ use std::simd::prelude::*;
 /// The other branch metrics are negations of these: the value 1 has the negated metric in the same state, and the value 0 has it in the
 /// state whose number is 8 higher.
 #[inline]
-pub fn four_branch_metrics(soft: &[i8]) -> [EightLanes; 4]
+pub(crate) fn four_branch_metrics(soft: &[i8]) -> [EightLanes; 4]
     requires count { length soft.now ≡ 8 }
     requires octets { AreSignedOctets soft.now }
     ensures has { (k : ℕ) (d : EightLanes) → k < 4 → HasBranchMetrics (slice_index_or result k d).lanes

@@ -8,8 +8,7 @@ ghost use Rattle.std.specs.Prelude.{◌≡◌, ℕ, ◌/◌, ◌%◌, ◌^◌, �
 ghost use Rattle.trellis_decode.specs.Trellis.{IsDecision, candidate_metric};
 ghost use Rattle.lanes.specs.Lanes.{lane};
 ghost use Rattle.trellis_decode.specs.AcsLanes.{DifferByAtMost4096, AreBranchMetrics, AbsFit16Bits, AreInt16, HasBranchMetrics};
-ghost use Rattle.trellis_decode.specs.AcsLanes.{HaveHeadroom16};
-ghost use Rattle.trellis_decode.specs.AcsLanes.{path_metric};
+ghost use Rattle.trellis_decode.specs.AcsLanes.{HaveHeadroom16, path_metric};
 
 use crate::acs_lanes::{
     EightLanes, SixteenLanes, absolute_values, signs, subtract_lanes, to_state_order,
@@ -18,20 +17,20 @@ use crate::acs_step::{PathMetrics, TrellisStep};
 
 /// The result of one trellis step. The steps run backward: from the path metrics after a bit to the metrics before it.
 #[derive(Clone, Copy)]
-pub struct DecisionStep {
+pub(crate) struct DecisionStep {
     /// The path metrics before the bit.
-    pub values: PathMetrics,
+    pub(crate) values: PathMetrics,
     /// Bit `s` is the decision in state `s`: the first bit of its survivor.
-    pub decision_bits: u16,
+    pub(crate) decision_bits: u16,
     /// The cost of each decision: how much path metric the other decision would lose in that state. It fits 16 bits: any two states merge
     /// after four equal bits, so two path metrics differ by at most 2,048.
-    pub losses: SixteenLanes,
+    pub(crate) losses: SixteenLanes,
 }
 
 impl DecisionStep {
     /// Computes the step over one bit: `after` holds the path metrics after the bit, and `branch_metrics` its branch metrics. One
     /// difference of candidate metrics gives both the decision, by its sign, and the cost, by its absolute value.
-    pub fn new(after: PathMetrics, branch_metrics: EightLanes) -> DecisionStep
+    pub(crate) fn new(after: PathMetrics, branch_metrics: EightLanes) -> DecisionStep
         requires even { HaveHeadroom16 after.even_states.lanes }
         requires odd { HaveHeadroom16 after.odd_states.lanes }
         requires close { DifferByAtMost4096 after.even_states.lanes after.odd_states.lanes }

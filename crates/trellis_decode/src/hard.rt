@@ -11,11 +11,7 @@ ghost use Rattle.std.specs.List.{All};
 ghost use Rattle.conv_code.specs.Code.{encoding};
 ghost use Rattle.conv_code.specs.Likelihood.{IsMostLikely, likelihood};
 ghost use Rattle.trellis_decode.specs.Hard.{AreInt8, DifferByAtMost, HaveMagnitudeAtMostOne, HasHardBranchMetrics, HaveHeadroom8};
-ghost use Rattle.trellis_decode.specs.Hard.{IsHardBit};
-ghost use Rattle.trellis_decode.specs.Hard.{hard_lane_metrics};
-ghost use Rattle.trellis_decode.specs.Hard.{lane_after_bit_1};
-ghost use Rattle.trellis_decode.specs.Hard.{sign_bit_of};
-ghost use Rattle.trellis_decode.specs.Hard.{lane_after_bit_0};
+ghost use Rattle.trellis_decode.specs.Hard.{IsHardBit, hard_lane_metrics, lane_after_bit_1, sign_bit_of, lane_after_bit_0};
 ghost use Rattle.lanes.specs.Lanes.{DifferencesFit, IsLanewise, greater, lane};
 ghost use Rattle.trellis_decode.specs.SignedOctets.{AreSignedOctets};
 ghost use Rattle.trellis_decode.specs.Trellis.{IsSurvivor};
@@ -29,16 +25,16 @@ use std::simd::prelude::*;
 /// One number for each state, in the lane that the state has in a survivor map. The metrics of hard bits are multiples of 254, so all
 /// sixteen fit one vector of 8-bit lanes.
 #[derive(Clone, Copy)]
-pub struct StateMetrics {
-    pub lanes: i8x16,
+pub(crate) struct StateMetrics {
+    pub(crate) lanes: i8x16,
 }
 
 /// The survivors of all states over a few bits, and the path metrics before these bits.
 #[derive(Clone, Copy)]
-pub struct HardSurvivors {
-    pub values: StateMetrics,
+pub(crate) struct HardSurvivors {
+    pub(crate) values: StateMetrics,
     /// The survivor map: the lane of each state holds the lane of the state that its survivor leads to at the end of these bits.
-    pub survivor_map: u8x16,
+    pub(crate) survivor_map: u8x16,
 }
 
 // The branch metric of bit 0 in each state, divided by 254, for each of the four combinations of signs of the two soft bits.
@@ -96,7 +92,7 @@ static SECOND_BIT_BRANCH_METRICS: [[i8; 16]; 16] = [
 ];
 
 /// Returns whether all soft bits are 127 or -127. The loop has no early exit, so the compiler can vectorize it.
-pub fn are_hard_bits(soft: &[i8]) -> bool
+pub(crate) fn are_hard_bits(soft: &[i8]) -> bool
     ensures { IsTrue result → All IsHardBit soft.now }
 {
     let mut all = true;
@@ -115,7 +111,7 @@ fn is_hard_bit(value: i8) -> bool
 }
 
 /// Writes the most likely encoder input for the hard bits `soft` to `u`, and returns its path metric.
-pub fn decode_hard(soft: &[i8], u: &mut [u8]) -> i32
+pub(crate) fn decode_hard(soft: &[i8], u: &mut [u8]) -> i32
     requires count { length soft.now ≡ 2 * length u.old }
     requires whole { length u.old % 4 ≡ 0 }
     requires at_least { 5 ≤ length u.old }
@@ -304,7 +300,11 @@ fn subtract_hard_lanes(first: StateMetrics, second: StateMetrics) -> StateMetric
 ///
 /// Its two swizzles have fixed places: one swizzle by places that are computed is sixteen loads in WebAssembly.
 #[inline]
-pub fn extend_survivor_map_by_metrics(map: u8x16, zero: StateMetrics, one: StateMetrics) -> u8x16
+pub(crate) fn extend_survivor_map_by_metrics(
+    map: u8x16,
+    zero: StateMetrics,
+    one: StateMetrics,
+) -> u8x16
     requires map { length map ≡ 16 }
     requires zero { AreInt8 zero.lanes }
     requires one { AreInt8 one.lanes }

@@ -5,8 +5,7 @@ ghost use Rattle.std.specs.Prelude.{◌≡◌, ℕ, ◌+◌, ◌-◌, ◌*◌, �
 ghost use Rattle.trellis_decode.specs.SignedOctets.{AreSignedOctets};
 ghost use Rattle.trellis_decode.specs.Trellis.{next_trellis_state};
 ghost use Rattle.trellis_decode.specs.AcsLanes.{AreBranchMetrics, AreInt16, AreDecisionLanes, lane_decisions, HasBranchMetrics};
-ghost use Rattle.trellis_decode.specs.AcsLanes.{HaveHeadroom16, lane_of_state};
-ghost use Rattle.trellis_decode.specs.AcsLanes.{path_metric};
+ghost use Rattle.trellis_decode.specs.AcsLanes.{HaveHeadroom16, lane_of_state, path_metric};
 ghost use Rattle.trellis_decode.specs.SurvivorPaths.{AreMetricsWithin, AreSurvivors, HoldLaneNumbersFromIndex, survivor_traceback};
 ghost use Rattle.trellis_decode.specs.Words.{to_binary};
 
@@ -17,16 +16,16 @@ use std::simd::prelude::*;
 
 /// The survivors of all states over a few bits.
 #[derive(Clone, Copy)]
-pub struct Survivors {
+pub(crate) struct Survivors {
     /// The path metric of each state before these bits.
-    pub values: PathMetrics,
+    pub(crate) values: PathMetrics,
     /// The survivor map: the lane of each state holds the lane of the state that its survivor leads to at the end of these bits.
-    pub survivor_map: u8x16,
+    pub(crate) survivor_map: u8x16,
 }
 
 impl Survivors {
     /// The survivors over zero bits: each ends in its start state.
-    pub fn new(values: PathMetrics) -> Survivors
+    pub(crate) fn new(values: PathMetrics) -> Survivors
         requires even { AreInt16 values.even_states.lanes }
         requires odd { AreInt16 values.odd_states.lanes }
         ensures even { result.values.even_states.lanes ≡ values.even_states.lanes }
@@ -41,7 +40,7 @@ impl Survivors {
     }
 
     /// Extends the survivors backward by one bit, given the branch metrics of this bit.
-    pub fn step(self, branch_metrics: EightLanes) -> Survivors
+    pub(crate) fn step(self, branch_metrics: EightLanes) -> Survivors
         requires even { HaveHeadroom16 self.values.even_states.lanes }
         requires odd { HaveHeadroom16 self.values.odd_states.lanes }
         requires count { length self.survivor_map ≡ 16 }
@@ -121,7 +120,7 @@ fn bits_of_state_in_lane(lane_index: u8) -> [u8; 4]
 }
 
 /// Traceback: follows the survivor maps from lane `at`, and writes the four bits of each state that it reaches.
-pub fn trace_back_survivors(survivors: &[[u8; 16]], at: u8, u: &mut [u8])
+pub(crate) fn trace_back_survivors(survivors: &[[u8; 16]], at: u8, u: &mut [u8])
     requires count { length u.old ≡ 4 * length survivors.now }
     requires at { at < 16 }
     requires maps { HoldLaneNumbersFromIndex 0 survivors.now }
@@ -135,7 +134,7 @@ pub fn trace_back_survivors(survivors: &[[u8; 16]], at: u8, u: &mut [u8])
 }
 
 /// Writes the last `bit_count` bits of the state in lane `lane_index`: the bits that lead to this state from state 0.
-pub fn write_last_state_bits(lane_index: u8, bit_count: usize, u: &mut [u8])
+pub(crate) fn write_last_state_bits(lane_index: u8, bit_count: usize, u: &mut [u8])
     requires count { length u.old ≡ bit_count }
     requires few { bit_count < 4 }
     requires at { lane_index < 16 }

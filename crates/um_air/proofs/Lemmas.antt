@@ -38,7 +38,7 @@ use Rattle.{
   um_block.{
     proofs.Lemmas.{accepted_count, accepted_octets, clean_gathered, coded_block_bits, few_listed_positions, listed, received_block-only},
     proofs.Lemmas.{received_place, sent_block-only, restored_block, sent_block_bits, some_received_block, some_sent_block},
-    proofs.{interleave.Lemmas.position_in_four_bursts-below, weight_bound.Lemmas.IsCorrectable-equal},
+    proofs.{interleave.Positions.position_in_four_bursts-below, weight_bound.Lemmas.IsCorrectable-equal},
     specs.{Received.{IsReceivedBlock, coded_soft_bits, joined_bursts, soft_bit_of, soft_bits}, Sent.IsSentBlock, bit_blocks.Octets.IsOctet},
     specs.{declared.received.Received.Received, interleave.{Bursts.IsInterleaved, Positions.position_in_four_bursts}, Computed.sent_block},
   },
@@ -158,7 +158,6 @@ flipped-whole_bursts (p ∷ ps) block h =
 
 -- ---- the soft values of a block
 
--- value q of the concatenated bursts is value q % 148 of burst q / 148
 joined-at : (bursts : List (List ℤ)) (q : ℕ) (d : ℤ) → All IsBurst bursts →
     get_or (joined_bursts bursts) q d ≡ get_or (get_or bursts (q / 148) []) (q % 148) d
 joined-at [] q d each = refl
@@ -213,7 +212,7 @@ flipped_damaged octets tsc block places s few =
           (λ k d l. ap unsigned_abs (at k d (omega arith)) ∙ grind arith) (omega arith);
     }
 
--- lightly damaged bursts are accepted with the octets that were sent, because the decoder corrects them (`weight_bound`)
+-- the decoder corrects this much damage (`weight_bound`)
 pub damaged_received : (octets : Octets) (bursts : List (List ℤ)) (r : Received) → AreCorrectableBursts octets bursts →
     IsReceivedBlock bursts r → r.accepted ≡ Some octets
 damaged_received octets bursts r h is = restored_block bursts octets h.bits h.soft r h.coded h.deinterleaved h.correctable is
@@ -230,14 +229,12 @@ AreSent tsc os blocks = AreAlike (λ o block. IsSentBlock o tsc block) os blocks
 
 -- ---- the frame that a receiver reads from a block
 
--- a frame that is read from accepted octets fits in a block, and its information consists of octets
 pub reads-well : (channel : Channel) (accepted : Option Octets) (f : Frame) → IfSome accepted AreOctets →
     ReadsFrame channel accepted (Some f) → FrameFits channel f × AreOctets (information f.content)
 reads-well channel (Some octets) f all h =
     (h.fits, rw (← h.information_matches) (search (All-take IsOctet, All-drop IsOctet, all)))
 reads-well channel None f all h = absurd h
 
--- if the accepted octets are those that were sent, the frame read is the one that was sent
 pub read_back : (channel : Channel) (accepted : Option Octets) (read : Option Frame) (fs : List Frame) (os : List Octets) →
     AllZip (IsFrameCoding channel) fs os → ReadsFrame channel accepted read → IsOldestSentOrNone accepted os →
     IsOldestSentOrRrForRej read fs
@@ -246,7 +243,6 @@ read_back channel (Some octets) (Some f) fs [] z h s = absurd s
 read_back channel accepted None fs os z h s = tt
 read_back channel accepted read fs os z h s = absurd assumption
 
--- what a receiver reads from accepted octets, which if `Sound` are those that were sent
 pub may_read : {Sound : Type 0} {channel : Channel} {w : World} {ls : List LogLine} (h : IsReached Sound channel w ls)
     (octets : Queues Octets) → AreCoded channel w.queues octets → (sender : Role) (accepted : Option Octets) (read : Option Frame) →
     IfSome accepted AreOctets → ReadsFrame channel accepted read → (Sound → IsOldestSentOrNone accepted (queue_of sender octets)) →
@@ -285,7 +281,6 @@ sent-step a b octets event (Accepts step) h (none, s) =
           (alike-taken _ event octets a.queues h) (sent_octets a.channel a.tsc d.frames s.blocks s.sent),
     )
 
--- a block with at most three inverted bits is accepted with the octets that were sent
 few_inverted-oldest : (tsc : ℕ) (os : List Octets) (block : Block) (later : List Block) (places : List ℕ) (report : Received) →
     AllZip (λ o b. IsSentBlock o tsc b) os (block ∷ later) → length places ≤ 3 →
     IsReceivedBlock (map soft_bits (with_bits_inverted places block)) report → IsOldestSentOrNone report.accepted os
@@ -326,7 +321,6 @@ record IsAir (Sound : Type 0) (More : World → Type 0) (a : AirState) (octets :
   coded : AreCoded a.channel world.queues octets
   sent : AreSent a.tsc octets a.queues
 
--- an event that is accepted with room for 64 blocks is accepted with room for any number
 refusal_if-none : (b : Bool) (why : EventRefusal) (others : Option EventRefusal) → refusal_if b why others ≡ None → others ≡ None
 refusal_if-none b why others h = grind arith
 
@@ -353,7 +347,6 @@ module _ {Sound : Type 0} {More : World → Type 0} {a : AirState} {octets : Que
       (subst (λ channel. refusal_with_bounded_queues channel (queue_length a.queues) event w.ends ≡ None) (sym h.reached.fit.on_channel)
       (subst (λ es. refusal_with_bounded_queues a.channel (queue_length a.queues) event es ≡ None) (sym h.ends) none))
 
-  -- the frame that a receiver reads
   reads : (event : Event) (report : Option Received) (read : Option Frame) (step : Step) → EventDelivers a event report read →
       step.received ≡ report → (Sound → IsBenignStep event (Accepts step) octets) → (let e = event_with_frame read event in
       Knows (MayRead h.reached) e × Knows (λ r f. SaysOctets f) e)
@@ -560,7 +553,6 @@ pub some_run : (tsc : ℕ) (channel : Channel) (events : List Event) → tsc ≤
 some_run tsc channel events known said =
     let r = going_on events (initial_session tsc channel) (initial-octet_session tsc channel known) said in (r.0, r.1, r.2)
 
--- after a session whose messages consist of octets, every further event whose message consists of octets has an answer
 pub some_answer : (tsc : ℕ) (channel : Channel) (events : List Event) (answers : List Answer) (a : AirState) → tsc ≤ 7 →
     All EventMessageIsOctets events → IsAirRun (initial_session tsc channel) events answers a →
     (event : Event) → EventMessageIsOctets event → (b : AirState) × (answer : Answer) × IsAirStep a event b answer

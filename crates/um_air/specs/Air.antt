@@ -16,9 +16,7 @@ use Rattle.um_block.specs.Received.{IsReceivedBlock, soft_bits}
 use Rattle.lapdm_link.specs.Queues.{Queues, empty_queues, queue_of, with_items_appended, queue_length}
 use Rattle.lapdm_link.specs.Events as E
 use Rattle.lapdm_link.specs.Events.{SessionEvent, Open, OpenBare, Ask, Deliver, Lose, Rival, BothSides, idle_endpoints, Who, sending_role}
-use Rattle.lapdm_link.specs.Events.{SideStep}
-use Rattle.lapdm_link.specs.Events.{event_step}
-use Rattle.lapdm_link.specs.Events.{queues_after_removal, EventRefusal, refusal_with_bounded_queues}
+use Rattle.lapdm_link.specs.Events.{SideStep, event_step, queues_after_removal, EventRefusal, refusal_with_bounded_queues}
 
 -- the 23 octets of a block before coding
 abbrev pub Octets : Type 0

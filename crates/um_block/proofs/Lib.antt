@@ -4,8 +4,11 @@ pub use Rattle.interleave.proofs as interleave
 pub use Rattle.bit_blocks.proofs as bit_blocks
 pub use Rattle.trellis_decode.proofs as trellis_decode
 pub use Rattle.burst_map.proofs as burst_map
--- other crates refer to these lemmas by the name `Lemmas`
-pub use ReceivedBursts as Lemmas
-pub mod ReceivedBursts
+pub mod Lemmas
+mod SentBursts
+mod SoftenedBits
+mod ReceivedBursts
+mod Restoring
+mod WrongBits
 pub mod Tallies
 pub mod ComputedReports

@@ -13,7 +13,7 @@ use Rattle.{
     Decoded.{DecodesBurstsToMostLikelyWord, IsMaximumLikelihood, IsMostLikelyWord, ReplayDecodesToMostLikelyWords},
   },
   um_code.{
-    proofs.um_formats.Lemmas.{access_burst, burst_line_means, normal_burst, sync_burst},
+    proofs.um_formats.BurstLines.{access_burst, burst_line_means, normal_burst, sync_burst},
     specs.um_formats.{BurstLines.burst_line, declared.burst_lines.BurstLine.{TheVariants.{Access, Normal, Skip, Sync}, BurstLine}},
   },
   um_driver.{proofs.Outputs.{Runs-keep, meaning_of_answer, step_of_answer}, specs.Rules.{Runs, answer_to_line}},
@@ -55,7 +55,6 @@ best_word bursts r received = record {
 
 -- ---- `replay`
 
--- fewer than four bursts are held, each with 148 soft values
 pub record AreHeld (held : List (List ℤ)) : Type 0 where
   pub few : length held < 4
   pub each : All (λ (burst : List ℤ). length burst ≡ 148) held

@@ -27,7 +27,6 @@ use Rattle.{
 
 -- ## WordListsLemmas: Lemmas about lists of words whose length is known.
 
--- mapping f over a list of one element gives the list that contains only the value of f at this element
 pub map-single : {A B : Type 0} (f : A → B) (xs : List A) (d : A) → 1 ≤ length xs → length xs < 2 →
     map f xs ≡ f (get_or xs 0 d) ∷ []
 map-single f (x ∷ []) d some few = refl
@@ -43,7 +42,6 @@ not_empty : (word : List ℕ) → 49 ≤ slice_index word 0 → 0 < length word
 not_empty [] first = absurd (omega arith)
 not_empty (octet ∷ word) first = omega arith
 
--- r is the value of the word if the word consists of digits and its value is below 2 ^ 32; otherwise r is an error
 abbrev IsReadAs : {E : Type 0} → List ℕ → Result ℕ E → Type 0
 IsReadAs word r = OkIff r ((all_ascii_digits word ≡ true) × (0 < length word) × (digits_value 10 word < 2 ^ 32)) (digits_value 10 word)
 
@@ -74,7 +72,6 @@ message_count-none word r e parsed first is =
       | inr other ↦ rw (begins, other) refl
     ]
 
--- a list of four words or more names no command
 pub too_many_words : (ws : List (List ℕ)) → 4 ≤ length ws → None ≡ command_of_words ws
 too_many_words (a ∷ b ∷ c ∷ d ∷ ws) many = refl
 too_many_words ws many = absurd (omega arith)
@@ -94,7 +91,6 @@ decodes_most_likely (End side tsc) valid = end-most_likely (spec_role_of side) t
 pub every_session_delivers : (tsc : ℕ) (channel : Channel) → tsc ≤ 7 → EverySessionDelivers tsc channel
 every_session_delivers tsc channel within = delivery_laws_hold tsc channel within
 
--- in this module, `field` is the command that the command-line words name
 module _ (found : Option Invocation) (field : Invocation) (named : Some field ≡ found) (valid : HasValidOperands field) where
   valid_operands : (t : Invocation) → found ≡ Some t → HasValidOperands t
   valid_operands t k = subst HasValidOperands (let same : field ≡ t = cc (named, k) in same) valid
@@ -112,7 +108,6 @@ as_itself {State} r = record { step = λ a line. go (r.step a line); end_fault =
     go (Ok (text, after)) = refl
     go (Err fault) = refl
 
--- in this module, `r` are the rules of the command that the command-line words name, and `begun` is its state at the start of a run
 module _ {State : Type 0} (r : Rules State) (begun : State) (s : Invocation) (found : Option Invocation) (field : Invocation)
     (named : Some field ≡ found) (field_is : field ≡ s) (start : State) (starts : start ≡ begun) (status : Status) where
   same : (t : Invocation) → found ≡ Some t → s ≡ t

@@ -12,8 +12,8 @@ use Rattle.{
       um_formats.{CodeLines.{CodeLineMeans, code_line}, Reports.{access_report_text, block_report_text, sync_report_text}},
       um_formats.declared.{burst_lines.BurstLine.{TheVariants.{Access, Normal, Sync}, BurstLine}, code.CodeLine.CodeLine},
     },
-    proofs.um_formats.Lemmas.{access_line, access_restored, access_whole, burst_line_meaning, can_be_sent, code_line_means, normal_line},
-    proofs.um_formats.Lemmas.{normal_restored, normal_whole, short, sync_line, sync_restored, sync_whole},
+    proofs.um_formats.BurstLines.{access_line, access_restored, access_whole, burst_line_meaning, can_be_sent, code_line_means},
+    proofs.um_formats.BurstLines.{normal_line, normal_restored, normal_whole, short, sync_line, sync_restored, sync_whole},
   },
   um_driver.{
     proofs.{Outputs.{Runs-append, joined-append, meaning_of_answer, step_of_answer}, WholeInputs.{answered_if_done, done_if_answered}},
@@ -58,7 +58,6 @@ ReplayReads-append x x' y y' r r' = record {
   reports_are = (let p = r.reports_are in let q = r'.reports_are in cc (p, q)) ∙ sym (joined-append r.answers r'.answers);
 }
 
--- a run of `replay` over one line, followed by a run over other lines, is a run over all of them
 replay-first : (held mid after : List (List ℤ)) (line answer : List ℕ) (lines others : List (List ℕ)) (m : BurstLine) →
     BurstLineMeans (length held) line m → answer_to_burst replay_answers held m ≡ (answer, mid) →
     Runs replay_rules mid lines others after →
@@ -76,13 +75,11 @@ length-soft_bits bits n e = length-map bits soft_bit_of ∙ e
 
 -- ---- `replay` recovers access and synchronisation bursts
 
--- `replay` can read the answer of `code` to a line, and its report gives back the information in this line
 pub record ReplayRestores (meaning : CodeLine) (answer : List ℕ) : Type 0 where
   pub report : List ℕ
   pub restored : IsReplayReportOfCodeLine meaning report
   pub read : ReplayReads answer report
 
--- if the answer of `code` is a single line, and `replay` reports the encoded information for this line, `replay` recovers the information
 restores-line : {m : CodeLine} (line report : List ℕ) (b : BurstLine) → IsReplayReportOfCodeLine m report → IsLine line →
     BurstLineMeans 0 line b → answer_to_burst replay_answers [] b ≡ (report, []) → ReplayRestores m (text_of_lines (line ∷ []))
 restores-line line report b restored whole means answers = record {
@@ -136,7 +133,6 @@ length-all_soft_bits bursts each =
     All-map (λ soft. length soft ≡ 148) soft_bits bursts (All-weaker (AreBits 148) (λ burst. length (soft_bits burst) ≡ 148)
     (λ burst b. length-soft_bits burst 148 b.right_length) bursts each)
 
--- `replay` holds a burst that does not complete a block, and gives no answer to it
 hold_burst : (held : List (List ℤ)) (burst : List ℕ) (lines answers : List (List ℕ)) → AreBits 148 burst →
     length (held ++ soft_bits burst ∷ []) < 4 → Runs replay_rules (held ++ soft_bits burst ∷ []) lines answers [] →
     Runs replay_rules held (normal_line burst ∷ lines) ([] ∷ answers) []
@@ -144,7 +140,6 @@ hold_burst held burst lines answers b few runs =
     replay-first held (held ++ soft_bits burst ∷ []) [] (normal_line burst) [] lines answers (Normal (soft_bits burst))
     (normal_restored (length held) burst b.right_length b.each) (rw (lt-ltb (length (held ++ soft_bits burst ∷ [])) 4 few) refl) runs
 
--- `replay` gives no answer to the first three bursts of a block, and answers the fourth with the report on the block
 replay-block : (bursts : List (List ℕ)) → length bursts ≡ 4 → All (AreBits 148) bursts →
     Runs replay_rules [] (map normal_line bursts) ([] ∷ [] ∷ [] ∷ block_report_text (received_block (map soft_bits bursts)) ∷ []) []
 replay-block (a ∷ b ∷ c ∷ d ∷ []) count each =
@@ -199,7 +194,6 @@ stateless_answer : (answer : Result (List ℕ) LineFault) (text : List ℕ) (aft
 stateless_answer (Ok given) text after is = grind arith
 stateless_answer (Err fault) text after is = absurd (cc is)
 
--- `replay` can read the answers of `code` to these lines, and its reports give back the information in the lines
 pub record ReplayRestoresAll (lines answers : List (List ℕ)) : Type 0 where
   pub reports : List ℕ
   pub restored : AreReplayReportsOfCodeLines lines reports

@@ -6,7 +6,6 @@ pub mod Restored
 pub mod Machines
 pub mod Shapes
 pub mod WordLists
--- definitions of other crates that the definitions of this crate use
 pub use Rattle.um_driver.specs.Table
 pub use Rattle.um_driver.specs.Outputs
 pub use Rattle.um_driver.specs.Rules

@@ -47,7 +47,6 @@ pub(crate) fn run_link<S: Source, K: Sink, R: Radio>(
     }
 }
 
-/// Runs the script in a session of `link` that has just begun.
 fn run_link_session<S: Source, K: Sink, R: Radio>(
     alloc: Global,
     link: &mut LinkCommand<'_, R>,

@@ -36,7 +36,6 @@ pub(crate) fn run_make<K: Sink, R: Radio>(
     }
 }
 
-/// Writes the four lines of the summary of a generated session.
 fn write_summary<K: Sink>(message_count: u32, tsc: u8, summary: &Summary, output: &mut K) -> Status
     ensures written { IsTextWritten (summary_text message_count tsc summary.now) result (K.taken output.old) (K.taken output.new) }
     ensures cause { (read : ℕ) → FailureCountsMatch result read read (K.faults output.old) (K.faults output.new) }

@@ -2,10 +2,7 @@
 ghost use Rattle.std.specs.Prelude.{◌≡◌, ◌≤◌, ℕ, List, [], map, slice_index, IfSome};
 ghost use Rattle.um_cli.specs.WordLists.{command_word_as_stored, words_with_added};
 ghost use Rattle.um_cli.specs.Shapes.{one_word_command, command_of_words, parse_link_words, three_word_command, invocation_of_make};
-ghost use Rattle.um_cli.specs.Shapes.{invocation_of_end};
-ghost use Rattle.um_cli.specs.Shapes.{side_of_word};
-ghost use Rattle.um_cli.specs.Shapes.{message_count_of_word, tsc_of_word};
-ghost use Rattle.um_cli.specs.Shapes.{HasValidOperands};
+ghost use Rattle.um_cli.specs.Shapes.{invocation_of_end, side_of_word, message_count_of_word, tsc_of_word, HasValidOperands};
 
 /// The command given on the command line, with its operands.
 #[derive(Clone, Copy, Debug, PartialEq, Eq)]
@@ -98,7 +95,6 @@ fn store_word(word: &str) -> ArrayString<8>
     }
 }
 
-/// The command that three words name, or `None`.
 fn three_word_command(word: &str, second: &str, last: &str) -> Option<Invocation>
     ensures command { result ≡ three_word_command word.now second.now last.now }
     ensures fits { IfSome result (λ command. HasValidOperands command) }
@@ -114,7 +110,6 @@ fn three_word_command(word: &str, second: &str, last: &str) -> Option<Invocation
     }
 }
 
-/// The `make` command, if both operands are valid.
 fn parse_make_operands(count: &str, tsc: &str) -> Option<Invocation>
     ensures command { result ≡ invocation_of_make (message_count_of_word count.now) (tsc_of_word tsc.now) }
     ensures fits { IfSome result (λ command. HasValidOperands command) }
@@ -123,7 +118,6 @@ fn parse_make_operands(count: &str, tsc: &str) -> Option<Invocation>
     Some(Invocation::Make(count, tsc_of_word(tsc)?))
 }
 
-/// The `end` command, if both operands are valid.
 fn parse_end_operands(side: &str, tsc: &str) -> Option<Invocation>
     ensures command { result ≡ invocation_of_end (side_of_word side.now) (tsc_of_word tsc.now) }
     ensures fits { IfSome result (λ command. HasValidOperands command) }
@@ -189,7 +183,6 @@ fn tsc_of_word(word: &str) -> Option<u8>
     }
 }
 
-/// The command that a single word names, or `None`.
 fn one_word_command(word: &str) -> Option<Invocation>
     ensures command { result ≡ one_word_command word.now }
     ensures fits { IfSome result (λ command. HasValidOperands command) }

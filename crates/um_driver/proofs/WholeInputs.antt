@@ -1,19 +1,12 @@
 -- The response to an input that a command accepts as a whole: the answers to its lines, and the status `Done`.
 use Rattle.{
-  std.proofs.Common.{List, None, Ok, Err, Option, Result, Some, [], append-nil, ap, arith, inl, inr, length, refl, sym, take, true},
-  std.proofs.Common.{ℕ, ◌++◌, ◌+◌, ◌∙◌, ◌∷◌, ◌≡◌, ◌≤◌},
-  std.specs.List.All,
-  std.proofs.lemmas.{Bool.{cases_lt, le-ltb, lt-ltb}, List.{take_all, Elements.{All-append, All-cons, All-nil}}},
-  um_driver.{
-    proofs.Runs.{respond_end, lines_to_process-after, lines_to_process-last},
-    specs.{
-      Outputs.{InputEnd, Ended, Exceeded, input_end, last_line, lines_to_process, response, response_at_end, response_from_answer},
-      Outputs.response_to_lines,
-      Rules.{Rules, Runs, answer_to_line, concatenated_text},
-      declared.status.Status.{TheVariants.Done, Status},
-    },
-  },
-  um_io.{proofs.Lemmas.divide, specs.{Lines.{IsDividedIntoLines, IsLine, text_of_lines}, Reading.input_limit}},
+  std.proofs.Common.{List, None, Ok, Err, Option, Result, Some, [], append-nil, ap, arith, inl, inr, length, refl, sym, take, true, ℕ},
+  std.proofs.{Common.{◌++◌, ◌+◌, ◌∙◌, ◌∷◌, ◌≡◌, ◌≤◌}, lemmas.Bool.{cases_lt, le-ltb, lt-ltb}},
+  std.{proofs.lemmas.List.{take_all, Elements.{All-append, All-cons, All-nil}}, specs.List.All},
+  um_driver.{proofs.Outputs.{respond_end, lines_to_process-after, lines_to_process-last}, specs.Outputs.{InputEnd, Ended, Exceeded}},
+  um_driver.specs.Outputs.{input_end, last_line, lines_to_process, response, response_at_end, response_from_answer, response_to_lines},
+  um_driver.specs.{Rules.{Rules, Runs, answer_to_line, concatenated_text}, declared.status.Status.{TheVariants.Done, Status}},
+  um_io.{proofs.Division.divide, specs.{Lines.{IsDividedIntoLines, IsLine, text_of_lines}, Reading.input_limit}},
   um_lines.specs.declared.fault.LineFault.LineFault,
 }
 

@@ -15,7 +15,7 @@ use Rattle.{
     Terminals.{ReceivesBursts, SideState, answer_to_call, call_answer_unless, endpoint_step, endpoint_with_sapi, layer3_call_step},
     Terminals.{no_op_step, step_for_frame, step_for_read_frame, terminal_step_of},
   },
-  um_lines.{proofs.FormLaws.length-encode_lower, specs.{Hex.encode_lower, LineTexts.octets_word, Words.words}},
+  um_lines.{proofs.SpelledLaws.length-encode_lower, specs.{Hex.encode_lower, LineTexts.octets_word, Words.words}},
   um_link.{
     proofs.lapdm_window.Lemmas.{IsReplyTo, bound-call, bound-frame, by_sapi, cause_of},
     specs.{

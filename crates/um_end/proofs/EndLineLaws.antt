@@ -2,47 +2,43 @@
 -- script, and every other line is a burst.
 use Rattle.{
   std.proofs.Common.{◌||◌, Bool, Err, List, None, Ok, Option, Some, [], ap, arith, codes, false, if◌then◌else◌, inl, inr, length},
-  std.proofs.Common.{map, not, option_map, refl, subst, sym, true, ℕ, ℤ, ◌&&◌, ◌++◌, ◌==◌, ◌∙◌, ◌∷◌, ◌≡◌},
-  std.{proofs.{Common.◌≤◌, lemmas.{Bool.{cases_Bool, le-ltb}, Slice.Eq.bytes_eq-Decides}}, specs.Str.bytes_eq},
+  std.proofs.Common.{map, not, option_map, refl, sym, true, ℕ, ℤ, ◌&&◌, ◌++◌, ◌==◌, ◌∙◌, ◌∷◌, ◌≡◌, IfOk},
+  std.{proofs.{Common.Result, lemmas.{Bool.cases_Bool, Slice.Eq.bytes_eq-Decides}}, specs.{Str.bytes_eq, Result.result_err}},
   um_end.specs.{
     EndLines.{Calls, EndCommandLineMeaning, EndCommandLineMeans, Nothing, TakesBurst, TerminalCanCarryOutLine},
     EndLines.{burst_line_fault_in_end_command, call_line_fault_inside_block, call_line_forms, end_command_line_fault, end_command_line},
     EndLines.{meaning_of_burst_line, meaning_of_end_command_line, meaning_of_parsed_line, meaning_of_script_event, names_endpoint_of_side},
+    EndLines.{end_parse_result, meaning_of_parse_result},
     Terminals.IsCallOfRole,
     declared.lines.EndCommandLine.EndCommandLine,
   },
   um_formats.{
-    proofs.Lemmas.{AreSoft, hard, lost, soft, one_burst_meaning as one_burst},
-    specs.{BurstLines.{BurstLineMeans, burst_line_fault, burst_line_of_meaning}, declared.burst_lines.BurstLine.BurstLine},
+    proofs.BurstLines.{AreSoft, hard, lost, soft},
+    specs.{BurstLines.{burst_line_of_meaning, burst_parse_result}, declared.burst_lines.BurstLine.BurstLine},
   },
   um_lines.{
-    proofs.FormLaws.{line_by_forms, line_means, no_fault_if_meant, one_made, one_meaning, parsed_meaning, parsed_means, same_meaning},
+    proofs.FormLaws.{line_by_forms, one_made, one_meaning, parsed_by_words, parsed_meaning, parsed_means},
     specs.{
       BurstForms.{BurstLineKind, block_burst_line_forms, burst_line_forms, is_burst_out_of_order, is_single_burst, single_burst_line_forms},
-      Fields.{LineField, Value},
-      Forms.{LineForms, LineForm, fields_for_word_count, first_field_fault, first_word_fault, form_of_words, line_fault, line_meaning},
-      Forms.{meaning_of_words, never_misplaced, words_fit_form},
+      Fields.LineField,
+      Forms.{LineForms, LineForm, fields_for_word_count, first_field_fault, first_word_fault, form_of_words, meaning_of_words},
+      Forms.{never_misplaced, words_fit_form, fault_or_value},
       LinkForms.{EndCommandLineKind, LinkLineKind, end_command_line_forms, is_end_command_line_out_of_order, link_line_forms},
       LinkForms.{mobile_call_line_forms, network_call_line_forms},
       Meanings.HasOneMeaningOrFault,
-      Reading.LineParsesTo,
-      Words.{is_skipped_line, words},
+      Words.{words, skips_line},
       declared.fault.LineFault.{TheVariants.{Order, Word}, LineFault},
     },
   },
   um_link.specs.{Naming.spec_event_of, lapdm_link.Events.{Ask, other}, lapdm_window.{Calls.Call, Ends.{Mobile, Network, Role, ◌then◌}}},
-  um_link.specs.um_air.{Air.Event, Sessions.EventMessageIsOctets},
-  um_script.specs.ScriptLines.{ScriptLineMeans, event_of_script_line_meaning},
+  um_link.specs.{um_air.{Air.Event, Sessions.EventMessageIsOctets}, declared.events.Event.Event as EventValue},
+  um_script.{
+    proofs.ScriptLines.read_by_parts,
+    specs.{Naming.event_or_fault, ScriptLines.event_of_script_line_meaning, ScriptReading.{EventOrFault, parsed_script_words}},
+  },
 }
 use Rattle.um_end.specs.declared.lines.EndCommandLine.TheVariants as V
 use Rattle.um_lines.specs.LinkForms as L
-
--- ---- lines that have no fault, for any table of line forms
-
-module _ {Name A : Type 0} (table : LineForms Name) (elsewhere : Name → Bool) (make : Option (Name × List Value) →
-    A) (line : List ℕ) where
-  means_said : line_fault table elsewhere line ≡ None → LineParsesTo table elsewhere make line (make (line_meaning table line))
-  means_said good = (line_meaning table line, line_means table elsewhere line good, refl)
 
 -- ---- a table of line forms with renamed entries
 
@@ -216,54 +212,62 @@ pub end_command_line_refused : (role : Role) (held : ℕ) (line : List ℕ) (fau
 unfolding end_command_line
 end_command_line_refused role held line fault bad = rw bad refl
 
-module _ (role : Role) (held : ℕ) (line : List ℕ) (short : length line ≤ 4096) (kept : is_skipped_line line ≡ false) where
-  abbrev own_forms : LineForms EndCommandLineKind
-  own_forms = end_command_line_forms (call_line_forms role)
+-- ---- the result of a parser for the words of a line is that for another table of line forms, with the meaning and the fault in `end`
 
-  -- if the words of a line have the same meaning in `end` as in another table of line forms, so does the whole line
-  carried : {Name A : Type 0} (table : LineForms Name) (elsewhere : Name → Bool) (make : Option (Name × List Value) → A)
-      (as_meaning : A → EndCommandLineMeaning) →
-      HasOneMeaningOrFault (line_fault table elsewhere line) (LineParsesTo table elsewhere make line) →
-      (line_fault table elsewhere line ≡ None → (end_command_line_fault role held line ≡ None)
-      × (meaning_of_end_command_line (line_meaning own_forms line) ≡ as_meaning (make (line_meaning table line)))) →
-      (read : A) → LineParsesTo table elsewhere make line read → EndCommandLineMeans role held line (as_meaning read)
-  carried table elsewhere make as_meaning one agree read means =
-      let good = no_fault_if_meant _ _ one read means in
-      let said = same_meaning _ _ one read (make (line_meaning table line)) means (means_said table elsewhere make line good) in
-      let both = agree good in
-      subst (EndCommandLineMeans role held line) (both.1 ∙ ap as_meaning (sym said))
-      (means_said own_forms (is_end_command_line_out_of_order held) meaning_of_end_command_line line both.0)
+abbrev script_call : EventOrFault → Result EndCommandLineMeaning LineFault
+script_call (Ok event) = Ok (meaning_of_script_event event)
+script_call (Err fault) = Err fault
 
-  module _ (own : names_endpoint_of_side role (words line) ≡ true) where
-    own_fault : end_command_line_fault role held line ≡ order_fault_if (not (held == 0)) (line_fault link_line_forms never_misplaced line)
-    own_fault = rw (le-ltb 4096 (length line) short, kept) (IsSameCall-own role held (words line) own).fault
+abbrev block_burst : Result BurstLine LineFault → Result EndCommandLineMeaning LineFault
+block_burst (Ok line) = Ok (meaning_of_burst_line line)
+block_burst (Err fault) = fault_or_value (burst_line_fault_in_end_command (Some fault)) Nothing
+
+module _ (role : Role) (held : ℕ) (ws : List (List ℕ)) where
+  module _ (own : names_endpoint_of_side role ws ≡ true) where
+    -- outside a block, the result is that in a script
+    pub call_parsed : not (held == 0) ≡ false → (read : EventOrFault) → read ≡ parsed_script_words ws →
+        script_call read ≡ end_parse_result role held ws
+    call_parsed none read is =
+        let same = IsSameCall-own role held ws own in
+        ap script_call (is ∙ sym (read_by_parts ws)) ∙ rw (same.fault, same.same_meaning, none) (go _ _)
+      where
+        go : (fault : Option LineFault) (event : Option Event) →
+            script_call (fault_or_value fault event) ≡ fault_or_value fault (meaning_of_script_event event)
+        go None event = refl
+        go (Some fault) event = refl
 
     -- inside a block, a call line has the fault `Order`, unless its fault in a script is `Word`
-    pub inside_fault : not (held == 0) ≡ true → end_command_line_fault role held line ≡
-        call_line_fault_inside_block (line_fault link_line_forms never_misplaced line)
-    inside_fault some = own_fault ∙ rw some refl
+    pub call_refused : not (held == 0) ≡ true → (read : Result EventValue LineFault) →
+        event_or_fault read ≡ parsed_script_words ws → (fault : LineFault) →
+        Some fault ≡ call_line_fault_inside_block (result_err read) → Err fault ≡ end_parse_result role held ws
+    call_refused some read is fault refused =
+        let same = IsSameCall-own role held ws own in
+        rw (same.fault, some) (fails _ _ _ (refused ∙ ap call_line_fault_inside_block (refusal read ∙ ap result_err (is
+        ∙ sym (read_by_parts ws)) ∙ err_of _ _)))
+      where
+        refusal : (read : Result EventValue LineFault) → result_err read ≡ result_err (event_or_fault read)
+        refusal (Ok event) = refl
+        refusal (Err fault) = refl
 
-    -- outside a block, a call is refused for the same reason as in a script
-    pub call_fault : not (held == 0) ≡ false → end_command_line_fault role held line ≡ line_fault link_line_forms never_misplaced line
-    call_fault none = own_fault ∙ rw none refl
+        err_of : (fault : Option LineFault) (event : Option Event) → result_err (fault_or_value fault event) ≡ fault
+        err_of None event = refl
+        err_of (Some fault) event = refl
 
-    pub call_means : not (held == 0) ≡ false → (event : Option Event) → ScriptLineMeans line event →
-        EndCommandLineMeans role held line (meaning_of_script_event event)
-    call_means none = carried link_line_forms never_misplaced event_of_script_line_meaning meaning_of_script_event
-        (one_made event_of_script_line_meaning _ _ (one_meaning link_line_forms never_misplaced line refl))
-        (λ good. (call_fault none ∙ good, rw kept (IsSameCall-own role held (words line) own).same_meaning))
+        fails : (fault : LineFault) (all : Option LineFault) (meaning : EndCommandLineMeaning) → Some fault ≡ all →
+            Err fault ≡ fault_or_value all meaning
+        fails fault all meaning is = rw (← is) refl
 
-  module _ (other : names_endpoint_of_side role (words line) ≡ false) where
-    pub other_fault : end_command_line_fault role held line ≡ burst_line_fault_in_end_command (burst_line_fault 3 line)
-    other_fault = rw (le-ltb 4096 (length line) short, kept) (IsSameBurst-other held (words line) role other).fault
-
-    pub other_means : (read : BurstLine) → BurstLineMeans 3 line read → EndCommandLineMeans role held line (meaning_of_burst_line read)
-    other_means = carried burst_line_forms (is_burst_out_of_order 3) burst_line_of_meaning meaning_of_burst_line (one_burst 3 line)
-        (λ good. (
-          other_fault ∙ ap burst_line_fault_in_end_command good,
-          rw kept ((IsSameBurst-other held (words line) role other).same_meaning
-              (rw (le-ltb 4096 (length line) short, kept) at good)),
-        ))
+  pub burst_parsed : names_endpoint_of_side role ws ≡ false → (read : Result BurstLine LineFault) →
+      read ≡ burst_parse_result 3 ws → block_burst read ≡ end_parse_result role held ws
+  burst_parsed other read is =
+      let same = IsSameBurst-other held ws role other in
+      ap block_burst is ∙ rw same.fault (go _ _ _ refl same.same_meaning)
+    where
+      go : (fault good : Option LineFault) (line : BurstLine) {meaning : EndCommandLineMeaning} → good ≡ fault →
+          (good ≡ None → meaning ≡ meaning_of_burst_line line) →
+          block_burst (fault_or_value fault line) ≡ fault_or_value (burst_line_fault_in_end_command fault) meaning
+      go None good line is same = ap Ok (sym (same is))
+      go (Some fault) good line is same = grind arith
 
 -- ---- a terminal of this side can carry out what a line means
 
@@ -316,3 +320,17 @@ pub line_is_possible : (role : Role) (held : ℕ) (line : List ℕ) (read : EndC
 line_is_possible role held line V.Skip means = tt
 line_is_possible role held line (V.Burst soft) means = (line-possible role held line (TakesBurst soft) means).1
 line_is_possible role held line (V.Ask event) means = (line-possible role held line (Calls (spec_event_of event)) means).0
+
+-- what holds of the result for a line that is not skipped
+pub end_parsed : (role : Role) (held : ℕ) (line : List ℕ) (result : Result EndCommandLine LineFault) →
+    Ok false ≡ skips_line line → meaning_of_parse_result result ≡ end_parse_result role held (words line) →
+    IfOk result (λ read. EndCommandLineMeans role held line (meaning_of_parsed_line read))
+    × (result_err result ≡ end_command_line_fault role held line) × IfOk result (TerminalCanCarryOutLine role)
+end_parsed role held line (Ok read) judged is =
+    let (means, refused) = (parsed_by_words (end_command_line_forms (call_line_forms role)) (is_end_command_line_out_of_order held)
+    meaning_of_end_command_line line (Ok false) (Ok (meaning_of_parsed_line read)) judged is).0 in
+    (means, refused, line_is_possible role held line read means)
+end_parsed role held line (Err fault) judged is =
+    let all = (parsed_by_words (end_command_line_forms (call_line_forms role)) (is_end_command_line_out_of_order held)
+    meaning_of_end_command_line line (Ok false) (Err fault) judged is).0 in
+    (tt, all.1, tt)

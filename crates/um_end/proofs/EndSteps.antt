@@ -27,7 +27,7 @@ use Rattle.{
       EndLineLaws.{CanBeCarriedOut, end_command_line_meaning, end_command_line_means, end_command_line_refused, line-possible},
     },
   },
-  um_formats.{specs.BurstTexts.bursts_text, proofs.Lemmas.soft},
+  um_formats.{specs.BurstTexts.bursts_text, proofs.BurstLines.soft},
   um_lines.specs.declared.fault.LineFault.LineFault,
   um_link.{
     proofs.{

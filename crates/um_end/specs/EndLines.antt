@@ -1,5 +1,5 @@
 -- What the lines of the `end` command mean (this project's own rule).
-use Rattle.std.specs.Prelude.{ℕ, ℤ, Bool, false, ◌||◌, List, [], ◌∷◌, Option, Some, None, Result, codes}
+use Rattle.std.specs.Prelude.{ℕ, ℤ, Bool, false, ◌||◌, List, [], ◌∷◌, Option, Some, None, Result, Ok, Err, codes}
 use Rattle.std.specs.Str.{bytes_eq}
 use Rattle.um_link.specs.bit_blocks.SoftValues.{AllSoftBits}
 use Rattle.um_link.specs.lapdm_window.Ends.{Role, Mobile, Network}
@@ -12,7 +12,7 @@ use Rattle.um_lines.specs.LinkForms.{LinkLineKind, mobile_call_line_forms, netwo
 use Rattle.um_lines.specs.LinkForms.{end_command_line_forms}
 use Rattle.um_lines.specs.LinkForms.{is_end_command_line_out_of_order}
 use Rattle.um_lines.specs.LinkForms as L
-use Rattle.um_lines.specs.Reading.{LineParsesTo, parsed_line}
+use Rattle.um_lines.specs.Reading.{LineParsesTo, parsed_line, words_parse_result}
 use Rattle.um_formats.specs.declared.burst_lines.BurstLine.{BurstLine}
 use Rattle.um_formats.specs.declared.burst_lines.BurstLine.TheVariants.{Normal}
 use Rattle.um_formats.specs.BurstLines.{burst_line_of_values}
@@ -76,6 +76,16 @@ TerminalCanCarryOutLine role (V.Burst soft) = AllSoftBits soft
 TerminalCanCarryOutLine role (V.Ask event) = IsCallOfRole role (spec_event_of event)
 
 -- ---- internal definitions
+
+-- the result of parsing the words of a line (used only inside the parser)
+abbrev pub end_parse_result : (role : Role) (held_burst_count : ℕ) (words : List (List ℕ)) → Result EndCommandLineMeaning LineFault
+end_parse_result role held words =
+    words_parse_result (end_command_line_forms (call_line_forms role)) (is_end_command_line_out_of_order held) meaning_of_end_command_line
+    words
+
+abbrev pub meaning_of_parse_result : Result EndCommandLine LineFault → Result EndCommandLineMeaning LineFault
+meaning_of_parse_result (Ok line) = Ok (meaning_of_parsed_line line)
+meaning_of_parse_result (Err fault) = Err fault
 
 -- whether the first word of a line is the name of an endpoint of this side
 abbrev pub names_endpoint_of_side : (role : Role) (words : List (List ℕ)) → Bool

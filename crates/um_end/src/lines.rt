@@ -4,21 +4,19 @@
 //! also refuses lines of other forms, and calls inside a block.
 ghost use Rattle.std.specs.Prelude.{◌≡◌, ◌≤◌, ℕ, List, true, false, Some, length, IfOk};
 ghost use Rattle.std.specs.Result.{result_err};
-ghost use Rattle.um_lines.specs.Words.{words, is_skipped_line};
+ghost use Rattle.um_lines.specs.Words.{words};
 ghost use Rattle.um_lines.specs.Meanings.{HasOneMeaningOrFault};
 ghost use Rattle.um_link.specs.lapdm_window.Ends.{Role};
 ghost use Rattle.um_link.specs.Naming.{spec_role_of};
-ghost use Rattle.um_script.specs.Naming.{event_of_script_line as script_meaning};
 ghost use Rattle.um_end.specs.EndLines.{end_command_line_fault, EndCommandLineMeans, meaning_of_parsed_line, TerminalCanCarryOutLine};
 ghost use Rattle.um_end.specs.EndLines.{names_endpoint_of_side};
-ghost use Rattle.um_end.specs.EndLines.{meaning_of_burst_line};
-ghost use Rattle.um_end.specs.EndLines.{meaning_of_script_event, call_line_fault_inside_block};
-ghost use Rattle.um_end.specs.EndLines.{burst_line_fault_in_end_command};
+ghost use Rattle.um_end.specs.EndLines.{meaning_of_burst_line, meaning_of_parse_result, end_parse_result};
+ghost use Rattle.um_end.specs.EndLines.{call_line_fault_inside_block, burst_line_fault_in_end_command};
 
-use um_formats::{BURST_BITS, BurstLine, parse_burst};
-use um_lines::{LINE_LIMIT, LineFault, first_word, is_skipped_line};
+use um_formats::{BURST_BITS, BurstLine, parse_burst_words};
+use um_lines::{LineFault, first_word, skips_line};
 use um_link::{End, Event};
-use um_script::{Room, ScriptLine, parse_script};
+use um_script::{Room, parse_script_words};
 
 /// The meaning of a line of the `end` command.
 #[derive(Clone, Copy, Drop)]
@@ -49,10 +47,7 @@ pub fn parse_end<'a>(
     // A terminal of this side can carry out the line.
     ensures possible { IfOk result (TerminalCanCarryOutLine (spec_role_of side)) }
 {
-    if line.len() > LINE_LIMIT {
-        return Err(LineFault::Long);
-    }
-    if is_skipped_line(line) {
+    if skips_line(line)? {
         return Ok(EndCommandLine::Skip);
     }
     if begins_with_own_endpoint_name(line, side) {
@@ -83,27 +78,16 @@ fn parse_call_line<'a>(
     room: &'a mut Room,
 ) -> Result<EndCommandLine<'a>, LineFault>
     requires size { length line.now ≤ 4096 }
-    requires not_skipped { is_skipped_line line.now ≡ false }
     requires own { names_endpoint_of_side (spec_role_of side) (words line.now) ≡ true }
-    ensures means { IfOk result (λ read. EndCommandLineMeans (spec_role_of side) held line.now (meaning_of_parsed_line read)) }
-    ensures refused { result_err result ≡ end_command_line_fault (spec_role_of side) held line.now }
+    ensures { meaning_of_parse_result result ≡ end_parse_result (spec_role_of side) held (words line.now) }
 {
-    let read = parse_script(line, room);
+    let read = parse_script_words(line, room);
     if held > 0 {
         return Err(call_line_fault_in_block(read.err()));
     }
     match read {
-        Ok(script) => Ok(end_command_line_of_script_line(script)),
+        Ok(event) => Ok(EndCommandLine::Ask(event)),
         Err(fault) => Err(fault),
-    }
-}
-
-fn end_command_line_of_script_line(script_line: ScriptLine<'_>) -> EndCommandLine<'_>
-    ensures { meaning_of_parsed_line result ≡ meaning_of_script_event (script_meaning script_line.entry) }
-{
-    match script_line {
-        ScriptLine::Skip => EndCommandLine::Skip,
-        ScriptLine::Step(event) => EndCommandLine::Ask(event),
     }
 }
 
@@ -123,13 +107,10 @@ fn parse_burst_line<'a>(
     side: End,
     held_bursts: u8,
 ) -> Result<EndCommandLine<'a>, LineFault>
-    requires size { length line.now ≤ 4096 }
-    requires not_skipped { is_skipped_line line.now ≡ false }
-    requires other { names_endpoint_of_side (spec_role_of side) (words line.now) ≡ false }
-    ensures means { IfOk result (λ read. EndCommandLineMeans (spec_role_of side) held_bursts line.now (meaning_of_parsed_line read)) }
-    ensures refused { result_err result ≡ end_command_line_fault (spec_role_of side) held_bursts line.now }
+    requires { names_endpoint_of_side (spec_role_of side) (words line.now) ≡ false }
+    ensures { meaning_of_parse_result result ≡ end_parse_result (spec_role_of side) held_bursts (words line.now) }
 {
-    match parse_burst(line, 3) {
+    match parse_burst_words(line, 3) {
         Ok(burst) => Ok(end_command_line_of_burst_line(burst)),
         Err(fault) => Err(end_command_fault_of_burst_line(fault)),
     }

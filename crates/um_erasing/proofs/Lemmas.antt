@@ -1,16 +1,17 @@
 -- The report is unique; without erasures it is that of the list decoder.
-use Rattle.std.proofs.Common.{arith, List, None, Option, Some, ap, map, refl, set, subst, suc, sym, zero, ℕ, ℤ, ◌+◌, ◌-◌}
-use Rattle.std.proofs.Common.{◌∙◌, ◌≡◌, ◌≢◌, ◌≤◌}
-use Rattle.std.specs.Prelude.{IsSome, MatchOption}
-use Rattle.um_list_receive.specs.declared.reports.ListDecodedBlock.{ListDecodedBlock}
-use Rattle.um_list_receive.specs.ListDecoding.{IsListDecodedBlock}
-use Rattle.um_list_receive.proofs.Lemmas.{block_at_once, one_block_among}
-use Rattle.um_block.specs.Received.{IsReceivedBlock}
-use Rattle.um_block.specs.declared.received.Received.{Received}
-use Rattle.um_erasing.specs.Erasing.{IsErasingDecodedBlock, IsErasingSearch, IsFoundOrFirst, index_of_greatest, without_burst}
-use Rattle.um_erasing.specs.Erasing.{wrong_training_of_bursts}
-use Rattle.um_erasing.specs.declared.blocks.ErasedBlock.{ErasedBlock}
-use Rattle.um_erasing.specs.declared.blocks.ErasingDecodedBlock.{ErasingDecodedBlock}
+use Rattle.{
+  std.proofs.Common.{arith, List, None, Option, Some, ap, map, refl, set, subst, suc, sym, zero, ℕ, ℤ, ◌+◌, ◌-◌, ◌∙◌},
+  std.{proofs.Common.{◌≡◌, ◌≢◌, ◌≤◌}, specs.Prelude.{IsSome, MatchOption}},
+  um_list_receive.{
+    specs.{declared.reports.ListDecodedBlock.ListDecodedBlock, ListDecoding.IsListDecodedBlock},
+    proofs.Lemmas.{block_at_once, one_block_among},
+  },
+  um_block.specs.{Received.IsReceivedBlock, declared.received.Received.Received},
+  um_erasing.specs.{
+    Erasing.{IsErasingDecodedBlock, IsErasingSearch, IsFoundOrFirst, index_of_greatest, without_burst, wrong_training_of_bursts},
+    declared.blocks.{ErasedBlock.ErasedBlock, ErasingDecodedBlock.ErasingDecodedBlock},
+  },
+}
 
 one_choice : {X : Type 0} (P : Option ErasedBlock → Type 0) (accepted : Option X) (a b : Option ErasedBlock) (e : Option ErasedBlock) →
     ((x y : Option ErasedBlock) → P x → P y → x ≡ y) →
@@ -151,7 +152,6 @@ first_accepted bursts most erasures first wrong decoded counted accepted = recor
       ((first ≡ first) × (let none : Option ℕ = None in none ≡ None)) accepted (refl, refl);
 }
 
--- the same from the report of the most likely word
 pub accepted_at_once : (bursts : List (List ℤ)) (most erasures : ℕ) (r : Received) (wrong : List ℕ) → 1 ≤ most →
     IsReceivedBlock bursts r → wrong ≡ wrong_training_of_bursts bursts r.tsc → IsSome r.accepted →
     IsErasingDecodedBlock bursts most erasures

@@ -1,8 +1,7 @@
 -- Erasure decoding (this project's own rule): if the CRC holds for no word of a block, the block is decoded again with single bursts set to
 -- zeros, the burst with the most wrong training bits first.
 use Rattle.std.specs.Prelude.{ℕ, zero, suc, ◌≡◌, ◌+◌, nat_lt, if◌then◌else◌, ℤ, pos, List, [], ◌∷◌, map}
-use Rattle.std.specs.Prelude.{replicate, slice_index, slice_set}
-use Rattle.std.specs.Prelude.{Option, Some, None, MatchOption}
+use Rattle.std.specs.Prelude.{replicate, slice_index, slice_set, Option, Some, None, MatchOption}
 use Rattle.um_block.specs.bit_blocks.SoftValues.{count_wrong_bits}
 use Rattle.um_block.specs.burst_map.training_seq.Sequences.{midamble}
 use Rattle.um_block.specs.Received.{midamble_of_burst}

@@ -28,7 +28,6 @@ pub struct ErasingDecodedBlock {
 #[derive(Clone, Copy)]
 pub(crate) struct ErasedBlock {
     pub(crate) block: ListDecodedBlock,
-    /// The burst that was erased.
     pub(crate) erased: u8,
 }
 

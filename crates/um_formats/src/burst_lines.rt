@@ -13,8 +13,8 @@ ghost use Rattle.um_formats.specs.WrittenBursts.{IsUnskippedLine};
 use crate::soft_digits::{hard_values, soft_values_of_hex_digits};
 use um_block::{BURST_BITS, Bits};
 use um_lines::{
-    LINE_LIMIT, LineFault, are_bit_digits, are_hex_digits, bits_of, first_word, is_skipped_line,
-    octets_of, parse_only_word, parse_two_words,
+    LineFault, are_bit_digits, are_hex_digits, bits_of, first_word, octets_of, parse_only_word,
+    parse_two_words, skips_line,
 };
 
 /// The meaning of a line of `replay`. Soft values are positive for 0 and negative for 1.
@@ -40,17 +40,15 @@ pub fn parse_burst(line: &[u8], held: u8) -> Result<BurstLine, LineFault>
     ensures means { IfOk result (BurstLineMeans held line.now) }
     ensures refused { result_err result ≡ burst_line_fault held line.now }
 {
-    if line.len() > LINE_LIMIT {
-        return Err(LineFault::Long);
-    }
-    if is_skipped_line(line) {
+    if skips_line(line)? {
         return Ok(BurstLine::Skip);
     }
-    parse_words(line, held)
+    parse_burst_words(line, held)
 }
 
+/// Parses the words of a line that is not skipped, as `parse_burst` does.
 #[inline(never)]
-fn parse_words(line: &[u8], held_bursts: u8) -> Result<BurstLine, LineFault>
+pub fn parse_burst_words(line: &[u8], held_bursts: u8) -> Result<BurstLine, LineFault>
     ensures { result ≡ burst_parse_result held_bursts (words line.now) }
 {
     let Some((kind, rest)) = first_word(line) else {
@@ -62,7 +60,7 @@ fn parse_words(line: &[u8], held_bursts: u8) -> Result<BurstLine, LineFault>
     parse_line_with_letter(*letter, rest, held_bursts)
 }
 
-#[tactic(auto, using(crate::proofs::Lemmas::other_letter))]
+#[tactic(auto, using(crate::proofs::BurstLines::other_letter))]
 fn parse_line_with_letter(letter: u8, operands: &[u8], held: u8) -> Result<BurstLine, LineFault>
     ensures { result ≡ burst_parse_result held ((letter ∷ []) ∷ words operands.now) }
 {
@@ -87,7 +85,7 @@ fn parse_lost_burst(word: &[u8]) -> Result<BurstLine, LineFault>
 }
 
 // Parses the digits of a line `n DIGITS148`. Searches the text for a space only if some octet is not a digit, to return the right fault.
-#[tactic(auto, using(crate::proofs::Lemmas::bit_word, crate::proofs::Lemmas::whole_word))]
+#[tactic(auto, using(crate::proofs::BurstLines::bit_word, crate::proofs::BurstLines::whole_word))]
 fn parse_hard_normal_burst(operands: &[u8]) -> Result<BurstLine, LineFault>
     ensures { (held : ℕ) → result ≡ burst_parse_result held (codes "n" ∷ words operands.now) }
 {
@@ -101,7 +99,7 @@ fn parse_hard_normal_burst(operands: &[u8]) -> Result<BurstLine, LineFault>
     Ok(BurstLine::Normal(hard_values(operands)))
 }
 
-#[tactic(auto, using(crate::proofs::Lemmas::hex_word, crate::proofs::Lemmas::whole_word))]
+#[tactic(auto, using(crate::proofs::BurstLines::hex_word, crate::proofs::BurstLines::whole_word))]
 fn parse_soft_normal_burst(operands: &[u8]) -> Result<BurstLine, LineFault>
     ensures { (held : ℕ) → result ≡ burst_parse_result held (codes "N" ∷ words operands.now) }
 {

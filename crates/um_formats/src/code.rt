@@ -7,8 +7,8 @@ ghost use Rattle.um_formats.specs.CodeLines.{code_line, code_line_fault, CodeLin
 
 use um_block::{BLOCK_OCTETS, Bits};
 use um_lines::{
-    LINE_LIMIT, LineFault, are_bit_digits, are_hex_digits, bits_of, first_word, is_skipped_line,
-    octets_of, parse_digit_up_to, parse_only_word, parse_two_words,
+    LineFault, are_bit_digits, are_hex_digits, bits_of, first_word, octets_of, parse_digit_up_to,
+    parse_only_word, parse_two_words, skips_line,
 };
 
 /// The meaning of a line of `code`.
@@ -32,10 +32,7 @@ pub fn parse_code(line: &[u8]) -> Result<CodeLine, LineFault>
     ensures refused { result_err result ≡ code_line_fault line.now }
     ensures value { result ≡ code_line line.now }
 {
-    if line.len() > LINE_LIMIT {
-        return Err(LineFault::Long);
-    }
-    if is_skipped_line(line) {
+    if skips_line(line)? {
         return Ok(CodeLine::Skip);
     }
     parse_words(line)
@@ -61,7 +58,7 @@ fn parse_words(line: &[u8]) -> Result<CodeLine, LineFault>
 
 // Parses the words after `block`. Searches the text for a space only if some octet is not a digit, to return the right fault.
 #[inline(always)]
-#[tactic(auto, using(crate::proofs::Lemmas::hex_word, crate::proofs::Lemmas::whole_word))]
+#[tactic(auto, using(crate::proofs::BurstLines::hex_word, crate::proofs::BurstLines::whole_word))]
 fn parse_block(operands: &[u8]) -> Result<CodeLine, LineFault>
     ensures { result ≡ code_parse_result (codes "block" ∷ words operands.now) }
 {

@@ -87,7 +87,7 @@ impl HeldBursts {
     }
 
     /// Adds a normal burst to the buffer, and returns true if it completes a block.
-    #[tactic(auto, using(crate::proofs::Lemmas::adds_next, crate::proofs::Lemmas::written_next))]
+    #[tactic(auto, using(crate::proofs::BurstLines::adds_next, crate::proofs::BurstLines::written_next))]
     pub fn add(&mut self, burst: [i8; BURST_BITS]) -> bool
         requires { AllSoftBits burst }
         ensures { AddsNormalBurst self.old burst result self.new }
@@ -97,7 +97,7 @@ impl HeldBursts {
     }
 
     /// Adds the burst whose hard bits these digits represent, and returns true if it completes a block.
-    #[tactic(auto, using(crate::proofs::Lemmas::adds_next, crate::proofs::Lemmas::written_next))]
+    #[tactic(auto, using(crate::proofs::BurstLines::adds_next, crate::proofs::BurstLines::written_next))]
     fn add_hard_burst(&mut self, digits: &[u8]) -> bool
         requires each { IsTrue (list_all is_bit_digit digits.now) }
         requires size { length digits.now ≡ BURST_BITS }
@@ -108,7 +108,7 @@ impl HeldBursts {
     }
 
     /// Adds the burst whose soft values these octets represent, and returns true if it completes a block.
-    #[tactic(auto, using(crate::proofs::Lemmas::adds_next, crate::proofs::Lemmas::written_next))]
+    #[tactic(auto, using(crate::proofs::BurstLines::adds_next, crate::proofs::BurstLines::written_next))]
     fn add_soft_burst(&mut self, octets: &[u8; BURST_BITS]) -> bool
         requires { AllSoftBits (signed_octets octets.now) }
         ensures { AddsNormalBurst self.old (signed_octets octets.now) result self.new }
@@ -119,7 +119,7 @@ impl HeldBursts {
 
     /// Holds the burst at the first free place, and returns true if it completes a block.
     #[inline(always)]
-    #[tactic(auto, using(crate::proofs::Lemmas::next_held, crate::proofs::Lemmas::fourth_held))]
+    #[tactic(auto, using(crate::proofs::BurstLines::next_held, crate::proofs::BurstLines::fourth_held))]
     fn count_burst(&mut self) -> bool
         ensures { AddsNormalBurst self.old (slice_index_or self.old.slots (length self.old.held) []) result self.new }
     {

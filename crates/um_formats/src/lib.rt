@@ -16,6 +16,7 @@ mod soft_digits;
 
 pub use burst_lines::{
     BurstLine, law_burst_line_meaning_is_unique, law_written_bursts_read_back, parse_burst,
+    parse_burst_words,
 };
 pub use bursts::{access_line, normal_line, push_block, sync_line, write_block_burst_lines};
 pub use code::{CodeLine, law_code_line_meaning_is_unique, parse_code};

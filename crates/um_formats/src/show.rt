@@ -16,9 +16,7 @@ ghost use Rattle.um_formats.specs.WrittenBursts.{IsUnskippedLine};
 use crate::frame_words::frame_words;
 use lapdm_frame::Channel;
 use um_block::BLOCK_OCTETS;
-use um_lines::{
-    LINE_LIMIT, LineFault, are_hex_digits, is_skipped_line, octets_of, parse_only_word,
-};
+use um_lines::{LineFault, are_hex_digits, octets_of, parse_only_word, skips_line};
 
 /// The meaning of a line of `show`.
 #[derive(Clone, Copy, PartialEq, Eq, Debug)]
@@ -40,10 +38,7 @@ pub fn parse_show(line: &[u8]) -> Result<ShowLine, LineFault>
     ensures refused { result_err result ≡ show_line_fault line.now }
     ensures value { result ≡ show_line line.now }
 {
-    if line.len() > LINE_LIMIT {
-        return Err(LineFault::Long);
-    }
-    if is_skipped_line(line) {
+    if skips_line(line)? {
         return Ok(ShowLine::Skip);
     }
     parse_words(line)
@@ -62,7 +57,7 @@ fn parse_words(line: &[u8]) -> Result<ShowLine, LineFault>
 }
 
 // Parses the word after `octets`. Searches the text for a space only if some octet is not a digit, to return the right fault.
-#[tactic(auto, using(crate::proofs::Lemmas::hex_word, crate::proofs::Lemmas::whole_word))]
+#[tactic(auto, using(crate::proofs::BurstLines::hex_word, crate::proofs::BurstLines::whole_word))]
 fn parse_octets(operands: &[u8]) -> Result<ShowLine, LineFault>
     ensures { result ≡ show_parse_result (codes "octets" ∷ words operands.now) }
 {

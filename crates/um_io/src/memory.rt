@@ -5,8 +5,7 @@ ghost use Rattle.std.specs.Io.{ReadsAtMost, WritesAtMost};
 ghost use Rattle.std.specs.Io.KnownBytes.{ReadConsumes, WriteAppends};
 ghost use Rattle.um_io.specs.Streams.{next_failure_count, FailureCountRose, TakesAtLeastOneOctet};
 ghost use Rattle.um_io.specs.Memory.{NeverFailingSourceState, MemorySourceState, MemorySinkState, new_source_state, new_sink_state};
-ghost use Rattle.um_io.specs.Memory.{read_octet_count};
-ghost use Rattle.um_io.specs.Memory.{written_octet_count, buffer_after_read, NextCallFails, SinkRefuses};
+ghost use Rattle.um_io.specs.Memory.{read_octet_count, written_octet_count, buffer_after_read, NextCallFails, SinkRefuses};
 ghost use Rattle.um_io.specs.Memory.{source_after_read, source_after_failure, sink_after_write, sink_after_failure, IsMemorySourceCall};
 ghost use Rattle.std.specs.Result.{result_ok};
 

@@ -1,7 +1,6 @@
 //! The values of sixteen hexadecimal digits at a time; an octet that is not a hexadecimal digit has a value above 15.
 ghost use Rattle.std.specs.Prelude.{◌≡◌, ℕ, ◌+◌, ◌*◌, ◌%◌, ◌<◌, ◌≤◌, ◌&&◌, true, length, map, take, drop};
-ghost use Rattle.std.specs.Prelude.{◌++◌, slice_index};
-ghost use Rattle.std.specs.Prelude.{IsTrue};
+ghost use Rattle.std.specs.Prelude.{◌++◌, slice_index, IsTrue};
 ghost use Rattle.std.specs.List.{list_all};
 ghost use Rattle.hex.specs.Hex.{is_hex_digit};
 ghost use Rattle.um_lines.specs.Fields.{digit_value};

@@ -16,14 +16,10 @@ use Rattle.{
     declared.reports.ListDecodedBlock.ListDecodedBlock,
   },
   um_block.{
-    proofs.{burst_map.training_seq.Lemmas.one_first_greatest, conv_code.Lemmas.IsMostLikely-only, interleave.Lemmas.same_coded},
-    specs.{
-      Received.{IsReceivedBlock, coded_soft_bits, wrong_training_bits},
-      bit_blocks.{Octets.octets_of, SoftValues.likelihood},
-      conv_code.{Code.{IsEncoderInput, encoding}, Likelihood.{IsMostLikely, RanksAfter}},
-      declared.received.Received.Received,
-      interleave.Bursts.IsInterleaved,
-    },
+    proofs.{burst_map.training_seq.Lemmas.one_first_greatest, conv_code.Lemmas.IsMostLikely-only, interleave.Bursts.same_coded},
+    specs.{Received.{IsReceivedBlock, coded_soft_bits, wrong_training_bits}, bit_blocks.{Octets.octets_of, SoftValues.likelihood}},
+    specs.{conv_code.{Code.{IsEncoderInput, encoding}, Likelihood.{IsMostLikely, RanksAfter}}, declared.received.Received.Received},
+    specs.interleave.Bursts.IsInterleaved,
   },
 }
 

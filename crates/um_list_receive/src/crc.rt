@@ -5,7 +5,6 @@ ghost use Rattle.um_list_receive.specs.ListDecoding.{BlockCrcHolds};
 
 use um_block::{Bits, xcch_holds};
 
-/// Returns whether the CRC of `word`, the encoder input of a block, is correct.
 pub(crate) fn block_crc_holds(word: &[u8]) -> bool
     requires word_length { length word.now ≡ 228 }
     requires bits { AllBits word.now }
@@ -14,7 +13,6 @@ pub(crate) fn block_crc_holds(word: &[u8]) -> bool
     xcch_holds(&Bits::from_array(first_bits::<224>(word)))
 }
 
-/// The first `N` bits of a word.
 fn first_bits<const N: usize>(decoded: &[u8]) -> [u8; N]
     requires size { N ≤ length decoded.now }
     requires bits { AllBits decoded.now }

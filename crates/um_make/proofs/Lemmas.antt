@@ -49,7 +49,6 @@ use Rattle.{
 -- ## Sizes: The generated events invert at most three bits of each block, and their messages consist of octets. A message has at most 13
 -- segments, a segment takes at most two transmissions, and a transmission has two events.
 
--- the list has at most `most` events, and the events invert few bits (`AllEventsInvertFewBits`)
 record AreBounded (most : ℕ) (es : List Event) : Type 0 where
   few : AllEventsInvertFewBits es
   size : length es ≤ most
@@ -147,7 +146,6 @@ counts-append xs ys a b c h k = record {
 
 -- ## Tallying: The summary counts the blocks that the radio counts.
 
--- an answer reports each received block with a good or with a bad CRC
 pub same_block_count : (answer : Answer) →
     one_if_true (reports_good_crc answer) + one_if_true (reports_bad_crc answer) ≡ blocks_received_in_step answer
 same_block_count (Accepts step) = by step.received
@@ -159,7 +157,6 @@ same_block_count (Refuses why) = refl
 
 -- ## Totals: The counters of a session with one more event are the earlier counters plus the counts of this event.
 
--- the log of a session with one more event is the earlier log with the lines of this event appended
 session_log-push : (es : List Event) (answers : List Answer) (e : Event) (a : Answer) → length answers ≡ length es →
     session_log (es ++ e ∷ []) (answers ++ a ∷ []) ≡ session_log es answers ++ session_log (e ∷ []) (a ∷ [])
 session_log-push [] [] e a same = refl
@@ -169,7 +166,6 @@ session_log-push (x ∷ es) (y ∷ answers) e a same =
     ∙ sym (append_assoc first (session_log es answers) (session_log (e ∷ []) (a ∷ [])))
 session_log-push es answers e a same = absurd (omega arith)
 
--- selecting the notices for role r and SAPI 0 selects all notices of an endpoint with this role and SAPI, and none of any other endpoint
 Notified-notices : (r role : Role) (s : Sapi) (b : Bool) → (is_same_role r role && is_same_sapi Zero s) ≡ b → (ns : List Notice) →
     filter_map (notice_in_line r Zero) (map (Notified role s) ns ++ []) ≡ (if b then ns else [])
 Notified-notices r role s true e [] = refl
@@ -233,7 +229,6 @@ session_summary-push es answers e a old new same h k = same_summary new _
 
 -- ## OneSession: The events of a generated session determine its answers.
 
--- if a list of events satisfies `AllEventsInvertFewBits`, its messages consist of octets
 octets_of_few_inverted : (events : List Event) → AllEventsInvertFewBits events → All EventMessageIsOctets events
 octets_of_few_inverted [] few_inverted = All-nil EventMessageIsOctets
 octets_of_few_inverted (event ∷ events) few_inverted = All-cons EventMessageIsOctets event events few_inverted.1

@@ -12,7 +12,6 @@ ghost use Rattle.um_make.specs.Generated.{generated_events, message_length, mess
 use um_link::{Air, Call, End, Event, Sapi, Way};
 use um_script::Room;
 
-/// The stage of a generated session: what happens next.
 #[derive(Clone, Copy)]
 pub(crate) enum SessionStage {
     /// Layer 3 of the mobile asks to establish the link.
@@ -29,7 +28,6 @@ pub(crate) enum SessionStage {
     SegmentLost,
 }
 
-/// The progress of a generated session.
 #[derive(Drop)]
 pub(crate) struct SessionProgress {
     stage: SessionStage,
@@ -60,7 +58,6 @@ impl SessionProgress {
         }
     }
 
-    /// Returns the next event, or `None` after the last.
     pub(crate) fn next<'a>(&mut self, room: &'a mut Room) -> Option<Event<'a>>
         requires { HasBoundedTransmissions self.old }
         ensures event { MatchOption result ((remaining_events self.old ≡ []) × (remaining_events self.new ≡ []))
@@ -138,7 +135,6 @@ impl SessionProgress {
         Event::Air(segment_direction, Air::Deliver)
     }
 
-    /// Returns the event that sends the next message.
     fn send<'a>(&mut self, room: &'a mut Room) -> Event<'a>
         requires bounded { HasBoundedTransmissions self.old }
         requires stage { self.old.stage ≡ S.SendNext }
@@ -157,7 +153,6 @@ impl SessionProgress {
         Event::End(self.sender(), Sapi::Zero, Call::Send(message))
     }
 
-    /// The sender of the current message.
     fn sender(&self) -> End
         ensures { spec_role_of result ≡ sender self.now.message_number }
     {
@@ -168,7 +163,6 @@ impl SessionProgress {
         }
     }
 
-    /// The direction of the segments of the current message.
     fn segment_direction(&self) -> Way
         ensures { sender_of result ≡ sender self.now.message_number }
     {
@@ -178,7 +172,6 @@ impl SessionProgress {
         }
     }
 
-    /// The direction of the responses to the segments of the current message.
     fn reply_direction(&self) -> Way
         ensures { sender_of result ≡ other (sender self.now.message_number) }
     {
@@ -189,7 +182,6 @@ impl SessionProgress {
     }
 }
 
-/// The number of octets of the message with this number.
 fn message_octet_count(message_number: u32) -> u32
     requires { message_number ≤ 1000 }
     ensures size { result ≡ message_length message_number }

@@ -30,7 +30,6 @@ impl EndpointSummary {
         }
     }
 
-    /// Adds a notice to the counters.
     fn count_notice(&mut self, notice: &Notice)
         requires { EndpointCountersAreAtMost (2 ^ 60) self.old }
         ensures counts { CountsNotices (notice.now ∷ []) self.old self.new }
@@ -48,7 +47,6 @@ impl EndpointSummary {
         }
     }
 
-    /// Adds notices to the counters.
     pub(crate) fn count_notices(&mut self, notices: &[Notice])
         requires counters_bounded { EndpointCountersAreAtMost (2 ^ 59) self.old }
         requires size { length notices.now ≤ 3 }

@@ -30,10 +30,8 @@ pub struct Summary {
 impl Summary {
     ghost use Rattle.um_make.specs.Summaries.{session_summary, crc_passes, crc_fails};
     ghost use Rattle.um_make.specs.Counting.{CountsAnswer, CountsStep, CountersGrowAtMost, CountersAreAtMost, EndpointCountersAreAtMost};
-    ghost use Rattle.um_make.specs.Counting.{CountsNotices, EndpointCountersGrowAtMost};
-    ghost use Rattle.um_make.specs.Counting.{sapi0_notices_in_answer, one_if_true};
+    ghost use Rattle.um_make.specs.Counting.{CountsNotices, EndpointCountersGrowAtMost, sapi0_notices_in_answer, one_if_true};
 
-    /// Creates a summary with all counters 0.
     pub(crate) fn new() -> Summary
         ensures counts { result ≡ session_summary [] [] }
         ensures counters_bounded { CountersAreAtMost 0 result }
@@ -64,7 +62,6 @@ impl Summary {
         }
     }
 
-    /// Adds the result of an event to the counters.
     fn count_accepted_step(&mut self, step: &Step)
         requires { CountersAreAtMost (2 ^ 59) self.old }
         ensures adds { CountsAnswer (A.Accepts (spec_step_of step.now)) self.old self.new }
@@ -113,7 +110,6 @@ impl Summary {
     }
 }
 
-/// The notices of a step if they come from an endpoint with SAPI 0, otherwise none.
 fn sapi0_notices(step: &Step) -> &[Notice]
     ensures zero { result.now ≡ (if is_same_sapi S.Zero step.now.sapi then step.now.effects.notices else []) }
     ensures size { length result.now ≤ 3 }
@@ -124,7 +120,6 @@ fn sapi0_notices(step: &Step) -> &[Notice]
     }
 }
 
-/// Returns whether the event is the loss of a block.
 fn is_loss_event(event: &Event<'_>) -> bool
     ensures { result ≡ is_loss_event (spec_event_of event.now) }
 {

@@ -9,12 +9,11 @@ use Rattle.{
   std.proofs.{Common.{◌∙◌, ◌≡◌, ◌≢◌, ◌≤◌}, Math.Logic.◌↔◌, lemmas.{Int.ints, List.Elements.All-weaker}},
   std.specs.{List.All, Prelude.{unsigned_abs, ◌≤ℤ◌}},
   um_block.{
-    proofs.{conv_code.Lemmas.{AllBits-coded, IsMostLikely-only, length-coded}, interleave.Lemmas.{IsInterleaved-deinterleaved, same_coded}},
+    proofs.{conv_code.Lemmas.{AllBits-coded, IsMostLikely-only, length-coded}, interleave.Bursts.{IsInterleaved-deinterleaved, same_coded}},
     proofs.{ComputedReports.block_computed, trellis_decode.Lemmas.IsMostLikely-most_likely},
     specs.{Received.{IsReceivedBlock, coded_soft_bits}, bit_blocks.SoftValues.{count_wrong_bits, likelihood}},
-    specs.interleave.Bursts.IsInterleaved,
-    specs.{interleave.Bursts.deinterleaved, conv_code.{Code.encoding, Likelihood.IsMostLikely}, declared.received.Received.Received},
-    specs.trellis_decode.MostLikely.most_likely,
+    specs.{interleave.Bursts.{IsInterleaved, deinterleaved}, conv_code.{Code.encoding, Likelihood.IsMostLikely}},
+    specs.{declared.received.Received.Received, trellis_decode.MostLikely.most_likely},
   },
   um_margin.specs.Compared.{AreTwoMostLikelyBlockWords, AreTwoMostLikelyWords, TwoMostLikelyWords, compared_block_words, compared_words},
 }
@@ -65,7 +64,6 @@ pub compared_words-only : (soft : List ℤ) (n : ℕ) (c : TwoMostLikelyWords) �
     c ≡ compared_words soft
 compared_words-only soft n c pairs long h = one_compared soft c _ h (AreTwoMostLikelyWords-compared_words soft n pairs long)
 
--- the soft bits of a block, from its bursts
 pub deinterleaved-only : (soft : List ℤ) (parts : List (List ℤ)) → IsInterleaved soft parts → soft ≡ deinterleaved (pos 0) parts
 deinterleaved-only soft parts h =
     same_coded soft _ parts h (IsInterleaved-deinterleaved (pos 0) parts h.burst_count h.burst_lengths)
@@ -89,7 +87,6 @@ AreTwoMostLikelyBlockWords-compared_block_words bursts four each =
 -- ## Ahead: The margin of the most likely word is 0 if and only if another word has the same path metric. For hard bits with few errors,
 -- the margin is large: two codewords differ in at least seven bits, and each wrong bit cancels a correct one.
 
--- no other encoder input is more likely than the most likely one
 bounds : (s : List ℤ) (u v : List ℕ) → IsMostLikely s u → IsCandidate s v → v ≢ u →
     likelihood s (encoding v) ≤ℤ likelihood s (encoding u)
 bounds s u v best is ne =
@@ -118,7 +115,6 @@ zero_margin_is_tie soft c h =
       ),
     )
 
--- if e of the hard bits, at most three, differ from the encoding of the most likely word, the margin is at least 254 * (7 - 2 * e), because
 -- two codewords differ in at least seven bits
 pub hard_margin_law : (soft : List ℤ) (c : TwoMostLikelyWords) (e : ℕ) → AreTwoMostLikelyWords soft c →
     All (λ value. unsigned_abs value ≡ 127) soft → count_wrong_bits soft (encoding c.best) ≡ e → e ≤ 3 →

@@ -2,5 +2,4 @@
 pub mod Compared
 pub mod Margins
 pub mod Texts
--- definitions of other crates that the definitions of this crate use
 pub use Rattle.um_replay.specs.um_driver.Rules

@@ -71,7 +71,6 @@ fn push_margin_and_metric(out: &mut Text, margin: i32, metric: i32)
     out.push(itoa::Buffer::new().format(metric).as_bytes());
 }
 
-// Writes the data and the CRC of a block's word as hexadecimal octets, separated by `separator`.
 fn push_hex_word(out: &mut Text, word: &Bits<ENCODER_INPUT_BITS>, separator: &[u8])
     requires space { length out.old + 100 ≤ 4096 }
     requires size { length separator.now ≤ 10 }

@@ -1,10 +1,7 @@
 -- The lines of `repair`, and the result of a repair.
 use Rattle.{
   fire_code.{proofs.Lemmas.{AllBits-low_bits, length-low_bits, low_bits-number_of, number_of}, specs.Registers.low_bits},
-  fire_repair.{
-    proofs.Lemmas.{one_answer, some_answer},
-    specs.{Answers.IsRepairResult, declared.repairs.RepairAnswer.RepairAnswer},
-  },
+  fire_repair.{proofs.RepairResults.{one_answer, some_answer}, specs.{Answers.IsRepairResult, declared.repairs.RepairAnswer.RepairAnswer}},
   std.proofs.Common.{List, [], subst, ap, arith, drop, length-append, length, refl, sym, ℕ, ◌++◌, ◌∙◌, ◌≡◌},
   std.proofs.lemmas.List.{append-nil, drop_all, drop_at, take_at},
   um_lines.{
@@ -29,7 +26,6 @@ one_meaning line =
     Laws.one_made repair_line_of_meaning (LineMeans repair_line_forms never_misplaced line) (repair_line_fault line)
     (Laws.one_meaning repair_line_forms never_misplaced line refl)
 
--- the meaning of a line is a word of 224 bits, unless the line is skipped
 abbrev pub AreWordBits : RepairLine → Type 0
 AreWordBits Skip = Unit {0}
 AreWordBits (Word w) = (length w ≡ 224) × AllBits w
@@ -49,7 +45,6 @@ are_word_bits line meaning means =
       tt,
     ) line meaning means
 
--- writing the 40 CRC bits after the 184 data bits gives all 224 bits of the word
 pub written_word : (x y zeros : List ℕ) → length x ≡ 184 → length zeros ≡ 40 → put_mid 184 40 (x ++ zeros) y ≡ x ++ y
 written_word x y zeros ex ez =
     let rest : drop 40 (drop 184 (x ++ zeros)) ≡ [] = ap (drop 40) (drop_at x zeros 184 ex) ∙ drop_all 40 zeros (omega arith) in
@@ -71,7 +66,6 @@ pub repair_result-only : (w : List ℕ) (a : RepairAnswer) → length w ≡ 224 
     a ≡ repair_result w
 repair_result-only w a count bits is = one_answer w a _ is (IsRepairResult-repair_result w count bits)
 
--- the result for the word on a line
 pub result_of_line : (line w : List ℕ) (a : RepairAnswer) → RepairLineMeans line (Word w) → IsRepairResult w a →
     a ≡ repair_result w
 result_of_line line w a means = repair_result-only w a (are_word_bits line (Word w) means).0 (are_word_bits line (Word w) means).1

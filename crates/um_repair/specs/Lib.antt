@@ -2,5 +2,4 @@
 pub mod RepairLines
 pub mod RepairRules
 pub mod Texts
--- definitions of other crates that the definitions of this crate use
 pub use Rattle.um_driver.specs.Rules

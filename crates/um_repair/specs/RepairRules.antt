@@ -3,7 +3,7 @@ use Rattle.std.specs.Prelude.{ℕ, List, []}
 use Rattle.fire_code.specs.Registers.{low_bits}
 use Rattle.fire_code.proofs.Lemmas.{AllBits-low_bits, length-low_bits, number_of}
 use Rattle.fire_repair.specs.declared.repairs.RepairAnswer.{RepairAnswer}
-use Rattle.fire_repair.proofs.Lemmas.{some_answer}
+use Rattle.fire_repair.proofs.RepairResults.{some_answer}
 use Rattle.um_driver.specs.Rules.{Rules, stateless, answer_to_meaning}
 use Rattle.um_repair.specs.declared.parsing.RepairLine.{RepairLine}
 use Rattle.um_repair.specs.declared.parsing.RepairLine.TheVariants.{Skip, Word}

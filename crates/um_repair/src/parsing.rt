@@ -7,8 +7,8 @@ ghost use Rattle.um_lines.specs.Words.{words};
 ghost use Rattle.um_repair.specs.RepairLines.{repair_line, repair_line_fault, RepairLineMeans, repair_parse_result, bits_of_data_and_crc};
 
 use um_lines::{
-    BLOCK_BITS, BLOCK_OCTETS, Bits, LINE_LIMIT, LineFault, are_hex_digits, first_word, from_octets,
-    is_skipped_line, octets_of, parse_two_words,
+    BLOCK_BITS, BLOCK_OCTETS, Bits, LineFault, are_hex_digits, first_word, from_octets, octets_of,
+    parse_two_words, skips_line,
 };
 
 /// The meaning of a line of `repair`.
@@ -28,10 +28,7 @@ pub fn parse_repair_line(line: &[u8]) -> Result<RepairLine, LineFault>
     ensures refused { result_err result ≡ repair_line_fault line.now }
     ensures value { result ≡ repair_line line.now }
 {
-    if line.len() > LINE_LIMIT {
-        return Err(LineFault::Long);
-    }
-    if is_skipped_line(line) {
+    if skips_line(line)? {
         return Ok(RepairLine::Skip);
     }
     parse_words(line)
@@ -62,7 +59,6 @@ fn parse_word_with_crc(operands: &[u8]) -> Result<RepairLine, LineFault>
     Ok(RepairLine::Word(word_of_data_and_crc(&octets_of(octets), &octets_of(check))))
 }
 
-/// The bits of the data octets, followed by the bits of the CRC octets.
 fn word_of_data_and_crc(octets: &[u8; BLOCK_OCTETS], check: &[u8; 5]) -> Bits<224>
     ensures { result ≡ bits_of_data_and_crc octets.now check.now }
 {

@@ -6,7 +6,7 @@ use Rattle.{
   um_driver.specs.um_lines.declared.fault.LineFault.LineFault,
   um_replay.specs.BurstRules.{BurstAnswers, answer_to_burst, answer_to_bursts, burst_rules},
   um_formats.{
-    proofs.Lemmas.{burst_line_meaning, burst_line_refused},
+    proofs.BurstLines.{burst_line_meaning, burst_line_refused},
     specs.{
       BurstLines.{BurstLineMeans, burst_line_fault},
       Held.{AddsNormalBurst, BurstBuffer, GivesBurstsToDecode, normal_burst_result},

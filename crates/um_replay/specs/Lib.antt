@@ -3,5 +3,4 @@ pub use Rattle.um_driver.specs.um_lines as um_lines
 -- The definitions that the contracts of this crate cite.
 pub mod BurstRules
 pub mod Replay
--- definitions of other crates that the definitions of this crate use
 pub use Rattle.um_driver.specs.Rules

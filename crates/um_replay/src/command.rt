@@ -99,7 +99,6 @@ impl<R: Reports> Command for BurstCommand<R> {
     }
 }
 
-/// Writes the answer to a line; `next` is the result of parsing the line.
 fn write_answer<R: Reports>(out: &mut Text, reports: &R, next: &BurstsToDecode, held: &HeldBursts)
     requires empty { out.old ≡ [] }
     requires soft { HasValidSoftValues next.now }

@@ -11,7 +11,7 @@ use Rattle.{
     specs.{Str.{all_ascii_digits, bytes_eq}, Char.is_ascii_digit},
   },
   um_lines.{
-    proofs.{FormLaws.hex_digits_decode, Texts.words-join},
+    proofs.{SpelledLaws.hex_digits_decode, Texts.words-join},
     specs.{Fields.octets_from_hex, Hex.{encode_lower, is_hex_digit}, LineTexts.octets_word, Words.{IsNotSpace, words}},
   },
   um_link.specs.{

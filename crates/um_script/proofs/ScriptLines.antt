@@ -15,12 +15,12 @@ use Rattle.{
     specs.{Prelude.{All, slice_set}, Result.result_err, Str.{Parse.{digits_value_after, digits_value}, all_ascii_digits, bytes_eq}},
   },
   um_lines.{
-    proofs.FormLaws.{Each, Fitting, line_by_forms, parsed_meaning, parsed_means, read_of_words},
+    proofs.FormLaws.{Each, Fitting, line_by_forms, parsed_by_words, parsed_meaning, parsed_means},
     specs.Fields.{BitDigits, BlockBitIndex, DigitUpTo, LineField, FixedWord, HexOctets, OctetsBetween, SoftOctets, Value, fits_field},
     specs.Fields.{has_forbidden_soft_value, has_octet_count, has_wrong_bit_index, has_wrong_digits, has_wrong_length, is_dash_or_hex},
     specs.{Fields.{is_decimal, octets_from_hex}, Forms.{LineForms, fault_or_value, fields_for_word_count, first_field_fault}},
     specs.Forms.{has_faulty_word, has_repeated_number, line_fault, never_misplaced, bit_indices_of_values, values_of_words},
-    specs.{LinkForms.{any_octets, direction_word, endpoint_word, link_line_forms}, Words.{is_skipped_line, words}},
+    specs.{LinkForms.{any_octets, direction_word, endpoint_word, link_line_forms}, Words.{skips_line, words}},
     specs.declared.fault.LineFault.{TheVariants.{Digits, Place, Twice}, LineFault},
   },
   um_link.specs.{
@@ -184,7 +184,7 @@ rivals [] = refl
 rivals (w ∷ []) = octets_given w E.Rival
 rivals (w ∷ other ∷ ws) = refl
 
-read_by_parts : (ws : List (List ℕ)) → script_parse_result ws ≡ parsed_script_words ws
+pub read_by_parts : (ws : List (List ℕ)) → script_parse_result ws ≡ parsed_script_words ws
 read_by_parts [] = refl
 read_by_parts (name ∷ ws) =
     let P : List ℕ → Type 0 = λ n. script_parse_result (n ∷ ws) ≡ parsed_actor_line (actor_of_name n) ws in
@@ -434,16 +434,16 @@ places-below_592 (w ∷ ws) in_range =
 
 -- ## LineLaws: If a parser returns the right result for the words of a line, it returns the right result for the line.
 
-pub read_line : (line : List ℕ) (result read : Result EventValue LineFault) → result ≡ read → length line ≤ 4096 →
-    is_skipped_line line ≡ false → event_or_fault result ≡ parsed_script_words (words line)
+pub read_line : (line : List ℕ) (result read : Result EventValue LineFault) → result ≡ read → Ok false ≡ skips_line line →
+    event_or_fault result ≡ parsed_script_words (words line)
     → IfOk read (λ event. ScriptLineMeans line (Some (spec_event_of event)))
     × (result_err read ≡ line_fault link_line_forms never_misplaced line)
-read_line line result (Ok event) same short stays is =
-    read_of_words link_line_forms never_misplaced event_of_script_line_meaning line (Ok (Some (spec_event_of event))) short stays
-    (ap event_or_fault (sym same) ∙ is ∙ sym (read_by_parts (words line)))
-read_line line result (Err fault) same short stays is =
-    read_of_words link_line_forms never_misplaced event_of_script_line_meaning line (Err fault) short stays
-    (ap event_or_fault (sym same) ∙ is ∙ sym (read_by_parts (words line)))
+read_line line result (Ok event) same judged is =
+    (parsed_by_words link_line_forms never_misplaced event_of_script_line_meaning line (Ok false) (Ok (Some (spec_event_of event))) judged
+    (ap event_or_fault (sym same) ∙ is ∙ sym (read_by_parts (words line)))).0
+read_line line result (Err fault) same judged is =
+    (parsed_by_words link_line_forms never_misplaced event_of_script_line_meaning line (Ok false) (Err fault) judged
+    (ap event_or_fault (sym same) ∙ is ∙ sym (read_by_parts (words line)))).0
 
 -- ## WordSizes: If a text has only one word, the word is the text.
 

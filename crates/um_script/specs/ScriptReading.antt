@@ -1,4 +1,4 @@
--- The results of parsing the parts of a script line (used inside this crate).
+-- The results of parsing the parts of a script line (used only inside the parsers).
 use Rattle.std.specs.Prelude.{ℕ, nat_lt, Bool, true, false, not, List, [], ◌∷◌, map, Option, Some, None, Result, Ok, Err}
 use Rattle.std.specs.Prelude.{if◌then◌else◌}
 use Rattle.std.specs.List.{list_any}
@@ -111,6 +111,7 @@ parsed_actor_line (Some (W.End end sapi)) ws = parsed_layer3_call (link_endpoint
 parsed_actor_line (Some (W.Way way)) ws = parsed_radio_event (link_direction_of way) ws
 parsed_actor_line (Some W.Rival) ws = event_from_parsed_list E.Rival (parsed_octets_word ws)
 
+-- the event that the words of a line describe, or their first fault
 abbrev pub parsed_script_words : (words : List (List ℕ)) → EventOrFault
 parsed_script_words [] = Err Word
 parsed_script_words (name ∷ ws) = parsed_actor_line (actor_of_name name) ws

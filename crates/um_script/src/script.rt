@@ -17,7 +17,7 @@ ghost use Rattle.um_link.specs.Possible.{IsPossibleEvent};
 
 use crate::names::{Actor, RadioAction, Request, action_of_word, actor_of_word, request_of_word};
 use crate::room::Room;
-use um_lines::{LINE_LIMIT, LineFault, first_word, is_skipped_line};
+use um_lines::{LineFault, first_word, skips_line};
 use um_link::{Air, Call, End, Event, Sapi, Way};
 
 /// The meaning of a script line.
@@ -38,10 +38,7 @@ pub fn parse_script<'a>(line: &[u8], room: &'a mut Room) -> Result<ScriptLine<'a
     // Every bit that the event inverts is a bit of a block: its index is 0 to 591.
     ensures possible { IfOk result (λ read. HasValidBitIndices read) }
 {
-    if line.len() > LINE_LIMIT {
-        return Err(LineFault::Long);
-    }
-    if is_skipped_line(line) {
+    if skips_line(line)? {
         return Ok(ScriptLine::Skip);
     }
     match parse_script_words(line, room) {
@@ -50,7 +47,8 @@ pub fn parse_script<'a>(line: &[u8], room: &'a mut Room) -> Result<ScriptLine<'a
     }
 }
 
-fn parse_script_words<'a>(line: &[u8], room: &'a mut Room) -> Result<Event<'a>, LineFault>
+/// Parses the words of a line that is not skipped, as `parse_script` does.
+pub fn parse_script_words<'a>(line: &[u8], room: &'a mut Room) -> Result<Event<'a>, LineFault>
     requires { length line.now ≤ 4096 }
     ensures read { event_or_fault result ≡ parsed_script_words (words line.now) }
     ensures possible { IfOk result (λ event. IsPossibleEvent event) }

@@ -1,23 +1,24 @@
 -- Worked inputs of `show`: the prescribed response.
-use Rattle.std.specs.Prelude.{◌≡◌, ◌++◌, ◌<◌, ◌≤◌, ℕ, List, [], ◌∷◌, length, replicate, Option}
-use Rattle.std.specs.Prelude.{Some, true, false, codes}
-use Rattle.std.proofs.Common.{ap, arith, inl, inr, refl, sym}
-use Rattle.std.specs.Fmt.{digits}
-use Rattle.um_driver.specs.um_lines.Hex.{encode_with}
-use Rattle.um_driver.specs.Outputs.{response}
-use Rattle.um_driver.specs.declared.status.Status.{Status}
-use Rattle.um_driver.specs.declared.status.Status.TheVariants.{Done, BadInput}
-use Rattle.um_formats.specs.ShowLines.{show_line}
-use Rattle.um_formats.specs.FrameTexts.{IsTextOfOctets, text_of_octets}
-use Rattle.um_formats.proofs.Lemmas.{text_of_octets-only}
-use Rattle.um_formats.specs.lapdm_frame.Content.{Content, Frame, I, Rr, Rnr, Ui}
-use Rattle.um_formats.specs.lapdm_frame.declared.Channel.TheVariants.{Sdcch}
-use Rattle.um_formats.specs.lapdm_frame.Layout.{address_in_block, control_in_block, length_in_block}
-use Rattle.um_formats.specs.lapdm_frame.Refusals.{IsControlOctetOf, IsControlOctetOfKind, IsInformationFrame, RefusalAppliesToBlock}
-use Rattle.um_formats.specs.lapdm_frame.Refusals.{el_bit, length_field, refusal_test_index}
-use Rattle.um_formats.specs.lapdm_frame.declared.Refusal.{Refusal}
-use Rattle.um_formats.specs.lapdm_frame.declared.Refusal.TheVariants.{Lpd, Ea, Control, El, Length, Empty, More}
-use Rattle.um_show.specs.Show.{show_command_rules}
+use Rattle.{
+  std.specs.Prelude.{◌≡◌, ◌++◌, ◌<◌, ◌≤◌, ℕ, List, [], ◌∷◌, length, replicate, Option, Some, true, false},
+  std.{specs.{Prelude.codes, Fmt.digits}, proofs.Common.{ap, arith, inl, inr, refl, sym}},
+  um_driver.specs.{um_lines.Hex.encode_with, Outputs.response, declared.status.Status.{Status, TheVariants.{Done, BadInput}}},
+  um_formats.{
+    specs.{
+      ShowLines.show_line,
+      FrameTexts.{IsTextOfOctets, text_of_octets, unreadable_frame_text},
+      lapdm_frame.{
+        Content.{Content, Frame, I, Rr, Rnr, Ui},
+        declared.{Channel.TheVariants.Sdcch, Refusal.{Refusal, TheVariants.{Lpd, Ea, Control, El, Length, Empty, More}}},
+        Layout.{address_in_block, control_in_block, length_in_block},
+        Refusals.{IsControlOctetOf, IsControlOctetOfKind, IsInformationFrame, RefusalAppliesToBlock, el_bit, length_field},
+        Refusals.refusal_test_index,
+      },
+    },
+    proofs.FrameLines.text_of_octets-only,
+  },
+  um_show.specs.Show.show_command_rules,
+}
 
 i_frame : response show_command_rules tt (codes "frame sapi 0 cr 0 i ns 5 nr 2 p 1 m 0 info 0601\n") true ≡ (
   Some Done,
@@ -70,21 +71,25 @@ rnr_frame : response show_command_rules tt (codes "octets 0375012b2b2b2b2b2b2b2b
 unfolding response show_line digits
 rnr_frame = shows _ _ refl (inl (record { sapi = 0; cr = true; content = Rnr 3 true }, grind arith, refl))
 
+unread : (octets : List ℕ) (reason : Refusal) → length octets ≡ 23 → RefusalAppliesToBlock Sdcch octets reason →
+    ((x : Refusal) → refusal_test_index x < refusal_test_index reason → ¬ RefusalAppliesToBlock Sdcch octets x) →
+    answered (text_of_octets octets) ≡ answered (unreadable_frame_text reason)
+unread octets reason count applies none =
+    shows octets _ count (inr (reason, record { applies = applies; no_earlier_reason_applies = none }, refl))
+
 unread_lpd : response show_command_rules tt (codes "octets 49061b0000000000000000000000000000000000000000\n") true ≡ (
   Some Done,
   codes "unread lpd\n",
 )
 unfolding response show_line digits
-unread_lpd =
-    shows _ _ refl
-    (inr (Lpd, record { applies = omega arith; no_earlier_reason_applies = λ x before applies. grind arith }, refl))
+unread_lpd = unread _ Lpd refl (omega arith) (λ x before applies. grind arith)
 
 unread_ea : response show_command_rules tt (codes "octets 0000000000000000000000000000000000000000000000\n") true ≡ (
   Some Done,
   codes "unread ea\n",
 )
 unfolding response show_line digits
-unread_ea = shows _ _ refl (inr (Ea, record { applies = refl; no_earlier_reason_applies = λ x before applies. grind arith }, refl))
+unread_ea = unread _ Ea refl refl (λ x before applies. grind arith)
 
 -- the address, the control octet of this content, EL = 1 and L = 0 exclude the first reasons, three to five of them
 passes : (octets : List ℕ) (content : Content) (count : ℕ) → address_in_block Sdcch octets ≡ 1 →
@@ -105,80 +110,52 @@ unread_control : response show_command_rules tt (codes "octets 010d012b2b2b2b2b2
   codes "unread control\n",
 )
 unfolding response show_line digits
-unread_control =
-    shows _ _ refl
-    (inr (Control, record { applies = no_content; no_earlier_reason_applies = λ x before applies. grind arith }, refl))
+unread_control = unread _ Control refl no_content (λ x before applies. grind arith)
 
 unread_el : response show_command_rules tt (codes "octets 0103002b2b2b2b2b2b2b2b2b2b2b2b2b2b2b2b2b2b2b2b\n") true ≡ (
   Some Done,
   codes "unread el\n",
 )
 unfolding response show_line digits
-unread_el = shows _ _ refl (inr (
-  El,
-  record {
-    applies = refl;
-    no_earlier_reason_applies =
-        passes (1 ∷ 3 ∷ 0 ∷ replicate 20 0x2b) (Ui false []) 3 refl (grind arith)
-        (λ more. omega arith) (λ more. omega arith) (omega arith);
-  },
-  refl,
-))
+unread_el =
+    unread _ El refl refl
+    (passes (1 ∷ 3 ∷ 0 ∷ replicate 20 0x2b) (Ui false []) 3 refl (grind arith) (λ more. omega arith)
+    (λ more. omega arith) (omega arith))
 
 unread_length : response show_command_rules tt (codes "octets 0100552b2b2b2b2b2b2b2b2b2b2b2b2b2b2b2b2b2b2b2b\n") true ≡ (
   Some Done,
   codes "unread length\n",
 )
 unfolding response show_line digits
-unread_length = shows _ _ refl (inr (
-  Length,
-  record {
-    applies = inl (omega arith);
-    no_earlier_reason_applies =
-        passes (1 ∷ 0 ∷ 0x55 ∷ replicate 20 0x2b) (I 0 0 false false []) 4 refl (grind arith)
-        (λ more. refl) (λ more. omega arith) (omega arith);
-  },
-  refl,
-))
+unread_length =
+    unread _ Length refl (inl (omega arith))
+    (passes (1 ∷ 0 ∷ 0x55 ∷ replicate 20 0x2b) (I 0 0 false false []) 4 refl (grind arith) (λ more. refl)
+    (λ more. omega arith) (omega arith))
 
 unread_rr_length : response show_command_rules tt (codes "octets 0101052b2b2b2b2b2b2b2b2b2b2b2b2b2b2b2b2b2b2b2b\n") true ≡ (
   Some Done,
   codes "unread length\n",
 )
 unfolding response show_line digits
-unread_rr_length = shows _ _ refl (inr (
-  Length,
-  record {
-    applies = inr (omega arith, (Rr 0 false, grind arith, refl));
-    no_earlier_reason_applies =
-        passes (1 ∷ 1 ∷ 5 ∷ replicate 20 0x2b) (Rr 0 false) 4 refl (grind arith)
-        (λ more. refl) (λ more. omega arith) (omega arith);
-  },
-  refl,
-))
+unread_rr_length =
+    unread _ Length refl (inr (omega arith, (Rr 0 false, grind arith, refl)))
+    (passes (1 ∷ 1 ∷ 5 ∷ replicate 20 0x2b) (Rr 0 false) 4 refl (grind arith) (λ more. refl) (λ more. omega arith) (omega arith))
 
 unread_empty : response show_command_rules tt (codes "octets 0100012b2b2b2b2b2b2b2b2b2b2b2b2b2b2b2b2b2b2b2b\n") true ≡ (
   Some Done,
   codes "unread empty\n",
 )
 unfolding response show_line digits
-unread_empty = shows _ _ refl (inr (
-  Empty,
-  record {
-    applies = (refl, (I 0 0 false false [], grind arith, tt));
-    no_earlier_reason_applies =
-        passes (1 ∷ 0 ∷ 1 ∷ replicate 20 0x2b) (I 0 0 false false []) 5 refl (grind arith)
-        (λ more. refl) (λ more. refl) (omega arith);
-  },
-  refl,
-))
+unread_empty =
+    unread _ Empty refl (refl, (I 0 0 false false [], grind arith, tt))
+    (passes (1 ∷ 0 ∷ 1 ∷ replicate 20 0x2b) (I 0 0 false false []) 5 refl (grind arith) (λ more. refl) (λ more. refl) (omega arith))
 
 unread_more : response show_command_rules tt (codes "octets 0103032b2b2b2b2b2b2b2b2b2b2b2b2b2b2b2b2b2b2b2b\n") true ≡ (
   Some Done,
   codes "unread more\n",
 )
 unfolding response show_line digits
-unread_more = shows _ _ refl (inr (More, record { applies = (refl, no_i_frame); no_earlier_reason_applies = earlier }, refl))
+unread_more = unread _ More refl (refl, no_i_frame) earlier
   where
     earlier : (x : Refusal) → refusal_test_index x < 6 → ¬ RefusalAppliesToBlock Sdcch (1 ∷ 3 ∷ 3 ∷ replicate 20 0x2b) x
     earlier Empty before applies = no_i_frame applies.1

@@ -59,7 +59,6 @@ pub fn channel_number(channel: Channel) -> u8
     }
 }
 
-/// Returns whether the channel has blocks of four bursts.
 pub(crate) fn is_channel_of_blocks(channel: Channel) -> bool
     ensures { result ≡ is_channel_of_blocks channel }
 {

@@ -48,7 +48,6 @@ impl Slot {
         self.settings_beside(combination, direction, &None)
     }
 
-    /// Returns the combination and the direction, or `None` if a number is out of range.
     pub(crate) fn combination_and_direction(&self) -> Option<(Combination, Direction)>
         ensures { MatchOption result (settings_of self.now ≡ None) (λ found. AreInRange self.now found.0 found.1) }
     {
@@ -130,7 +129,6 @@ impl Slot {
             && self.heard <= 4
     }
 
-    /// Returns why a frame is refused, if the state is valid.
     pub(crate) fn frame_refusal(&self, frame: u32) -> Option<Refusal>
         requires { self.now.last ≤ FRAMES }
         ensures { result ≡ frame_refusal self.now frame }

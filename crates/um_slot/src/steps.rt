@@ -33,7 +33,6 @@ impl Slot {
         Some(self.finish(collected))
     }
 
-    /// Finishes the block that was collected.
     pub(crate) fn finish(&mut self, place: &Place) -> FinishedBlock
         ensures slot { self.new ≡ closed self.old }
         ensures finished { result ≡ record { place = place.now; heard = self.old.heard } }
@@ -45,7 +44,6 @@ impl Slot {
         }
     }
 
-    /// Puts a burst into its block.
     pub(crate) fn put_burst(&mut self, place: &Place, burst: &[i8; BURST_BITS], came: u8)
         requires burst { place.now.position.burst < 4 }
         requires heard { self.old.heard ≤ 4 }

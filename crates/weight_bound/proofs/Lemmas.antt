@@ -66,7 +66,6 @@ module _ (u v : List ℕ) (same : length u ≡ length v) where
 -- ## Weights: A lower bound for the weight of coded bits. Each state of the encoder has a number, its potential, such that no transition
 -- lowers the potential by more than the weight of the two coded bits. This is checked by computation for all sixteen states.
 
--- the weight of a bit list: its number of ones
 abbrev pub ones : List ℕ → ℕ
 ones [] = 0
 ones (x ∷ c) = x + ones c
@@ -135,7 +134,6 @@ Contains-strength s k _ within e = (k, rw length-map within, get_or-map _ s k (p
 either : (xs : List ℕ) (a b c : ℕ) → (c ≡ a) ⊎ (c ≡ b) → Contains xs a → Contains xs b → Contains xs c
 either xs a b c x in_a in_b = grind arith
 
--- the absolute values of the first k values lie within the bounds, and each bound is the absolute value of some value of the list
 pub record IsSoFar (s : List ℤ) (k min_abs max_abs : ℕ) : Type 0 where
   pub between : All (Between min_abs max_abs) (take k s)
   pub least : Contains (map unsigned_abs s) min_abs
@@ -243,7 +241,6 @@ tail_bits-from_zeros (a ∷ b ∷ c ∷ d ∷ []) e zeros =
     cc
 tail_bits-from_zeros x e zeros = absurd (omega arith)
 
--- all bits of a list but the last four
 abbrev front : List ℕ → List ℕ
 front u = take (length u - 4) u
 
@@ -313,7 +310,6 @@ distance-one_first m =
     ∙ ap (λ w. ones (encoding_from_state 0 (1 ∷ 0 ∷ 0 ∷ 0 ∷ 0 ∷ w))) (xor_bits-zeros m)
     ∙ omega (arith, ones-zeros m)
 
--- the codeword of an encoder input whose only bit 1 is the first bit and the codeword of all zeros have distance seven
 pub reaches_seven : (n : ℕ) → 5 ≤ n → SomeDistanceIsSeven n
 reaches_seven (suc (suc (suc (suc (suc m))))) h =
     let n = suc (suc (suc (suc m))) in record {

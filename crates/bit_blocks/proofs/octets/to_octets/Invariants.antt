@@ -1,6 +1,5 @@
 use Rattle.{std.proofs.Common.{◌≡◌, ◌*◌, take}, bit_blocks.specs.Octets.octets_of}
 use Rattle.bit_blocks.proofs.octets.to_octets.Given as goal
 
--- `out` begins with the octets into which the bits read so far are packed
 abbrev pub invariant-loop-m : goal.invariant-loop-m
 invariant-loop-m l = take l.m l.out ≡ octets_of (take (8 * l.m) l.bits)

@@ -5,7 +5,6 @@ use Rattle.{
 }
 use Rattle.conv_code.proofs.packed.encode_four_bits_per_octet.Given as goal
 
--- each octet written so far holds the coded bits of its four information bits
 abbrev pub invariant-loop-m : goal.invariant-loop-m
 invariant-loop-m l = (length l.packed ≡ 64) × ((t : ℕ) → t < 2 * l.m →
     HoldsFourCodedPairs (bits_of l.shifted) (get_or l.packed t 0) t)

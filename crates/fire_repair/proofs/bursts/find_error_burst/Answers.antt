@@ -1,4 +1,4 @@
-use Rattle.{std.proofs.Common.{◌-◌, arith}, fire_repair.proofs.Lemmas.{searched_here, searched_more}}
+use Rattle.{std.proofs.Common.{◌-◌, arith}, fire_repair.proofs.RepairResults.{searched_here, searched_more}}
 use Rattle.fire_repair.proofs.bursts.find_error_burst.Goals as goal
 
 pub loop-start-preserved : goal.loop-start-preserved

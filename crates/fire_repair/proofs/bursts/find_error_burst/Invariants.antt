@@ -1,4 +1,4 @@
-use Rattle.fire_repair.proofs.Lemmas.{IsSearched}
+use Rattle.fire_repair.proofs.RepairResults.{IsSearched}
 use Rattle.fire_repair.proofs.bursts.find_error_burst.Given as goal
 
 abbrev pub invariant-loop-start : goal.invariant-loop-start

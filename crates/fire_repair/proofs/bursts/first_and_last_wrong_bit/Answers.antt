@@ -1,4 +1,4 @@
-use Rattle.fire_repair.proofs.Lemmas.{edges_of}
+use Rattle.fire_repair.proofs.BurstBits.{edges_of}
 use Rattle.fire_repair.proofs.bursts.first_and_last_wrong_bit.Goals as goal
 
 pub returns : goal.returns

@@ -1,4 +1,4 @@
-use Rattle.fire_repair.proofs.Lemmas.{burst_at, flipped_none, flipped_more, flipped_all}
+use Rattle.fire_repair.proofs.{Syndromes.burst_at, RepairResults.{flipped_none, flipped_more, flipped_all}}
 use Rattle.fire_repair.proofs.bursts.flip_error_burst.Goals as goal
 
 pub loop-i-init : goal.loop-i-init

@@ -1,4 +1,4 @@
-use Rattle.fire_repair.proofs.Lemmas.{IsFlipped}
+use Rattle.fire_repair.proofs.RepairResults.{IsFlipped}
 use Rattle.fire_repair.proofs.bursts.flip_error_burst.Given as goal
 
 abbrev pub invariant-loop-i : goal.invariant-loop-i

@@ -1,7 +1,9 @@
 use Rattle.{
   std.proofs.Common.{◌+◌, ◌-◌, refl},
-  fire_repair.specs.{declared.repairs.RepairAnswer.TheVariants.{Holds, NoRepair, Repaired}, Answers.IsRepairResult},
-  fire_repair.proofs.Lemmas.{AreFirstAndLastBit, HasSyndrome, burst_at, no_answer, one_answer, repaired, some_shape},
+  fire_repair.{
+    specs.{declared.repairs.RepairAnswer.TheVariants.{Holds, NoRepair, Repaired}, Answers.IsRepairResult},
+    proofs.{BurstBits.AreFirstAndLastBit, RepairResults.{HasSyndrome, no_answer, one_answer, repaired, some_shape}, Syndromes.burst_at},
+  },
 }
 use Rattle.fire_repair.proofs.repairs.repair.Goals as goal
 

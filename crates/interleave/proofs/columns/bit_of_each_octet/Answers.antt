@@ -1,4 +1,4 @@
-use Rattle.interleave.proofs.Lemmas.{length-bit_lanes, bit_lane}
+use Rattle.interleave.proofs.PackedColumns.{length-bit_lanes, bit_lane}
 use Rattle.interleave.proofs.columns.bit_of_each_octet.Goals as goal
 
 pub returns-clause-count : goal.returns-clause-count

@@ -1,4 +1,4 @@
-use Rattle.{std.proofs.Common.{get_or, ap, ◌∙◌, arith}, interleave.proofs.Lemmas.{put_mid-first, put_mid-second}}
+use Rattle.{std.proofs.Common.{get_or, ap, ◌∙◌, arith}, interleave.proofs.PackedColumns.{put_mid-first, put_mid-second}}
 use Rattle.interleave.proofs.columns.repeat_columns.Goals as goal
 
 pub returns-clause-front : goal.returns-clause-front

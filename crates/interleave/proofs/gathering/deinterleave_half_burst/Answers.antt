@@ -3,7 +3,7 @@ use Rattle.{
   std.proofs.lemmas.{Int.ints, List.length-set},
   interleave.{
     specs.Positions.{burst_of_bit, position_in_burst},
-    proofs.Lemmas.{half-position, updated_bits-more, unchanged_bits-more, coded_bit_number_in_burst-unique},
+    proofs.{Bursts.{half-position, updated_bits-more, unchanged_bits-more}, Positions.coded_bit_number_in_burst-unique},
   },
 }
 use Rattle.interleave.proofs.gathering.deinterleave_half_burst.Goals as goal

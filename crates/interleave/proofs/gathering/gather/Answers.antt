@@ -8,7 +8,8 @@ use Rattle.{
   lanes.proofs.Lanes.each,
   interleave.{
     specs.{ColumnPositions.{coded_bit_number_in_column, burst_position_of_column_bit}, Positions.{burst_of_bit, position_in_burst}},
-    proofs.{Lemmas.{same_coded, in_column, burst_of_bit-below, position_in_burst-below}, gathering.gather.Goals.After-write_column},
+    proofs.{Bursts.same_coded, Positions.{in_column, burst_of_bit-below, position_in_burst-below}},
+    proofs.gathering.gather.Goals.After-write_column,
   },
 }
 use Rattle.interleave.proofs.gathering.gather.Goals as goal

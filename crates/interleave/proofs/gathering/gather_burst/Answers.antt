@@ -1,6 +1,6 @@
 use Rattle.{
   std.proofs.{Common.{◌++◌, get_or, pos, sym, ◌∙◌, arith}, lemmas.List.{get_or_default, length-append}},
-  interleave.{specs.Positions.position_in_burst, proofs.Lemmas.{halves-at, position_in_burst-below}},
+  interleave.{specs.Positions.position_in_burst, proofs.{Bursts.halves-at, Positions.position_in_burst-below}},
 }
 use Rattle.interleave.proofs.gathering.gather_burst.Goals as goal
 

@@ -4,7 +4,7 @@ use Rattle.{
   std.proofs.Common.{◌∙◌, arith},
   interleave.{
     specs.ColumnPositions.burst_position_of_column_bit,
-    proofs.{Lemmas.{each_below_8, below_at, octet_of_joined}, joining.eight_columns.Goals.After-join_octet_fours-2},
+    proofs.{JoinedLanes.{each_below_8, below_at, octet_of_joined}, joining.eight_columns.Goals.After-join_octet_fours-2},
   },
 }
 use Rattle.interleave.proofs.joining.eight_columns.Goals as goal

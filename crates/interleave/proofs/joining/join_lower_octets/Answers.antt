@@ -1,4 +1,4 @@
-use Rattle.interleave.proofs.Lemmas.{length-joined_octets, join_lower_octets-lane}
+use Rattle.interleave.proofs.JoinedLanes.{length-joined_octets, join_lower_octets-lane}
 use Rattle.interleave.proofs.joining.join_lower_octets.Goals as goal
 
 pub returns-clause-count : goal.returns-clause-count

@@ -1,4 +1,8 @@
-use Rattle.{std.proofs.Common.{◌^◌, [], ◌∷◌, refl, arith, w32}, interleave.proofs.Lemmas.paired_lane, lanes.proofs.Lanes.each}
+use Rattle.{
+  std.proofs.Common.{◌^◌, [], ◌∷◌, refl, arith, w32},
+  interleave.proofs.JoinedLanes.paired_lane,
+  lanes.proofs.Lanes.each,
+}
 use Rattle.interleave.proofs.joining.join_octet_fours.Goals as goal
 
 pub returns : goal.returns

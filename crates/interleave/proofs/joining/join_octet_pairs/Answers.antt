@@ -1,6 +1,6 @@
 use Rattle.{
   std.proofs.Common.{ℕ, suc, ◌+◌, ◌*◌, ◌^◌, List, [], ◌∷◌, get_or, refl, arith, w16},
-  interleave.proofs.Lemmas.paired_lane,
+  interleave.proofs.JoinedLanes.paired_lane,
   lanes.proofs.Lanes.same_below,
 }
 use Rattle.interleave.proofs.joining.join_octet_pairs.Goals as goal

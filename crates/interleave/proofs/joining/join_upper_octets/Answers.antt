@@ -1,4 +1,4 @@
-use Rattle.interleave.proofs.Lemmas.{length-joined_octets, join_upper_octets-lane}
+use Rattle.interleave.proofs.JoinedLanes.{length-joined_octets, join_upper_octets-lane}
 use Rattle.interleave.proofs.joining.join_upper_octets.Goals as goal
 
 pub returns-clause-count : goal.returns-clause-count

@@ -1,6 +1,6 @@
 use Rattle.{
   std.proofs.Common.{◌≡◌, suc, ◌+◌, ◌*◌, ◌<◌, get_or, ap, ◌∙◌, arith},
-  interleave.proofs.Lemmas.octet_pairs-lane,
+  interleave.proofs.JoinedLanes.octet_pairs-lane,
 }
 use Rattle.interleave.proofs.joining.octet_pairs.Goals as goal
 

@@ -1,4 +1,4 @@
-use Rattle.interleave.proofs.Lemmas.{IsInterleaved-any_order}
+use Rattle.interleave.proofs.Bursts.{IsInterleaved-any_order}
 use Rattle.interleave.proofs.laws.law_bursts_deinterleave_in_any_order.Goals as goal
 
 pub returns : goal.returns

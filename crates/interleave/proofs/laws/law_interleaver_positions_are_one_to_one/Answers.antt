@@ -1,4 +1,4 @@
-use Rattle.interleave.proofs.Lemmas.{coded_bit_at, position_in_four_bursts-below, position_in_four_bursts-differs, same_coded_bit}
+use Rattle.interleave.proofs.Positions.{coded_bit_at, position_in_four_bursts-below, position_in_four_bursts-differs, same_coded_bit}
 use Rattle.interleave.proofs.laws.law_interleaver_positions_are_one_to_one.Goals as goal
 
 pub returns : goal.returns

@@ -2,7 +2,7 @@ use Rattle.{
   std.proofs.{Common.{[], get_or, ◌∙◌, arith}, lemmas.List.get_or_default},
   interleave.{
     specs.Positions.{burst_of_bit, position_in_burst},
-    proofs.Lemmas.{same_bursts, AllBits-bursts, burst_of_bit-below, position_in_burst-below},
+    proofs.{Bursts.{same_bursts, AllBits-bursts}, Positions.{burst_of_bit-below, position_in_burst-below}},
   },
 }
 use Rattle.interleave.proofs.spreading.spread.Goals as goal

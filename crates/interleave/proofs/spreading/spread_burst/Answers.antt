@@ -1,6 +1,6 @@
 use Rattle.{
   std.proofs.Common.{get_or, ap, ◌∙◌, arith},
-  interleave.proofs.Lemmas.{IsInterleaved-half_burst, coded_bit_number_in_burst-unique},
+  interleave.proofs.{Bursts.IsInterleaved-half_burst, Positions.coded_bit_number_in_burst-unique},
 }
 use Rattle.interleave.proofs.spreading.spread_burst.Goals as goal
 

@@ -1,4 +1,4 @@
-use Rattle.{std.proofs.Common.arith, interleave.proofs.Lemmas.{table_entry, half-position}}
+use Rattle.{std.proofs.Common.arith, interleave.proofs.{Positions.table_entry, Bursts.half-position}}
 use Rattle.interleave.proofs.table.coded_bit_numbers.Goals as goal
 
 pub returns-clause-value : goal.returns-clause-value

@@ -1,5 +1,5 @@
 use Rattle.{
-  std.proofs.Common.{arith, ap₂, sym, ◌∙◌},
+  std.proofs.Common.{ap, arith, get_or, sym, ◌∙◌},
   trellis_decode.specs.Trellis.next_trellis_state,
   list_decode.proofs.DeviatingWords.state_after-more,
 }
@@ -13,6 +13,6 @@ loop-k-preserved c =
     let within = c.loop-k-test.true in
     record {
       small = omega arith;
-      state = ap₂ next_trellis_state old.state c.from-in-loop-k.ensures
+      state = ap (λ state. next_trellis_state state (get_or c.args.list.now c.loop-k.k 0)) old.state
           ∙ sym (state_after-more c.args.list.now c.loop-k.k 0 (omega arith));
     }

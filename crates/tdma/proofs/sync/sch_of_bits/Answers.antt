@@ -1,10 +1,10 @@
-use Rattle.std.proofs.Common.{ap, arith, inl, refl, rules, Some, ℕ, ◌≡◌, ◌%◌, ◌/◌, ◌*◌, ◌+◌}
-use Rattle.tdma.specs.Frames.{IsFrameAt}
-use Rattle.tdma.specs.declared.frames.FrameTime.{FrameTime}
-use Rattle.tdma.specs.Sync.{HasSch}
-use Rattle.tdma.specs.declared.sync.SchInfo.{SchInfo}
-use Rattle.tdma.proofs.Lemmas.{AreSyncBits, HasFields, bits_of_fields, fields_of_bits, numbers_of_bits, reading_none, reading_some}
-use Rattle.tdma.proofs.Lemmas.{t2_beyond}
+use Rattle.{
+  std.proofs.Common.{ap, arith, inl, refl, rules, Some, ℕ, ◌≡◌, ◌%◌, ◌/◌, ◌*◌, ◌+◌},
+  tdma.{
+    specs.{Frames.IsFrameAt, declared.{frames.FrameTime.FrameTime, sync.SchInfo.SchInfo}, Sync.HasSch},
+    proofs.Lemmas.{AreSyncBits, HasFields, bits_of_fields, fields_of_bits, numbers_of_bits, reading_none, reading_some, t2_beyond},
+  },
+}
 use Rattle.tdma.proofs.sync.sch_of_bits.Goals as goal
 
 pub returns-then-t3-gt4-clause-found : goal.returns-then-t3-gt4-clause-found

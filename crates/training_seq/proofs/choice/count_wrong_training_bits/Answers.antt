@@ -11,7 +11,6 @@ use Rattle.{
 use Rattle.training_seq.proofs.choice.count_wrong_training_bits.Goals as goal
 use Rattle.training_seq.proofs.choice.count_wrong_training_bits.Invariants.{AreCounted}
 
--- a sign of the table, as the loop reads it
 sign_here : (signs : List ℤ) (tsc i : ℕ) → tsc ≤ 7 → i < 26 → signs ≡ signs_of_bits (midamble tsc) →
     IsMagnitudeWithin 1 (to_z w16 (of_z w16 (get_or signs i (pos 0))))
     × (to_z w16 (of_z w16 (get_or signs i (pos 0))) ≡ sign_of_bit (get_or (midamble tsc) i 0))

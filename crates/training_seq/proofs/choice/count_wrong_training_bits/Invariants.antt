@@ -5,7 +5,6 @@ use Rattle.{
 }
 use Rattle.training_seq.proofs.choice.count_wrong_training_bits.Given as goal
 
--- the number of wrong soft bits counted in a midamble before index `i`, plus their number in the rest, is their number in the whole
 abbrev pub AreCounted : (values : List ℤ) (bits : List ℕ) (i wrong : ℕ) → Type 0
 AreCounted values bits i wrong =
     (wrong + count_wrong_bits (drop i values) (drop i bits) ≡ count_wrong_bits values bits) × (wrong ≤ i)

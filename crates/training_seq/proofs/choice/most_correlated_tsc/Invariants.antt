@@ -5,7 +5,6 @@ use Rattle.{
 }
 use Rattle.training_seq.proofs.choice.most_correlated_tsc.Given as goal
 
--- `best` is the sequence with the greatest correlation so far, and `greatest` is that correlation
 abbrev pub invariant-loop-tsc : goal.invariant-loop-tsc
 invariant-loop-tsc l =
     (l.greatest ≡ likelihood l.sums (midamble l.best))

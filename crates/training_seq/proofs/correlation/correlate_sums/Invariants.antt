@@ -5,7 +5,6 @@ use Rattle.{
 }
 use Rattle.training_seq.proofs.correlation.correlate_sums.Given as goal
 
--- for each training sequence, the total so far plus the correlation of the remaining sums is the correlation of all sums
 abbrev pub invariant-loop-i : goal.invariant-loop-i
 invariant-loop-i l =
     (length l.totals.lanes ≡ 8)

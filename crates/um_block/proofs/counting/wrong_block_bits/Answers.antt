@@ -2,7 +2,7 @@ use Rattle.{
   std.proofs.Common.{map, ap, ◌∙◌},
   bit_blocks.specs.SoftValues.count_wrong_bits,
   conv_code.specs.Code.encoding,
-  interleave.proofs.Lemmas.same_coded,
+  interleave.proofs.Bursts.same_coded,
 }
 use Rattle.um_block.proofs.counting.wrong_block_bits.Goals as goal
 

@@ -1,7 +1,9 @@
-use Rattle.um_block.proofs.{
-  ComputedReports.block_computed,
-  ReceivedBursts.{IsReceivedAccess-received_access, IsReceivedSync-received_sync, received_access-only, received_block-only},
-  ReceivedBursts.received_sync-only,
+use Rattle.{
+  um_block.proofs.{
+    ComputedReports.block_computed,
+    ReceivedBursts.{IsReceivedAccess-received_access, IsReceivedSync-received_sync, received_access-only, received_block-only},
+    ReceivedBursts.received_sync-only,
+  },
 }
 use Rattle.um_block.proofs.laws.law_computed_reports_are_those_of_reception.Goals as goal
 

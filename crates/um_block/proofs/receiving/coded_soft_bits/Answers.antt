@@ -1,7 +1,7 @@
 use Rattle.{
   std.proofs.Common.{◌++◌, refl, ap, ap₂, ◌∙◌, arith},
   burst_map.specs.NormalBurst.{first_coded_half, second_coded_half},
-  um_block.proofs.ReceivedBursts.put_mid-behind,
+  interleave.proofs.Bursts.put_mid-behind,
 }
 use Rattle.um_block.proofs.receiving.coded_soft_bits.Goals as goal
 

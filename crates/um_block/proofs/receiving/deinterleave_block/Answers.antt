@@ -1,7 +1,7 @@
 use Rattle.{
   std.proofs.Common.{◌≡◌, [], ◌∷◌, map, subst, arith, ap},
   interleave.specs.Bursts.IsInterleaved,
-  um_block.{specs.Received.coded_soft_bits, proofs.ReceivedBursts.{AllSoftBits-deinterleaved, four}},
+  um_block.{specs.Received.coded_soft_bits, proofs.{SoftenedBits.AllSoftBits-deinterleaved, SentBursts.four}},
 }
 use Rattle.um_block.proofs.receiving.deinterleave_block.Goals as goal
 

@@ -1,4 +1,4 @@
-use Rattle.{std.proofs.Common.{◌++◌, refl, ap₂, ◌∙◌, arith}, um_block.proofs.ReceivedBursts.put_mid-behind}
+use Rattle.{std.proofs.Common.{◌++◌, refl, ap₂, ◌∙◌, arith}, interleave.proofs.Bursts.put_mid-behind}
 use Rattle.um_block.proofs.receiving.join_sync_halves.Goals as goal
 
 pub returns : goal.returns

@@ -1,7 +1,7 @@
 use Rattle.{
   burst_map.specs.AccessBurst.body,
   std.proofs.Common.rules,
-  um_block.proofs.ReceivedBursts.{AllSoftBits-range, clean_access, one_received_access, restored_access},
+  um_block.proofs.{SoftenedBits.AllSoftBits-range, Restoring.{clean_access, restored_access}, ReceivedBursts.one_received_access},
 }
 use Rattle.um_block.proofs.receiving.receive_access.Goals as goal
 

@@ -1,4 +1,4 @@
-use Rattle.{std.proofs.Common.rules, um_block.proofs.ReceivedBursts.{one_received_block, clean_block, restored_block}}
+use Rattle.{std.proofs.Common.rules, um_block.proofs.{ReceivedBursts.one_received_block, Restoring.{clean_block, restored_block}}}
 use Rattle.um_block.proofs.receiving.receive_block.Goals as goal
 
 pub returns-clause-received : goal.returns-clause-received

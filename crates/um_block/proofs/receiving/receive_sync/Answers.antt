@@ -1,7 +1,7 @@
 use Rattle.{
   bit_blocks.specs.SoftValues.IsSoftBit,
   std.proofs.{Common.rules, lemmas.List.Elements.All-append},
-  um_block.proofs.ReceivedBursts.{AllSoftBits-range, clean_sync, one_received_sync, restored_sync},
+  um_block.proofs.{SoftenedBits.AllSoftBits-range, Restoring.{clean_sync, restored_sync}, ReceivedBursts.one_received_sync},
 }
 use Rattle.um_block.proofs.receiving.receive_sync.Goals as goal
 

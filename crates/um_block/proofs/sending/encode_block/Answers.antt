@@ -3,7 +3,7 @@ use Rattle.{
   bit_blocks.specs.Octets.{IsOctet, bits_of},
   conv_code.specs.Code.encoding,
   fire_code.specs.Words.IsXcchCodeword,
-  um_block.{specs.Sent.with_tail, proofs.ReceivedBursts.{AreCodedBitsPacked-block, carries}},
+  um_block.{specs.Sent.with_tail, proofs.SentBursts.{AreCodedBitsPacked-block, carries}},
 }
 use Rattle.um_block.proofs.sending.encode_block.Goals as goal
 

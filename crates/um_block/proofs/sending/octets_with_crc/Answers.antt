@@ -1,4 +1,4 @@
-use Rattle.um_block.proofs.ReceivedBursts.{behind_octets}
+use Rattle.um_block.proofs.SentBursts.{behind_octets}
 use Rattle.um_block.proofs.sending.octets_with_crc.Goals as goal
 
 pub returns : goal.returns

@@ -1,7 +1,7 @@
 use Rattle.{
   std.proofs.Common.arith,
   conv_code.proofs.Lemmas.AllBits-coded,
-  um_block.proofs.ReceivedBursts.{sent_access-only, one_access_burst, IsEncoderInput-joined},
+  um_block.proofs.SentBursts.{sent_access-only, one_access_burst, IsEncoderInput-joined},
 }
 use Rattle.um_block.proofs.sending.send_access.Goals as goal
 

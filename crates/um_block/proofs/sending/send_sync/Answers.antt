@@ -2,7 +2,7 @@ use Rattle.{
   std.proofs.{Common.arith, lemmas.List.Elements.{All-take, All-drop}},
   bit_blocks.specs.Bits.{IsBit, AllBits},
   conv_code.proofs.Lemmas.AllBits-coded,
-  um_block.proofs.ReceivedBursts.{sent_sync-only, one_sync_burst, IsEncoderInput-joined},
+  um_block.proofs.SentBursts.{sent_sync-only, one_sync_burst, IsEncoderInput-joined},
 }
 use Rattle.um_block.proofs.sending.send_sync.Goals as goal
 

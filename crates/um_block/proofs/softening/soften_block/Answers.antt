@@ -1,7 +1,7 @@
 use Rattle.{
   std.{proofs.{Common.{[], sym, subst, ◌∙◌, arith}, lemmas.List.{ext_get_or, get_or-map, length-map}}, specs.List.All},
   bit_blocks.specs.SoftValues.AllSoftBits,
-  um_block.{specs.Received.soft_bits, proofs.ReceivedBursts.AllSoftBits-all},
+  um_block.{specs.Received.soft_bits, proofs.SoftenedBits.AllSoftBits-all},
 }
 use Rattle.um_block.proofs.softening.soften_block.Goals as goal
 

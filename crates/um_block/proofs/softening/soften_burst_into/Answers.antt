@@ -1,7 +1,7 @@
 use Rattle.{
   bit_blocks.specs.SoftValues.AllSoftBits,
   std.proofs.{Common.{ap, arith, length, subst, sym, take, ◌+◌, ◌-◌, ◌∙◌, ◌≡◌}, lemmas.List.take_all},
-  um_block.{proofs.ReceivedBursts.{AllSoftBits-softened, softened-before, softened-more}, specs.Received.soft_bits},
+  um_block.{proofs.SoftenedBits.{AllSoftBits-softened, softened-before, softened-more}, specs.Received.soft_bits},
 }
 use borrow.Rule.Slice.PartMut.{put_mid}
 use Rattle.um_block.proofs.softening.soften_burst_into.Goals as goal

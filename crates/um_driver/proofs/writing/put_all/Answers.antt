@@ -2,7 +2,7 @@ use Rattle.{
   std.proofs.{Common.{arith, length-drop, length-take, sym, take-append-drop, ◌∙◌}, KnownBytes.Appends-kept},
   std.{proofs.lemmas.Result.MatchResult-from_err, specs.Io.KnownBytes.Appends},
   um_driver.specs.Table.SinkTakesPrefix,
-  um_io.proofs.Lemmas.Appends-front,
+  um_io.proofs.Reader.Appends-front,
 }
 use Rattle.um_driver.proofs.writing.put_all.Goals as goal
 

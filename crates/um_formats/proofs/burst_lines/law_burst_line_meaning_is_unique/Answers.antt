@@ -1,4 +1,4 @@
-use Rattle.um_formats.proofs.Lemmas.{one_burst_meaning}
+use Rattle.um_formats.proofs.BurstLines.{one_burst_meaning}
 use Rattle.um_formats.proofs.burst_lines.law_burst_line_meaning_is_unique.Goals as goal
 
 pub returns : goal.returns

@@ -1,7 +1,7 @@
 use Rattle.{
   std.proofs.{Common.codes, lemmas.List.append_cancel_right},
-  um_formats.proofs.Lemmas.{access_line, access_restored, access_whole, normal_line, normal_restored, normal_whole, sync_line},
-  um_formats.proofs.Lemmas.{sync_restored, sync_whole},
+  um_formats.proofs.BurstLines.{access_line, access_restored, access_whole, normal_line, normal_restored, normal_whole, sync_line},
+  um_formats.proofs.BurstLines.{sync_restored, sync_whole},
 }
 use Rattle.um_formats.proofs.burst_lines.law_written_bursts_read_back.Goals as goal
 

@@ -1,4 +1,4 @@
-use Rattle.{std.proofs.Common.{◌++◌, ◌∙◌, ap, arith, rules}, um_formats.proofs.Lemmas.written_text}
+use Rattle.{std.proofs.Common.{◌++◌, ◌∙◌, ap, arith, rules}, um_formats.proofs.FrameLines.written_text}
 use Rattle.um_formats.proofs.frames.frame_line.Goals as goal
 
 pub returns-clause-value : goal.returns-clause-value

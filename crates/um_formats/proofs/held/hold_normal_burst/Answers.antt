@@ -1,4 +1,4 @@
-use Rattle.{std.proofs.Common.{length, map, ◌-◌}, um_block.specs.Received.soft_bits, um_formats.proofs.Lemmas.hard_line}
+use Rattle.{std.proofs.Common.{length, map, ◌-◌}, um_block.specs.Received.soft_bits, um_formats.proofs.BurstLines.hard_line}
 use Rattle.um_formats.proofs.held.hold_normal_burst.Goals as goal
 
 pub returns-in-Some : goal.returns-in-Some

@@ -3,7 +3,7 @@ use Rattle.{
     proofs.Common.{List, codes, false, length, sym, true, ◌++◌, ◌==◌, ◌∙◌, ◌≡◌, ℕ},
     specs.List.{list_all, list_any},
   },
-  um_formats.{proofs.Lemmas.{soft_line, soft_within}, specs.{Held.IsSoftNormalBurstLine, SoftOctets.signed_octets}},
+  um_formats.{proofs.BurstLines.{soft_line, soft_within}, specs.{Held.IsSoftNormalBurstLine, SoftOctets.signed_octets}},
   um_lines.specs.{Fields.octets_from_hex, Hex.is_hex_digit},
 }
 use Rattle.um_formats.proofs.held.hold_soft_burst.Goals as goal

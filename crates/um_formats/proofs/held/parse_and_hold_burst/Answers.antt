@@ -1,4 +1,4 @@
-use Rattle.um_formats.{proofs.Lemmas.{access_burst, normal_burst, sync_burst}, specs.declared.burst_lines.BurstLine.TheVariants.Normal}
+use Rattle.um_formats.{proofs.BurstLines.{access_burst, normal_burst, sync_burst}, specs.declared.burst_lines.BurstLine.TheVariants.Normal}
 use Rattle.um_formats.proofs.held.parse_and_hold_burst.Goals as goal
 
 pub add-requires : goal.add-requires

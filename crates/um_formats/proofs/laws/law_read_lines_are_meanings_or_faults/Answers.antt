@@ -2,8 +2,11 @@ use Rattle.{
   std.proofs.Common.refl,
   um_lines.{proofs.FormLaws.{parsed_fault, parsed_meaning, parsed_means}, specs.BurstForms.{burst_line_forms, is_burst_out_of_order}},
   um_lines.specs.{CodeForms.code_line_forms, Forms.never_misplaced, ShowForms.show_line_forms},
-  um_formats.{proofs.Lemmas.{burst_line_meaning, burst_line_means, code_line_means}, specs.BurstLines.{burst_line, burst_line_of_meaning}},
-  um_formats.specs.{CodeLines.{code_line, code_line_of_meaning}, ShowLines.{show_line, show_line_of_meaning}},
+  um_formats.{
+    proofs.BurstLines.{burst_line_meaning, burst_line_means, code_line_means},
+    specs.{BurstLines.{burst_line, burst_line_of_meaning}, CodeLines.{code_line, code_line_of_meaning}, ShowLines.show_line},
+    specs.ShowLines.show_line_of_meaning,
+  },
 }
 use Rattle.um_formats.proofs.laws.law_read_lines_are_meanings_or_faults.Goals as goal
 

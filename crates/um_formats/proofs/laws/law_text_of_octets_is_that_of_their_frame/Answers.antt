@@ -1,6 +1,6 @@
 use Rattle.{
   std.proofs.Common.{subst, sym},
-  um_formats.{proofs.Lemmas.{IsTextOfOctets-text_of_octets, text_of_octets-only}, specs.FrameTexts.IsTextOfOctets},
+  um_formats.{proofs.FrameLines.{IsTextOfOctets-text_of_octets, text_of_octets-only}, specs.FrameTexts.IsTextOfOctets},
 }
 use Rattle.um_formats.proofs.laws.law_text_of_octets_is_that_of_their_frame.Goals as goal
 

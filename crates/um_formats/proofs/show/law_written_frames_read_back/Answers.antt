@@ -1,4 +1,4 @@
-use Rattle.um_formats.proofs.Lemmas.{octets_back, canonical_back, frame_again}
+use Rattle.um_formats.proofs.FrameLines.{octets_back, canonical_back, frame_again}
 use Rattle.um_formats.proofs.show.law_written_frames_read_back.Goals as goal
 
 pub returns-clause-octets : goal.returns-clause-octets

@@ -1,6 +1,6 @@
 use Rattle.{
   std.proofs.{Common.{sym, ap, Ok, ◌∙◌}, lemmas.Bool.{not-false, not-true}},
-  um_formats.proofs.Lemmas.{refused_for_digits, refused_for_length, read_frame},
+  um_formats.proofs.FrameLines.{refused_for_digits, refused_for_length, read_frame},
 }
 use Rattle.um_formats.specs.declared.show.ShowLine.TheVariants as S
 use Rattle.um_formats.proofs.show.parse_frame.Goals as goal

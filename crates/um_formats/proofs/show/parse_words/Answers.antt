@@ -1,6 +1,6 @@
 use Rattle.{
   std.proofs.{Common.{None, Some, ap, codes, sym, ◌∙◌}, lemmas.{Bool.Decides.Decides-eqb, Slice.Eq.strip_prefix_is}},
-  um_formats.{proofs.Lemmas.no_name, specs.ShowLines.show_parse_result},
+  um_formats.{proofs.FrameLines.no_name, specs.ShowLines.show_parse_result},
   um_lines.specs.Words.words,
 }
 use Rattle.um_formats.proofs.show.parse_words.Goals as goal

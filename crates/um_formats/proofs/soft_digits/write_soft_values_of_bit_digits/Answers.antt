@@ -1,7 +1,7 @@
 use Rattle.{
   std.proofs.{Common.{arith, subst, sym, take, ◌∙◌}, lemmas.List.take_all},
   um_block.specs.bit_blocks.SoftValues.AllSoftBits,
-  um_formats.proofs.Lemmas.hard_values,
+  um_formats.proofs.BurstLines.hard_values,
 }
 use Rattle.um_formats.proofs.soft_digits.write_soft_values_of_bit_digits.Goals as goal
 

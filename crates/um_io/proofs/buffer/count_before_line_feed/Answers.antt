@@ -1,6 +1,6 @@
 use Rattle.{
   std.proofs.{Common.{eqb, refl, sym, take, ◌∙◌}, lemmas.{List.length-take-le, Simd.leading_from_mask_l}},
-  um_io.proofs.Lemmas.{count-before, count-before-bits, feed-bits},
+  um_io.proofs.LineFeeds.{count-before, count-before-bits, feed-bits},
 }
 use Rattle.um_io.proofs.buffer.count_before_line_feed.Goals as goal
 

@@ -4,7 +4,7 @@ use Rattle.{
     Math.Seq.take-add,
     lemmas.List.{length-drop, Elements.All-append},
   },
-  um_io.{specs.Lines.{IsLine, IsNotLineFeed}, proofs.Lemmas.{MatchOption-behind, MatchOption-feed, slice_range-end}},
+  um_io.{specs.Lines.{IsLine, IsNotLineFeed}, proofs.LineFeeds.{MatchOption-behind, MatchOption-feed, slice_range-end}},
 }
 use Rattle.um_io.proofs.buffer.search_line_feed.Goals as goal
 

@@ -1,4 +1,4 @@
-use Rattle.um_io.proofs.Lemmas.{IsDividedIntoLines-lines_of_octets, lines_of_octets-only}
+use Rattle.um_io.proofs.Division.{IsDividedIntoLines-lines_of_octets, lines_of_octets-only}
 use Rattle.um_io.proofs.laws.law_division_into_lines_is_unique.Goals as goal
 
 pub returns : goal.returns

@@ -1,5 +1,7 @@
-use Rattle.um_margin.proofs.Lemmas.{AreTwoMostLikelyWords-compared_words, AreTwoMostLikelyBlockWords-compared_block_words}
-use Rattle.um_margin.proofs.Lemmas.{compared_block_words-only, one_compared}
+use Rattle.{
+  um_margin.proofs.Lemmas.{AreTwoMostLikelyWords-compared_words, AreTwoMostLikelyBlockWords-compared_block_words},
+  um_margin.proofs.Lemmas.{compared_block_words-only, one_compared},
+}
 use Rattle.um_margin.proofs.laws.law_comparison_is_of_two_most_likely_words.Goals as goal
 
 pub returns : goal.returns

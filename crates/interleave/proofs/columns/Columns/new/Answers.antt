@@ -1,4 +1,4 @@
-use Rattle.interleave.proofs.Lemmas.{AreColumnsOfCodedBits-repeat_columns}
+use Rattle.interleave.proofs.PackedColumns.{AreColumnsOfCodedBits-repeat_columns}
 use Rattle.interleave.proofs.columns.Columns.new.Goals as goal
 
 pub returns : goal.returns

@@ -1,7 +1,7 @@
 use Rattle.{
   std.proofs.{Common.{◌+◌, ◌*◌, ◌%◌, ap, ◌∙◌, arith}, lemmas.List.Edits.get_or-between},
   bit_blocks.specs.Packed.{bit_of, packed_bit_index},
-  interleave.proofs.Lemmas.row_bit,
+  interleave.proofs.PackedColumns.row_bit,
 }
 use Rattle.interleave.proofs.columns.Columns.sixteen_alternate_bits.Goals as goal
 

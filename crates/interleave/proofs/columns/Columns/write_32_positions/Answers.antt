@@ -1,4 +1,4 @@
-use Rattle.{std.proofs.Common.◌∙◌, interleave.proofs.Lemmas.{put_chunk-whole, interleave_lanes-coded_bits}}
+use Rattle.{std.proofs.Common.◌∙◌, interleave.proofs.PackedColumns.{put_chunk-whole, interleave_lanes-coded_bits}}
 use Rattle.interleave.proofs.columns.Columns.write_32_positions.Goals as goal
 
 pub returns : goal.returns

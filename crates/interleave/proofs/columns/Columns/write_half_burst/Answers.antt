@@ -1,7 +1,7 @@
 use Rattle.{
   std.proofs.Common.{◌≡◌, ℕ, List, ◌++◌, length, get_or, take, drop, replicate, ap, ◌∙◌, arith},
   std.proofs.lemmas.List.{get_or-take, length-append, length-take, length-drop},
-  interleave.proofs.Lemmas.{half_burst-coded_bits, IsInterleaved-half_burst},
+  interleave.proofs.{PackedColumns.half_burst-coded_bits, Bursts.IsInterleaved-half_burst},
 }
 use borrow.Rule.Slice.PartMut.{put_mid}
 use Rattle.interleave.proofs.columns.Columns.write_half_burst.Goals as goal

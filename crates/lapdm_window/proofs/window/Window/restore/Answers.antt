@@ -5,7 +5,7 @@ use Rattle.{
   segmenting.specs.{Parts.JoinerValues, Buffers.octets_in_buffer},
   lapdm_window.{
     specs.{declared.window.Window.Window, Parts.{WindowValues, values_of, values_of_parts, SomeWindowHasValues, AreConsistent}},
-    proofs.{Windows.{is_consistent, represents_one}, window.Window.restore.Goals.then-not-are_consistent-via-then-not-are_consistent},
+    proofs.{Restoring.{is_consistent, represents_one}, window.Window.restore.Goals.then-not-are_consistent-via-then-not-are_consistent},
     proofs.window.Window.restore.Goals.then-not-are_consistent-via-else-not-are_consistent+then-not-restore,
   },
 }

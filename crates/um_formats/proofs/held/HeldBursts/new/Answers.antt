@@ -1,7 +1,7 @@
 use Rattle.{
   std.proofs.{Common.arith, lemmas.List.Elements.All-replicate},
   um_block.specs.bit_blocks.SoftValues.AllSoftBits,
-  um_formats.proofs.Lemmas.lost,
+  um_formats.proofs.BurstLines.lost,
 }
 use Rattle.um_formats.proofs.held.HeldBursts.new.Goals as goal
 

@@ -1,4 +1,4 @@
-use Rattle.{std.proofs.Common.arith, um_io.proofs.Lemmas.{IsLine-join, IsLine-join_feed, IsFirstLineFeed-upto}}
+use Rattle.{std.proofs.Common.arith, um_io.proofs.LineFeeds.{IsLine-join, IsLine-join_feed, IsFirstLineFeed-upto}}
 use Rattle.um_io.proofs.buffer.Buffer.first_line_feed.Goals as goal
 
 pub invariant_of-self-clause-no_line_feed : goal.invariant_of-self-clause-no_line_feed

@@ -1,7 +1,7 @@
 use Rattle.{
   std.proofs.Common.{◌≡◌, ◌++◌, ◌+◌, ℕ, List, take, length, sym, ap, subst, ◌∙◌, arith, slice_range},
   std.proofs.lemmas.List.Edits.length-between,
-  um_io.{specs.{Lines.IsLine, declared.buffer.Buffer.Buffer}, proofs.Lemmas.{slice_range-came, slice_range-kept}},
+  um_io.{specs.{Lines.IsLine, declared.buffer.Buffer.Buffer}, proofs.LineFeeds.{slice_range-came, slice_range-kept}},
 }
 use Rattle.um_io.proofs.buffer.Buffer.read.Goals as goal
 

@@ -1,6 +1,6 @@
 use Rattle.{
   std.proofs.Common.{◌+◌, arith, sym, subst, slice_range},
-  um_io.{specs.Lines.IsLine, proofs.Lemmas.{IsLine-skipped, slice_range-rest}},
+  um_io.{specs.Lines.IsLine, proofs.LineFeeds.{IsLine-skipped, slice_range-rest}},
 }
 use Rattle.um_io.proofs.buffer.Buffer.skip.Goals as goal
 

@@ -1,6 +1,6 @@
 use Rattle.{
   std.proofs.{Common.{rules, ◌≡◌, sym, ap, subst, arith, refl}, lemmas.Grind.common_steps},
-  um_io.{specs.Reading.NeedsMoreOctets, proofs.Lemmas.{so_far-none, asked-once, reads_left, reads_left-read}},
+  um_io.{specs.Reading.NeedsMoreOctets, proofs.Reader.{so_far-none, asked-once, reads_left, reads_left-read}},
 }
 use Rattle.um_io.proofs.lines.Lines.find_line.Goals as goal
 

@@ -1,6 +1,6 @@
 use Rattle.{
   std.proofs.Common.{◌≡◌, ◌⊎◌, ℕ, List},
-  um_io.{specs.Reading.NeedsMoreOctets, proofs.Lemmas.{AskedSoFar, IsFinding, reads_left}},
+  um_io.{specs.Reading.NeedsMoreOctets, proofs.Reader.{AskedSoFar, IsFinding, reads_left}},
 }
 use Rattle.um_io.proofs.lines.Lines.find_line.Given as goal
 

@@ -1,6 +1,6 @@
 use Rattle.{
   std.proofs.{Common.◌-◌, lemmas.List.Elements.All-take},
-  um_io.{specs.{Lines.IsNotLineFeed, Buffer.octets_of, Reading.input_limit}, proofs.Lemmas.IsLine-before_feed},
+  um_io.{specs.{Lines.IsNotLineFeed, Buffer.octets_of, Reading.input_limit}, proofs.LineFeeds.IsLine-before_feed},
 }
 use Rattle.um_io.proofs.lines.Lines.find_line_feed.Goals as goal
 

@@ -1,7 +1,7 @@
--- The proof has one case for each `LineSearchResult` and one for a failure; each follows from `Lemmas`.
+-- The proof has one case for each `LineSearchResult` and one for a failure; each follows from `Reader`.
 use Rattle.{
   std.proofs.Common.{ap, false, refl, rules, subst, sym, ◌∙◌, ◌≡◌},
-  um_io.proofs.Lemmas.{IsNextLineCall-found, IsNextLineCall-stopped, IsValidReader-from, asked-none, counts-after, source_unchanged},
+  um_io.proofs.Reader.{IsNextLineCall-found, IsNextLineCall-stopped, IsValidReader-from, asked-none, counts-after, source_unchanged},
   um_io.specs.{Buffer.octets_of, Reading.{IsValidReader, ReaderState}, contracts.lines.Lines.{the_invariant, the_view}},
   um_io.specs.declared.lines.Lines.TheInside.Inside,
 }

@@ -1,6 +1,6 @@
 use Rattle.{
   std.proofs.Common.{◌≡◌, ◌-◌, length, take, drop, ap, arith},
-  um_io.{specs.{Buffer.octets_of, Reading.{ReaderState, input_limit}}, proofs.Lemmas.length-cut},
+  um_io.{specs.{Buffer.octets_of, Reading.{ReaderState, input_limit}}, proofs.Reader.length-cut},
 }
 use Rattle.um_io.proofs.lines.Lines.read.Goals as goal
 

@@ -1,7 +1,7 @@
 use Rattle.{
   std.proofs.Common.{ap, ◌∙◌},
   um_block.proofs.Lemmas.{accepted_count, received_block-only},
-  um_formats.{proofs.Lemmas.block_report_text-only, specs.Reports.block_report_text},
+  um_formats.{proofs.FrameLines.block_report_text-only, specs.Reports.block_report_text},
 }
 use Rattle.um_replay.proofs.replay.ReplayReports.block.Goals as goal
 

@@ -1,11 +1,11 @@
 use Rattle.{
   std.proofs.Common.{◌≢◌, length, sym, arith},
   um_formats.proofs.{
-    Lemmas.other_kind,
-    burst_lines.parse_words.Goals.{in_default-kind-via-then-kind-lt1, in_default-kind-via-else-kind-lt1+else-kind-lt2},
+    BurstLines.other_kind,
+    burst_lines.parse_burst_words.Goals.{in_default-kind-via-then-kind-lt1, in_default-kind-via-else-kind-lt1+else-kind-lt2},
   },
 }
-use Rattle.um_formats.proofs.burst_lines.parse_words.Goals as goal
+use Rattle.um_formats.proofs.burst_lines.parse_burst_words.Goals as goal
 
 pub returns-in_default-kind : goal.returns-in_default-kind
 returns-in_default-kind c =

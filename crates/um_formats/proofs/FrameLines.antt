@@ -1,16 +1,11 @@
--- Lemmas about the lines of `code`, `replay` and `show`: what a line means, when it is refused, and that a written line can be parsed back.
+-- The lines of `show` and the texts of reports: what a line means, when it is refused, and that a written line can be parsed back.
 use Rattle.{
   std.{
-    proofs.{
-      lemmas.{Bool.{cases_eq, Decides.nat_tests, and_right, cases_Bool, ne_eqb}, List.{get_or-set_same, length-set, length-take-le}},
-      lemmas.List.{take_all, take_more, Elements.{All-cons, All-map, All-nil, All-replicate}, Splits.join_with_byte-slice_split},
-      lemmas.{List.{Splits.length-slice_split, append_cancel_right, length-map, length-replicate}, Int.ints, Slice.Eq.bytes_eq-Decides},
-      Common.{get_or, Bool, Err, List, None, Ok, Option, Some, [], append-nil, append_assoc, ap, arith, codes, drop, eqb, false, inl, inr},
-      Common.{length-append, length, map, negsuc, not, pos, refl, replicate, set, sym, take, true, ℕ, ℤ, ◌&&◌, ◌++◌, ◌+◌},
-      Common.{◌-◌, ◌<◌, ◌==◌, ◌∙◌, ◌∷◌, ◌≡◌, ◌≢◌, ◌≤◌, ◌⊎◌, if◌then◌else◌, subst},
-    },
-    specs.{Cmp.Lexicographic.pointwise, Int.{cast_signed, w8}, List.{All, join_with_byte, list_all}, Prelude.{IfSome, MatchOption}},
-    specs.Str.bytes_eq,
+    proofs.lemmas.{Bool.{cases_eq, cases_Bool}, List.{Splits.join_with_byte-slice_split, append_cancel_right}, Slice.Eq.bytes_eq-Decides},
+    proofs.Common.{Bool, Err, List, None, Ok, Option, Some, [], append-nil, ap, arith, codes, drop, false, inl, inr, length, map, negsuc},
+    proofs.Common.{not, pos, refl, replicate, sym, take, true, ℕ, ◌++◌, ◌+◌, ◌-◌, ◌<◌, ◌∙◌, ◌∷◌, ◌≡◌},
+    proofs.Common.{◌≢◌, ◌≤◌, ◌⊎◌, if◌then◌else◌, subst},
+    specs.{List.join_with_byte, Prelude.{IfSome, MatchOption}, Str.bytes_eq},
   },
   lapdm_frame.{
     specs.{
@@ -23,347 +18,40 @@ use Rattle.{
     proofs.Lemmas.{FieldsFit, content_fits, fields_fit, never_refused, octets_canonical, one_reading, same_canonical, same_frame},
     proofs.Lemmas.{same_reason, bit_bound},
   },
-  um_block.{
-    proofs.Lemmas.AllSoftBits-softened,
-    specs.{Received.{soft_bit_of, soft_bits}, bit_blocks.{Bits.AllBits, Octets.{AllOctets, octets_of as octets_of_bits}}},
-    specs.{bit_blocks.SoftValues.{AllSoftBits, IsSoftBit}, declared.received.Received.Received},
-  },
+  um_block.specs.{Received.soft_bits, bit_blocks.Octets.{AllOctets, octets_of as octets_of_bits}, declared.received.Received.Received},
   um_formats.specs.{
-    BurstLines.{BurstLineMeans, burst_line, burst_line_fault, burst_line_of_meaning, burst_parse_result},
-    CodeLines.{CodeLineMeans, code_line, code_line_fault, code_line_of_meaning},
     FrameTexts.{IsTextOfOctets, frame_text, frame_values, octets_text, line_values_of_fields, line_syntax_of_frame, text_of_octets},
     FrameTexts.unreadable_frame_text,
-    Held.{AddsNormalBurst, BurstBuffer, IsHardNormalBurstLine, IsSoftNormalBurstLine},
     Reports.{IsBlockReportText, block_report_line, block_report_text, text_of_accepted},
     ShowLines.{ShowLineMeans, content_from_values, frame_from_values, is_bit_set, show_line_fault, show_line_of_frame},
     ShowLines.{show_line_of_meaning, show_line_of_values, show_parse_result},
     ShowReading.{frame_line_words, min_info_octets},
     SoftOctets.signed_octets,
     WrittenBursts.IsUnskippedLine,
-    declared.{
-      burst_lines.BurstLine.{TheVariants.{Access, Normal, Skip, Sync}, BurstLine},
-      code.CodeLine.{TheVariants.{Block, Rach, Sch, Skip as CodeSkip}, CodeLine},
-      frame_words.FrameWords.FrameWords,
-      show.ShowLine.ShowLine,
-    },
+    declared.{burst_lines.BurstLine.TheVariants.Skip, frame_words.FrameWords.FrameWords, show.ShowLine.ShowLine},
   },
   um_lines.{
-    proofs.FormLaws.{AreOctets, Each, Fitting, fixed_words_lack, length-encode_lower, line_by_forms, line_short, passing_lack},
-    proofs.{FormLaws.{parsed_meaning, parsed_means, read_of_words, spelled_means, spelled_uncut, one_made, one_meaning}, Texts.words-join},
-    specs.{BurstForms.{burst_line_forms, is_burst_out_of_order}, CodeForms.code_line_forms, Fields.{BitDigits, LineField, FixedWord}},
-    specs.Fields.{HexOctets, NumberList, Number, Value, bit_digits, fits_field, has_wrong_digits, has_wrong_length, is_bit_digit},
-    specs.{Fields.octets_from_hex, Forms.{AreDistinct, Exactly, IsTableEntry, LineMeans, fault_or_value, has_faulty_word, line_meaning}},
-    specs.{Forms.{never_misplaced, bit_indices_of_values, values_of_words}, Hex.{encode_lower, encode_with, is_hex_digit}},
-    specs.{Meanings.HasOneMeaningOrFault, ShowForms.{FrameFormat, NumberedInfo, ShowLineKind, Supervisory, WithInfo, WithoutInfo}},
-    specs.{ShowForms.{frame_fields, fields_of_frame_format, show_line_forms, syntax}, LineTexts.{line_of_values, octets_word}},
-    specs.{Words.{IsNotSpace, is_skipped_line, words}, declared.fault.LineFault.{TheVariants.{Digits, Length, Word}, LineFault}},
+    proofs.{
+      FormLaws.{AreOctets, Each, Fitting, line_by_forms, one_made, one_meaning},
+      SpelledLaws.{fixed_words_lack, length-encode_lower, spelled_means, spelled_uncut},
+    },
+    specs.Fields.{LineField, FixedWord, HexOctets, NumberList, Number, Value, has_wrong_digits, has_wrong_length, octets_from_hex},
+    specs.Forms.{AreDistinct, Exactly, IsTableEntry, LineMeans, fault_or_value, has_faulty_word, line_meaning, never_misplaced},
+    specs.{Forms.{bit_indices_of_values, values_of_words}, Hex.{encode_lower, encode_with}, Meanings.HasOneMeaningOrFault},
+    specs.ShowForms.{FrameFormat, NumberedInfo, ShowLineKind, Supervisory, WithInfo, WithoutInfo, frame_fields, fields_of_frame_format},
+    specs.{ShowForms.{show_line_forms, syntax}, LineTexts.{line_of_values, octets_word}, Words.words},
+    specs.declared.fault.LineFault.TheVariants.{Digits, Length, Word},
   },
 }
-use Rattle.um_lines.specs.BurstForms as F
 use Rattle.um_formats.specs.declared.show.ShowLine.TheVariants as S
 use Rattle.um_lines.specs.ShowForms as SF
 use Rattle.lapdm_frame.specs.declared.Kind.TheVariants as K
 
-infixr 30 ◌&◌
-◌&◌ : {A B : Type 0} → A → B → A × B
-◌&◌ a b = (a, b)
-
--- ## DigitWords: A text that consists of digits contains no space, so it is one word.
-
-one_word_of : (p : ℕ → Bool) → p 32 ≡ false → (text : List ℕ) → list_all p text ≡ true → words text ≡ text ∷ []
-one_word_of p fails text all =
-    words-join (text ∷ []) (λ e. cc)
-    (All-cons (All IsNotSpace) text [] (passing_lack 32 (omega arith) p fails text all) (All-nil (All IsNotSpace)))
-
-pub bit_word : (text : List ℕ) → list_all is_bit_digit text ≡ true → words text ≡ text ∷ []
-bit_word = one_word_of is_bit_digit refl
-
-pub hex_word : (text : List ℕ) → list_all is_hex_digit text ≡ true → words text ≡ text ∷ []
-hex_word = one_word_of is_hex_digit refl
-
--- if a text has only one word, the word is the text
-pub whole_word : (text word : List ℕ) → words text ≡ word ∷ [] → words text ≡ text ∷ []
-whole_word text word one = one ∙ ap (λ w. w ∷ []) (rw one at (join_with_byte-slice_split 32 text))
-
--- ## OtherBursts: Lemmas about input lines that are not valid burst lines.
-
--- if the first word of a line is one letter with which no form of a burst line begins, parsing the line gives the fault `Word`
-pub other_letter : (held letter : ℕ) (rest : List (List ℕ)) → letter ≢ 110 → letter ≢ 78 → letter ≢ 97 → letter ≢ 65 →
-    letter ≢ 115
-    → letter ≢ 83 → burst_parse_result held ((letter ∷ []) ∷ rest) ≡ Err Word
-other_letter held letter rest n N a A s S =
-    rw (ne_eqb _ _ n, ne_eqb _ _ N, and_right (eqb letter 108) false refl, ne_eqb _ _ a, ne_eqb _ _ A, ne_eqb _ _ s, ne_eqb _ _ S)
-
--- if the first word of a line is not one letter and another word follows, parsing the line gives the fault `Word`
-pub other_kind : (held : ℕ) (kind text : List ℕ) → length kind ≢ 1 → burst_parse_result held (kind ∷ words text) ≡ Err Word
-other_kind held [] text many = refl
-other_kind held (first ∷ []) text many = absurd (many refl)
-other_kind held (first ∷ second ∷ kind) text many =
-    let alone = λ (other : ℕ). and_right (eqb first other) false refl in
-    let some : 1 ≤ length (words text) = omega (arith, length-slice_split (λ octet. eqb octet 32) text) in
-    rw (alone 110, alone 78, lost (words text) some, alone 97, alone 65, alone 115, alone 83)
-  where
-    lost : (rest : List (List ℕ)) → 1 ≤ length rest →
-        (bytes_eq (first ∷ second ∷ kind) (codes "lost") && pointwise fits_field [] rest) ≡ false
-    lost [] some = absurd (omega arith)
-    lost (word ∷ rest) some = and_right (bytes_eq (first ∷ second ∷ kind) (codes "lost")) false refl
-
--- ## BurstLaws: Each line of `replay` either has exactly one meaning or is refused. A burst in a line consists of soft values from -127 to
--- 127.
-
-pub one_burst_meaning : (held : ℕ) (line : List ℕ) → HasOneMeaningOrFault (burst_line_fault held line) (BurstLineMeans held line)
-one_burst_meaning held line = one_made burst_line_of_meaning _ _ (one_meaning burst_line_forms (is_burst_out_of_order held) line refl)
-
--- an octet other than 0x80 stands for a soft value, -127 to 127
-soft_octet : (octet : ℕ) → octet < 256 → octet ≢ 128 → IsSoftBit (cast_signed w8 octet)
-soft_octet octet small other = grind (arith, ints, nat_tests)
-
--- a list of `count` soft values, -127 to 127
-abbrev pub AreSoft : ℕ → List ℤ → Type 0
-AreSoft count values = (length values ≡ count) × AllSoftBits values
-
-pub hard : (count : ℕ) (bits : List ℕ) → (length bits ≡ count) × AllBits bits → AreSoft count (soft_bits bits)
-hard count bits known = (length-map bits soft_bit_of ∙ known.0, AllSoftBits-softened bits)
-
-pub soft : (count : ℕ) (octets : List ℕ) → AreOctets count octets × All (λ octet. octet ≢ 128) octets →
-    AreSoft count (signed_octets octets)
-soft count octets known = (
-  length-map octets (cast_signed w8) ∙ known.0.0,
-  All-map IsSoftBit (cast_signed w8) octets (λ i d h. soft_octet _ (known.0.1 i d h) (known.1 i d h)),
-)
-
-pub lost : AreSoft 148 (replicate 148 (pos 0))
-lost = (length-replicate 148 (pos 0), All-replicate IsSoftBit 148 (pos 0) (omega (arith, ints), omega (arith, ints)))
-
-none_held : (held : ℕ) → (not (held == 0) && true) ≡ false → held ≡ 0
-none_held held e = grind (arith, nat_tests)
-
--- a burst has the number of soft values that its kind requires, and no burst of an incomplete block is held before an access or
--- synchronisation burst
-abbrev IsBurst : (held : ℕ) → BurstLine → Type 0
-IsBurst held Skip = Unit {0}
-IsBurst held (Normal values) = AreSoft 148 values
-IsBurst held (Access bsic values) = (held ≡ 0) × (length bsic ≡ 6) × AllBits bsic × AreSoft 88 values
-IsBurst held (Sync values) = (held ≡ 0) × AreSoft 148 values
-
-is_burst : (held : ℕ) (line : List ℕ) (meaning : BurstLine) → BurstLineMeans held line meaning → IsBurst held meaning
-is_burst held =
-    line_by_forms burst_line_forms (is_burst_out_of_order held) burst_line_of_meaning (IsBurst held) tt
-    ((λ _ _ _ (bits, _, is, known, none). rw (is, none) (hard 148 bits known))
-    & (λ _ _ _ (octets, _, is, known, none). rw (is, none) (soft 148 octets known))
-    & (λ _ _ _ none. rw none lost)
-    & (λ _ _ here (bsic, _, is, known, (bits, _, is', known', none)).
-    rw (is, is', none) (none_held held here, known.0, known.1, hard 88 bits known'))
-    & (λ _ _ here (bsic, _, is, known, (octets, _, is', known', none)).
-    rw (is, is', none) (none_held held here, known.0, known.1, soft 88 octets known'))
-    & (λ _ _ here (bits, _, is, known, none). rw (is, none) (none_held held here, hard 148 bits known))
-    & (λ _ _ here (octets, _, is, known, none). rw (is, none) (none_held held here, soft 148 octets known))
-    & tt)
-
--- if the meaning of a line is a normal burst, the burst has 148 soft values
-pub normal_burst : (held : ℕ) (line : List ℕ) (values : List ℤ) → BurstLineMeans held line (Normal values)
-    → (length values ≡ 148) × AllSoftBits values
-normal_burst held line values = is_burst held line (Normal values)
-
--- if the meaning of a line is an access burst, the burst has 88 soft values, the BSIC has six bits, and no burst of an incomplete block is
--- held
-pub access_burst : (held : ℕ) (line bsic : List ℕ) (values : List ℤ) → BurstLineMeans held line (Access bsic values)
-    → (held ≡ 0) × (length bsic ≡ 6) × AllBits bsic × (length values ≡ 88) × AllSoftBits values
-access_burst held line bsic values means =
-    let known = is_burst held line (Access bsic values) means in
-    (known.0, known.1, known.2, known.3.0, known.3.1)
-
--- if the meaning of a line is a synchronisation burst, the burst has 148 soft values, and no burst of an incomplete block is held
-pub sync_burst : (held : ℕ) (line : List ℕ) (values : List ℤ) → BurstLineMeans held line (Sync values)
-    → (held ≡ 0) × (length values ≡ 148) × AllSoftBits values
-sync_burst held line values means =
-    let known = is_burst held line (Sync values) means in
-    (known.0, known.1.0, known.1.1)
-
--- a line that has a meaning has at most 4096 octets
-pub short : (held : ℕ) (line : List ℕ) (meaning : BurstLine) → BurstLineMeans held line meaning → length line ≤ 4096
-short held = line_short burst_line_forms (is_burst_out_of_order held) burst_line_of_meaning
-
--- the burst at the first free place of the buffer, held beside the others
-pub next_held : (slots : List (List ℤ)) (held : ℕ) → held < length slots →
-    take (held + 1) slots ≡ take held slots ++ get_or slots (length (take held slots)) [] ∷ []
-next_held slots held free =
-    let count : length (take held slots) ≡ held = length-take-le held slots (omega arith) in rw count (take_more slots held [] free)
-
-pub fourth_held : (slots : List (List ℤ)) (held : ℕ) → length slots ≡ 4 → held ≡ 3 →
-    slots ≡ take held slots ++ get_or slots (length (take held slots)) [] ∷ []
-fourth_held slots held four last = sym (take_all (held + 1) slots (omega arith)) ∙ next_held slots held (omega arith)
-
--- a burst written to the first free place is the one that the buffer holds next
-pub written_next : (slots : List (List ℤ)) (held : ℕ) (burst : List ℤ) → held < length slots →
-    get_or (set slots held burst) (length (take held (set slots held burst))) [] ≡ burst
-written_next slots held burst free =
-    let count : length (take held (set slots held burst)) ≡ held =
-    length-take-le held (set slots held burst) (omega (arith, length-set slots held burst)) in
-    rw count (get_or-set_same slots held burst [] free)
-
-pub adds_next : (old mid new : BurstBuffer) (burst next : List ℤ) (completes : Bool) → mid.held ≡ old.held → next ≡ burst →
-    AddsNormalBurst mid next completes new → AddsNormalBurst old burst completes new
-adds_next old mid new burst next false held is adds = (rw (← held, ← is) adds.0, adds.1)
-adds_next old mid new burst next true held is adds = (rw (← held, ← is) adds.0, adds.1, adds.2)
-
-pub hard_values : (digits : List ℕ) → AllSoftBits (soft_bits (map (λ octet. octet - 48) digits))
-hard_values digits = AllSoftBits-softened (map (λ octet. octet - 48) digits)
-
--- ## NormalLines: A valid line of a normal burst is not refused, and means the soft values of the burst.
-
--- a line with a normal burst is never out of order
-never_out_of_order : (held : ℕ) → (not (held == 0) && false) ≡ false
-never_out_of_order held = and_right (not (held == 0)) false refl
-
--- the meaning of a line is the normal burst with the given soft values, and the line is not refused
-abbrev IsRead : ℕ → List ℕ → List ℤ → Type 0
-IsRead held line soft = BurstLineMeans held line (Normal soft) × (None ≡ burst_line_fault held line)
-
-read_line : (held : ℕ) (line : List ℕ) (ws : List (List ℕ)) (soft : List ℤ) → words line ≡ ws → length line ≤ 4096 →
-    is_skipped_line line ≡ false → burst_parse_result held ws ≡ Ok (Normal soft) → IsRead held line soft
-read_line held line ws soft is short stays read =
-    read_of_words burst_line_forms (is_burst_out_of_order held) burst_line_of_meaning line (Ok (Normal soft)) short stays
-    (sym (ap (burst_parse_result held) is ∙ read))
-
-pub hard_line : (held : ℕ) (line digits : List ℕ) → IsHardNormalBurstLine line digits →
-    IsRead held line (soft_bits (map (λ octet. octet - 48) digits))
-hard_line held line digits h =
-    rw h.line_form (read_line held (codes "n " ++ digits) _ _ (ap (λ ws. codes "n" ∷ ws) (bit_word digits h.all_bit_digits))
-    (omega (arith, h.right_length)) refl (rw (never_out_of_order held, h.all_bit_digits, h.right_length)))
-
-pub soft_line : (held : ℕ) (line digits : List ℕ) → IsSoftNormalBurstLine line digits →
-    IsRead held line (signed_octets (octets_from_hex digits))
-soft_line held line digits h =
-    let o = h.octets in
-    rw o.line_form (read_line held (codes "N " ++ digits) _ _ (ap (λ ws. codes "N" ∷ ws) (hex_word digits o.all_hex_digits))
-    (omega (arith, o.right_length)) refl (rw (never_out_of_order held, o.all_hex_digits, o.right_length, h.in_range)))
-
-pub soft_within : (line digits : List ℕ) → IsSoftNormalBurstLine line digits → AllSoftBits (signed_octets (octets_from_hex digits))
-soft_within line digits h = (normal_burst 0 line _ (soft_line 0 line digits h).0).1
-
--- ## WrittenBursts: Parsing the line that is written for a burst gives the burst back.
-
--- the text line of a normal burst, without its line feed
-abbrev pub normal_line : List ℕ → List ℕ
-normal_line burst = codes "n " ++ bit_digits burst
-
-abbrev pub access_line : List ℕ → List ℕ → List ℕ
-access_line bsic burst = codes "a " ++ bit_digits bsic ++ codes " " ++ bit_digits burst
-
-abbrev pub sync_line : List ℕ → List ℕ
-sync_line burst = codes "s " ++ bit_digits burst
-
-length-bit_digits : (bits : List ℕ) → length (bit_digits bits) ≡ length bits
-length-bit_digits bits = length-map bits (λ bit. 48 + bit)
-
--- ---- parsing the line that is written for a burst gives the soft values of the burst
-
-pub normal_restored : (held : ℕ) (burst : List ℕ) → length burst ≡ 148 → AllBits burst
-    → BurstLineMeans held (normal_line burst) (Normal (soft_bits burst))
-normal_restored held burst many each = (
-  Some (F.Normal, NumberList burst ∷ []),
-  spelled_means burst_line_forms (is_burst_out_of_order held) F.Normal (codes "n") (BitDigits 148 ∷ []) (NumberList burst ∷ [])
-      (inl refl) (never_out_of_order held) refl (burst, [], refl, (many, each), refl) tt (omega (arith, length-bit_digits burst)) refl,
-  refl,
-)
-
-pub sync_restored : (burst : List ℕ) → length burst ≡ 148 → AllBits burst →
-    BurstLineMeans 0 (sync_line burst) (Sync (soft_bits burst))
-sync_restored burst many each = (
-  Some (F.Sync, NumberList burst ∷ []),
-  spelled_means burst_line_forms (is_burst_out_of_order 0) F.Sync (codes "s") (BitDigits 148 ∷ []) (NumberList burst ∷ [])
-      (inr (inr (inr (inr (inr (inl refl)))))) refl refl (burst, [], refl, (many, each), refl) tt
-      (omega (arith, length-bit_digits burst)) refl,
-  refl,
-)
-
-pub access_restored : (bsic burst : List ℕ) → length bsic ≡ 6 → AllBits bsic → length burst ≡ 88 → AllBits burst
-    → BurstLineMeans 0 (access_line bsic burst) (Access bsic (soft_bits burst))
-access_restored bsic burst few bits many each = rw append_assoc (
-  Some (F.Access, NumberList bsic ∷ NumberList burst ∷ []),
-  spelled_means burst_line_forms (is_burst_out_of_order 0) F.Access (codes "a") (BitDigits 6 ∷ BitDigits 88 ∷ [])
-      (NumberList bsic ∷ NumberList burst ∷ []) (inr (inr (inr (inl refl)))) refl refl
-      (bsic, _, refl, (few, bits), (burst, [], refl, (many, each), refl)) tt
-      (omega (arith, length-append (bit_digits bsic) (32 ∷ bit_digits burst), length-bit_digits bsic, length-bit_digits burst)) refl,
-  refl,
-)
-
--- ---- the line that is written for a burst contains no line feed
-
-pub normal_whole : (burst : List ℕ) → length burst ≡ 148 → AllBits burst → IsUnskippedLine (normal_line burst)
-normal_whole burst many each = record {
-  no_line_feed = spelled_uncut (FixedWord (codes "n") ∷ BitDigits 148 ∷ []) (NumberList burst ∷ []) refl
-      (burst, [], refl, (many, each), refl);
-  not_skipped = refl;
-}
-
-pub sync_whole : (burst : List ℕ) → length burst ≡ 148 → AllBits burst → IsUnskippedLine (sync_line burst)
-sync_whole burst many each = record {
-  no_line_feed = spelled_uncut (FixedWord (codes "s") ∷ BitDigits 148 ∷ []) (NumberList burst ∷ []) refl
-      (burst, [], refl, (many, each), refl);
-  not_skipped = refl;
-}
-
-pub access_whole : (bsic burst : List ℕ) → length bsic ≡ 6 → AllBits bsic → length burst ≡ 88 → AllBits burst
-    → IsUnskippedLine (access_line bsic burst)
-access_whole bsic burst few bits many each = record {
-  no_line_feed = subst (All (λ octet. octet ≢ 10))
-      (ap (λ rest. 97 ∷ 32 ∷ rest) (sym (append_assoc (bit_digits bsic) (codes " ") (bit_digits burst))))
-      (spelled_uncut (FixedWord (codes "a") ∷ BitDigits 6 ∷ BitDigits 88 ∷ []) (NumberList bsic ∷ NumberList burst ∷ []) refl
-      (bsic, _, refl, (few, bits), (burst, [], refl, (many, each), refl)));
-  not_skipped = refl;
-}
-
--- ## CodeLaws: Each line of `code` either has exactly one meaning or is refused, and the information in a line can be sent.
-
-pub one_code_meaning : (line : List ℕ) → HasOneMeaningOrFault (code_line_fault line) (CodeLineMeans line)
-one_code_meaning line = one_made code_line_of_meaning _ _ (one_meaning code_line_forms never_misplaced line refl)
-
--- the information in a line can be sent: a training sequence code and 23 octets, or 8 bits and a BSIC, or 25 bits
-abbrev pub CanBeSent : CodeLine → Type 0
-CanBeSent CodeSkip = Unit {0}
-CanBeSent (Block tsc octets) = (tsc ≤ 7) × AreOctets 23 octets
-CanBeSent (Rach info bsic) = ((length info ≡ 8) × AllBits info) × ((length bsic ≡ 6) × AllBits bsic)
-CanBeSent (Sch info) = (length info ≡ 25) × AllBits info
-
-pub can_be_sent : (line : List ℕ) (meaning : CodeLine) → CodeLineMeans line meaning → CanBeSent meaning
-can_be_sent =
-    line_by_forms code_line_forms never_misplaced code_line_of_meaning CanBeSent tt
-    ((λ _ _ _ (tsc, _, is, within, (octets, _, is', known, none)). rw (is, is', none) (within, known))
-    & (λ _ _ _ (info, _, is, known, (bsic, _, is', known', none)). rw (is, is', none) (known, known'))
-    & (λ _ _ _ (info, _, is, known, none). rw (is, none) known)
-    & tt)
-
--- a line of `replay` that has a meaning parses to it, and one that has a fault to the fault
-pub burst_line_meaning : (held : ℕ) (line : List ℕ) (meaning : BurstLine) → BurstLineMeans held line meaning →
-    burst_line held line ≡ Ok meaning
-unfolding burst_line
-burst_line_meaning held line meaning means =
-    parsed_meaning burst_line_forms (is_burst_out_of_order held) burst_line_of_meaning line meaning refl means
-
-pub burst_line_means : (held : ℕ) (line : List ℕ) (meaning : BurstLine) → burst_line held line ≡ Ok meaning →
-    BurstLineMeans held line meaning
-unfolding burst_line
-burst_line_means held line meaning is =
-    parsed_means burst_line_forms (is_burst_out_of_order held) burst_line_of_meaning line meaning is
-
-pub code_line_means : (line : List ℕ) (meaning : CodeLine) → code_line line ≡ Ok meaning → CodeLineMeans line meaning
-unfolding code_line
-code_line_means line meaning is = parsed_means code_line_forms never_misplaced code_line_of_meaning line meaning is
-
-pub burst_line_refused : (held : ℕ) (line : List ℕ) (fault : LineFault) → burst_line_fault held line ≡ Some fault →
-    burst_line held line ≡ Err fault
-unfolding burst_line
-burst_line_refused held line fault bad = rw bad refl
-
 -- ## ReportLaws: Any 23 octets have exactly one text, and so has the report on a received block.
 
--- a list of octets has at most one text
 pub one_frame_text : (octets a b : List ℕ) → IsTextOfOctets octets a → IsTextOfOctets octets b → a ≡ b
 one_frame_text octets a b x y = grind (arith, same_frame, same_reason, never_refused)
 
--- every list of 23 octets has a text
 pub some_frame_text : (octets : List ℕ) → length octets ≡ 23 → (text : List ℕ) × IsTextOfOctets octets text
 some_frame_text octets count =
     elim (one_reading Sdcch octets count) [
@@ -396,7 +84,6 @@ pub text_of_octets-only : (octets text : List ℕ) → length octets ≡ 23 → 
     text ≡ text_of_octets octets
 text_of_octets-only octets text count is = one_frame_text octets text _ is (IsTextOfOctets-text_of_octets octets count)
 
--- the text that `frame_line` writes
 pub written_text : (octets text out : List ℕ) → length octets ≡ 23 → IsTextOfOctets octets text → out ≡ text →
     out ≡ text_of_octets octets
 written_text octets text out count is e = e ∙ text_of_octets-only octets text count is
@@ -429,11 +116,9 @@ some_reported line (Some octets) count =
     let (second, is) = some_frame_text octets count in
     (line ++ second, (second, is, refl))
 
--- the report on a received block has at most one text
 pub one_block_report : (r : Received) (a b : List ℕ) → IsBlockReportText r a → IsBlockReportText r b → a ≡ b
 one_block_report r = one_reported (block_report_line r) r.accepted
 
--- the report on a received block has a text if the receiver accepts 23 octets or none
 pub some_block_report : (r : Received) → IfSome r.accepted (λ octets. length octets ≡ 23) → (text : List ℕ)
     × IsBlockReportText r text
 some_block_report r = some_reported (block_report_line r) r.accepted
@@ -443,7 +128,7 @@ some_block_report r = some_reported (block_report_line r) r.accepted
 -- ---- if a line begins with neither `octets` nor `frame`, parsing it gives the fault `Word`
 
 -- if the first word of a line is `name`, but the line does not begin with `name` and a space, `name` is its only word
-alone : (name line word : List ℕ) (more : List (List ℕ)) → join_with_byte 32 (word ∷ more) ≡ line
+pub alone : (name line word : List ℕ) (more : List (List ℕ)) → join_with_byte 32 (word ∷ more) ≡ line
     → ((rest : List ℕ) → line ≢ name ++ 32 ∷ rest) → bytes_eq word name ≡ true → name ∷ [] ≡ word ∷ more
 alone name line word [] whole other same = rw ((bytes_eq-Decides word name).0 same)
 alone name line word (next ∷ more) whole other same = absurd (other _ (sym (rw ((bytes_eq-Decides word name).0 same) at whole)))
@@ -486,7 +171,7 @@ abbrev is_faulty : (LineField → List ℕ → Bool) → FrameWords → Bool
 is_faulty is_against w = has_faulty_word is_against (frame_fields (syntax w.kind)) (frame_line_words w)
 
 module _ (parts : List (List ℕ)) (w : FrameWords) (e : parts ≡ frame_line_words w) where
-  read : IsReadAs parts w.kind (frame_line_words w)
+  pub read : IsReadAs parts w.kind (frame_line_words w)
   read = ap show_parse_result e ∙ are_read w w.kind refl
 
   pub refused_for_digits : is_faulty has_wrong_digits w ≡ true → Err Digits ≡ show_parse_result parts
@@ -546,20 +231,18 @@ each_frame (kind ∷ ks) = (
   each_frame ks,
 )
 
-known : (line : List ℕ) (meaning : Option (ShowLineKind × List Value)) → LineMeans show_line_forms never_misplaced line meaning →
+pub known : (line : List ℕ) (meaning : Option (ShowLineKind × List Value)) → LineMeans show_line_forms never_misplaced line meaning →
     IsKnown (line_said meaning)
 known line meaning means =
     line_by_forms show_line_forms never_misplaced line_said IsKnown tt
     (λ _ _ _ (octets, _, is, known, none). rw (is, none) known, each_frame all_frame_kinds)
     line (line_said meaning) (meaning, means, refl)
 
--- every frame that a line of `show` describes fits in a block
 said_fits : (line : List ℕ) (name : ShowLineKind) (values : List Value) (f : Frame)
     → LineMeans show_line_forms never_misplaced line (Some (name, values)) → frame_from_values name values ≡ Some f →
     FrameFits Sdcch f
 said_fits line x values f means is = let k = known line (Some (x, values)) means in grind arith
 
--- if the meaning of a line of `show` is a list of octets, the list has 23 octets
 pub shown_octets : (line octets : List ℕ) → ShowLineMeans line (S.Octets octets) → length octets ≡ 23
 shown_octets line octets (x, means, is) = let k = known line x means in grind arith
 
@@ -570,13 +253,13 @@ length-octets_word x few = grind (arith, length-encode_lower)
 
 -- ---- definitions for the line that is written for a frame
 
-abbrev kind : Content → Kind
+abbrev pub kind : Content → Kind
 kind content = (fields_of_content content).kind
 
 abbrev frame : ℕ → Bool → Content → Frame
 frame s cr content = record { sapi = s; cr = cr; content = content }
 
-abbrev written : Frame → List ℕ
+abbrev pub written : Frame → List ℕ
 written f = line_of_values (frame_fields (line_syntax_of_frame f)) (frame_values f)
 
 set_bit : (b : Bool) → is_bit_set (bit_of_bool b) ≡ b
@@ -593,7 +276,7 @@ record IsWritten (s : ℕ) (cr : Bool) (content : Content) : Type 0 where
 is_written : (s : ℕ) (cr : Bool) (content : Content) → IsWritten s cr content
 is_written s cr x = grind (arith, set_bit)
 
-few : (s : ℕ) (cr : Bool) (content : Content) → InformationFits Sdcch content → length (written (frame s cr content)) ≤ 100
+pub few : (s : ℕ) (cr : Bool) (content : Content) → InformationFits Sdcch content → length (written (frame s cr content)) ≤ 100
 few s cr x many = grind (arith, length-octets_word)
 
 least : (kind : Kind) (count : ℕ) → (kind ≡ K.I → 1 ≤ count) → min_info_octets (syntax kind).shape ≤ count
@@ -606,7 +289,6 @@ fitting x f fit many small = grind (arith, bit_bound)
 same_information : (content : Content) → (fields_of_content content).info ≡ information content
 same_information x = grind arith
 
--- parsing the text of a frame that fits in a block gives the canonical octets of the frame
 frame_back : (f : Frame) (line : List ℕ) → FrameFits Sdcch f → AllOctets (information f.content) →
     frame_text f ≡ line ++ codes "\n"
     → IsUnskippedLine line × ShowLineMeans line (S.Frame (octets_of Sdcch f))
@@ -629,7 +311,6 @@ frame_back f line fits small text =
       ),
     )
 
--- parsing the text of the canonical octets of a frame gives these octets
 pub canonical_back : (f : Frame) (octets text line : List ℕ) → IsCanonicalCoding Sdcch f octets → AllOctets (information f.content)
     → IsTextOfOctets octets text → text ≡ line ++ codes "\n" → IsUnskippedLine line × ShowLineMeans line (S.Frame octets)
 canonical_back f octets text line canonical small is_text whole =
@@ -638,7 +319,6 @@ canonical_back f octets text line canonical small is_text whole =
     rw (← same_canonical Sdcch f (octets_of Sdcch f) octets (octets_canonical Sdcch f fits) canonical)
     (frame_back f line fits small (sym said ∙ whole))
 
--- parsing the line that is written for octets gives these octets
 pub octets_back : (octets line : List ℕ) → length octets ≡ 23 → AllOctets octets → octets_text octets ≡ line ++ codes "\n"
     → IsUnskippedLine line × ShowLineMeans line (S.Octets octets)
 octets_back octets line count small text =

@@ -1,194 +1,26 @@
--- Lemmas about reading lines from a source: octets can be divided into lines in only one way, and the reader returns these lines.
+-- The reader of lines: its calls to the source, what it buffers, and that it returns the lines of the source.
 use Rattle.{
-  memchr.specs.Find.{IsFirstByte, Nowhere, Passes, is_byte},
-  std.{
-    proofs.{
-      Common.{All, Bool, Bor, List, MatchOption, None, Option, Result, Some, [], ap, append-nil, append_assoc, arith, cond, drop, eq-eqb},
-      Common.{false, inl, inr, le_refl, length, length-append, max, refl, slice_index, slice_range, subst, sym, take, true, ℕ, ◌++◌},
-      Common.{eqb, map, not, replicate, w8, ◌%◌, ◌+◌, ◌-◌, ◌<◌, ◌^◌, ◌∙◌, ◌∷◌, ◌≡◌, ◌≢◌},
-      Common.{◌≤◌, ◌⊎◌},
-      Math.Seq.{take-add, take-append-add},
-      lemmas.{
-        Bool.{cases_Bool, cases_eq, cases_lt, eqb-true, false≢true, ne_eqb},
-        List.{drop-drop, drop-take, drop_all, drop_at, drop_more, get_or-append-add, get_or-take, length-drop, length-take, length-take-le},
-        List.{take-append-drop, take-take, take_all, take_at, take_rest, Edits.length-between, Elements.{All-append, All-cons, All-drop}},
-        List.Elements.{All-from_get_or, All-head, All-nil, All-push, All-tail, All-take},
-        Simd.{bitmask_splat, run_in_chunk_fails, run_in_chunk_le, run_in_chunk_stops, trailing_mask_l},
-        Slice.between_is,
-      },
-      KnownBytes.Appends-trans,
+  std.proofs.Common.{All, Bool, Bor, List, None, Option, Result, Some, [], ap, append-nil, append_assoc, arith, cond, drop, false, inl},
+  std.proofs.Common.{inr, length, length-append, refl, slice_index, slice_range, subst, sym, take, true, ℕ, ◌++◌, ◌+◌, ◌-◌},
+  std.proofs.{Common.{◌<◌, ◌∙◌, ◌∷◌, ◌≡◌, ◌≤◌, ◌⊎◌}, Math.Seq.take-add, lemmas.Bool.cases_Bool},
+  std.proofs.lemmas.List.{drop_all, drop_more, get_or-take, length-take, take-append-drop, take-take, take_all, take_rest},
+  std.{proofs.{lemmas.List.Elements.{All-cons, All-nil}, KnownBytes.Appends-trans}, specs.Io.KnownBytes.Appends},
+  um_io.{
+    specs.{
+      Answers.{CallsReturnLines, DividesReadOctets, ReaderStopsWith},
+      SourceCalls.{CallsReturnOctets, StopsAtEndOrFailure, more as more_calls, none as no_calls},
+      Buffer.octets_of,
+      SearchResults.{HasReadOctets, IsFoundInBuffer, IsFoundWithoutLineFeed, IsSearchResult},
+      Lines.{IsDividedIntoLines, IsFirstLineFeed, IsLine, lines_of_octets, text_of_lines},
+      Next.{IsNextLineCall, IsReaderStep, IsNextLineResult, ReturnsLine, ReturnsNoLine},
+      Reading.{IsResultReady, IsValidReader, NeedsMoreOctets, ReaderState, buffer_limit, input_limit, line_limit, new_reader},
+      Reading.reader_holding,
+      declared.{buffer.Buffer.Buffer, lines.{LineSearchResult.{LineSearchResult, TheVariants.Line as WholeLine}, Next.Next}},
+      declared.{lines.Next.TheVariants.{End, Failed, Line, Long, TooMany}, streams.Failed.Failed as Error},
     },
-    specs.{Io.KnownBytes.Appends, List.prefix_len},
-  },
-  um_io.specs.{
-    Answers.{CallsReturnLines, DividesReadOctets, ReaderStopsWith},
-    SourceCalls.{CallsReturnOctets, StopsAtEndOrFailure, more as more_calls, none as no_calls},
-    Buffer.octets_of,
-    SearchResults.{HasReadOctets, IsFoundInBuffer, IsFoundWithoutLineFeed, IsSearchResult},
-    Lines.{IsDividedIntoLines, IsFirstLineFeed, IsLine, IsNotLineFeed, lines_of_octets, push_onto_first_line, text_of_lines},
-    Next.{IsNextLineCall, IsReaderStep, IsNextLineResult, ReturnsLine, ReturnsNoLine},
-    Reading.{IsResultReady, IsValidReader, NeedsMoreOctets, ReaderState, buffer_limit, input_limit, line_limit, new_reader, reader_holding},
-    declared.{buffer.Buffer.Buffer, lines.{LineSearchResult.{LineSearchResult, TheVariants.Line as WholeLine}, Next.Next}},
-    declared.{lines.Next.TheVariants.{End, Failed, Line, Long, TooMany}, streams.Failed.Failed as Error},
+    proofs.{Division.{IsDividedIntoLines-line, lines_of_octets-only}, LineFeeds.slice_range-front},
   },
 }
-use lib.{Count.count_trailing_zeros, Lanes.{mask_l, top, zip2}}
-
--- ## LineLists: Octets can be divided into complete lines and a rest without a line feed in only one way. Of two divisions, one begins with
--- the lines of the other; the rest of the other contains no line feed, so no further line follows.
-
-All-before : {A : Type 0} (P : A → Type 0) (xs ys : List A) → All P (xs ++ ys) → All P xs
-All-before P xs ys h = rw (take_at xs ys (length xs) refl) at (All-take P (length xs) (xs ++ ys) h)
-
-All-behind : {A : Type 0} (P : A → Type 0) (xs ys : List A) → All P (xs ++ ys) → All P ys
-All-behind P xs ys h = rw (drop_at xs ys (length xs) refl) at (All-drop P (length xs) (xs ++ ys) h)
-
-no_feed : (u v t : List ℕ) → IsLine u → u ≡ v ++ 10 ∷ t → ⊥
-no_feed u v t h e = All-head IsNotLineFeed 10 t (All-behind IsNotLineFeed v (10 ∷ t) (rw e at h)) refl
-
-same_line : (u x v y : List ℕ) → IsLine u → IsLine v → u ++ 10 ∷ x ≡ v ++ 10 ∷ y → (u ≡ v) × (x ≡ y)
-same_line [] x [] y hu hv e = (refl, cc e)
-same_line [] x (p ∷ v) y hu hv e = absurd (All-head IsNotLineFeed p v hv (cc e))
-same_line (o ∷ u) x [] y hu hv e = absurd (All-head IsNotLineFeed o u hu (cc e))
-same_line (o ∷ u) x (p ∷ v) y hu hv e =
-    let rest = same_line u x v y (All-tail IsNotLineFeed o u hu) (All-tail IsNotLineFeed p v hv) (cc e) in
-    (cc e, rest.1)
-
-pub text-cons : (line : List ℕ) (lines : List (List ℕ)) (rest : List ℕ) →
-    text_of_lines (line ∷ lines) ++ rest ≡ line ++ 10 ∷ (text_of_lines lines ++ rest)
-text-cons line lines rest = append_assoc line (10 ∷ text_of_lines lines) rest
-
-pub text-append : (ls ms : List (List ℕ)) (rest : List ℕ) →
-    text_of_lines (ls ++ ms) ++ rest ≡ text_of_lines ls ++ (text_of_lines ms ++ rest)
-text-append [] ms rest = refl
-text-append (l ∷ ls) ms rest = simp (append_assoc, text-append ls ms rest)
-
-pub one_division : (ls ls' : List (List ℕ)) (u v : List ℕ) → All IsLine ls → All IsLine ls' → IsLine u → IsLine v →
-    text_of_lines ls ++ u ≡ text_of_lines ls' ++ v → (ls ≡ ls') × (u ≡ v)
-one_division [] [] u v h h' hu hv e = (refl, e)
-one_division [] (l ∷ ls) u v h h' hu hv e = absurd (no_feed u l _ hu (e ∙ text-cons l ls v))
-one_division (l ∷ ls) [] u v h h' hu hv e = absurd (no_feed v l _ hv (sym e ∙ text-cons l ls u))
-one_division (l ∷ ls) (l' ∷ ls') u v h h' hu hv e =
-    let (first, rest) = same_line l (text_of_lines ls ++ u) l' (text_of_lines ls' ++ v) (All-head IsLine l ls h) (All-head IsLine l' ls' h')
-    (sym (text-cons l ls u) ∙ e ∙ text-cons l' ls' v) in
-    let (lines, last) = one_division ls ls' u v (All-tail IsLine l ls h) (All-tail IsLine l' ls' h') hu hv rest in
-    (cc (first, lines), last)
-
-pub text-push : (ls : List (List ℕ)) (l u : List ℕ) → text_of_lines (ls ++ l ∷ []) ++ u ≡ text_of_lines ls ++ (l ++ 10 ∷ u)
-text-push ls l u = rw (text-append, append_assoc)
-
-pub length-text-push : (ls : List (List ℕ)) (l : List ℕ) →
-    length (text_of_lines (ls ++ l ∷ [])) ≡ length (text_of_lines ls ++ l) + 1
-length-text-push ls l = omega (arith, length-append {A = ℕ}, ap length (text-push ls l []))
-
--- ## DivisionLemmas: Each list of octets is divided into lines in exactly one way: `lines_of_octets` gives a division, by induction over
--- the octets, and it is the only one.
-
-lines_of_octets-plain : (octet : ℕ) (octets : List ℕ) → IsNotLineFeed octet →
-    lines_of_octets (octet ∷ octets) ≡ push_onto_first_line octet (lines_of_octets octets)
-lines_of_octets-plain octet octets plain = rw (ne_eqb octet 10 plain)
-
-lines_of_octets-line : (line rest : List ℕ) → IsLine line → lines_of_octets (line ++ 10 ∷ rest) ≡ line ∷ lines_of_octets rest
-lines_of_octets-line [] rest plain = refl
-lines_of_octets-line (octet ∷ line) rest plain =
-    lines_of_octets-plain octet (line ++ 10 ∷ rest) (All-head IsNotLineFeed octet line plain)
-    ∙ ap (push_onto_first_line octet) (lines_of_octets-line line rest (All-tail IsNotLineFeed octet line plain))
-
-lines_of_octets-text : (lines : List (List ℕ)) (rest : List ℕ) → All IsLine lines →
-    lines_of_octets (text_of_lines lines ++ rest) ≡ lines ++ lines_of_octets rest
-lines_of_octets-text [] rest plain = refl
-lines_of_octets-text (line ∷ lines) rest plain =
-    ap lines_of_octets (append_assoc line (10 ∷ text_of_lines lines) rest) ∙ lines_of_octets-line line (text_of_lines lines ++ rest)
-    (All-head IsLine line lines plain)
-    ∙ ap (λ l. line ∷ l) (lines_of_octets-text lines rest (All-tail IsLine line lines plain))
-
-lines_of_octets-last : (line : List ℕ) → IsLine line → 0 < length line → lines_of_octets line ≡ line ∷ []
-lines_of_octets-last [] plain some = absurd (omega arith)
-lines_of_octets-last (octet ∷ []) plain some = lines_of_octets-plain octet [] (All-head IsNotLineFeed octet [] plain)
-lines_of_octets-last (octet ∷ next ∷ line) plain some =
-    lines_of_octets-plain octet (next ∷ line) (All-head IsNotLineFeed octet (next ∷ line) plain)
-    ∙ ap (push_onto_first_line octet) (lines_of_octets-last (next ∷ line) (All-tail IsNotLineFeed octet (next ∷ line) plain)
-    (omega arith))
-
-pub All-front : (lines front : List (List ℕ)) (last : List ℕ) → All IsLine lines → lines ≡ front ++ last ∷ [] →
-    All IsLine front × IsLine last
-All-front lines front last plain are =
-    let all = rw are at plain in
-    (All-before IsLine front (last ∷ []) all, All-head IsLine last [] (All-behind IsLine front (last ∷ []) all))
-
-pub lines_of_octets-only : (octets : List ℕ) (lines : List (List ℕ)) → IsDividedIntoLines octets lines →
-    lines ≡ lines_of_octets octets
-lines_of_octets-only octets lines divided =
-    elim divided.octets_split [
-      | inl whole ↦
-          sym (ap lines_of_octets (whole ∙ sym (append-nil (text_of_lines lines))) ∙ lines_of_octets-text lines [] divided.no_line_feed
-          ∙ append-nil lines)
-      | inr cut ↦
-          let plain = All-front lines cut.front cut.last divided.no_line_feed cut.lines_split in
-          sym (ap lines_of_octets cut.octets_split ∙ lines_of_octets-text cut.front cut.last plain.0
-          ∙ ap (λ l. cut.front ++ l) (lines_of_octets-last cut.last plain.1 cut.nonempty) ∙ sym cut.lines_split)
-    ]
-
-IsDividedIntoLines-line : (line octets : List ℕ) (lines : List (List ℕ)) → IsLine line → IsDividedIntoLines octets lines
-    → IsDividedIntoLines (line ++ 10 ∷ octets) (line ∷ lines)
-IsDividedIntoLines-line line octets lines plain divided =
-    record {
-      no_line_feed = All-cons IsLine line lines plain divided.no_line_feed;
-      octets_split = elim divided.octets_split [
-        | inl whole ↦ inl (ap (λ l. line ++ 10 ∷ l) whole)
-        | inr cut ↦ inr record {
-          front = line ∷ cut.front;
-          last = cut.last;
-          lines_split = ap (λ l. line ∷ l) cut.lines_split;
-          octets_split = ap (λ l. line ++ 10 ∷ l) cut.octets_split ∙ sym (append_assoc line (10 ∷ text_of_lines cut.front) cut.last);
-          nonempty = cut.nonempty;
-        }
-      ];
-    }
-
--- a way to divide octets into complete lines and a rest without a line feed
-abbrev pub Division : List ℕ → Type 0
-Division octets = (lines : List (List ℕ)) × (last : List ℕ) × All IsLine lines × IsLine last
-    × (octets ≡ text_of_lines lines ++ last)
-
-Division-plain : (octet : ℕ) (octets : List ℕ) → IsNotLineFeed octet → Division octets → Division (octet ∷ octets)
-Division-plain octet octets plain ([], last, h, p, e) = ([], octet ∷ last, h, All-cons IsNotLineFeed octet last plain p, cc e)
-Division-plain octet octets plain (l ∷ ls, last, h, p, e) = (
-  (octet ∷ l) ∷ ls,
-  last,
-  All-cons IsLine (octet ∷ l) ls (All-cons IsNotLineFeed octet l plain (All-head IsLine l ls h)) (All-tail IsLine l ls h),
-  p,
-  cc e,
-)
-
-pub divide : (octets : List ℕ) → Division octets
-divide [] = ([], [], All-nil IsLine, All-nil IsNotLineFeed, refl)
-divide (octet ∷ octets) = elim (cases_eq octet 10) [
-  | inl feed ↦
-      let (lines, last, h, p, e) = divide octets in
-      ([] ∷ lines, last, All-cons IsLine [] lines (All-nil IsNotLineFeed) h, p, cc (feed, e))
-  | inr plain ↦ Division-plain octet octets plain (divide octets)
-]
-
-IsDividedIntoLines-from : (octets : List ℕ) → Division octets → (lines : List (List ℕ)) × IsDividedIntoLines octets lines
-IsDividedIntoLines-from octets (lines, [], h, p, e) =
-    (lines, record { no_line_feed = h; octets_split = inl (e ∙ append-nil (text_of_lines lines)) })
-IsDividedIntoLines-from octets (lines, o ∷ last, h, p, e) = (
-  lines ++ (o ∷ last) ∷ [],
-  record {
-    no_line_feed = All-push IsLine lines (o ∷ last) h p;
-    octets_split = inr record { front = lines; last = o ∷ last; lines_split = refl; octets_split = e; nonempty = omega arith };
-  },
-)
-
-pub IsDividedIntoLines-lines_of_octets : (octets : List ℕ) → IsDividedIntoLines octets (lines_of_octets octets)
-IsDividedIntoLines-lines_of_octets octets =
-    let (lines, d) = IsDividedIntoLines-from octets (divide octets) in
-    rw (lines_of_octets-only octets lines d) at d
-
--- an example: the octets `a`, line feed, line feed, `b` are the line `a`, an empty line, and the line `b` without a line feed
-lines_of_octets-example : lines_of_octets (97 ∷ 10 ∷ 10 ∷ 98 ∷ []) ≡ (97 ∷ []) ∷ [] ∷ (98 ∷ []) ∷ []
-lines_of_octets-example = refl
 
 -- ## KnownOctets: The octets that remain in a source, or that a sink has taken, after several calls.
 
@@ -260,146 +92,6 @@ reads_left-read r s left left' came more has some valid =
       | inl ends ↦ rw (more.ended, ends) (omega arith)
       | inr goes ↦ let grew = some goes in rw (more.ended, goes) (omega arith)
     ]
-
--- ## FeedLemmas: Lemmas about line feeds in parts of a list.
-
-IsLine-front : (octets : List ℕ) (n : ℕ) → n ≤ length octets → Nowhere (Passes (is_byte 10) octets) 0 n →
-    IsLine (take n octets)
-IsLine-front octets n fits none =
-    All-from_get_or IsNotLineFeed (take n octets) 0
-    (λ k below is.
-    let size = length-take n octets in
-    let low : k < n = omega arith in
-    none k (omega arith) low (eq-eqb (slice_index octets k) 10 (sym (get_or-take n octets k 0 low) ∙ is)))
-
-pub MatchOption-feed : (octets : List ℕ) (r : Option ℕ) → IsFirstByte (is_byte 10) octets r
-    → MatchOption r (IsLine octets) (IsFirstLineFeed octets)
-MatchOption-feed octets None none = subst IsLine (take_all (length octets) octets (le_refl (length octets)))
-    (IsLine-front octets (length octets) (le_refl (length octets)) none)
-MatchOption-feed octets (Some n) found =
-    record {
-      in_range = found.0.high;
-      no_line_feed = IsLine-front octets n (omega arith) found.0.before;
-      is_line_feed = eqb-true (slice_index octets n) 10 found.1;
-    }
-
-IsFirstLineFeed-behind : (front octets : List ℕ) (n : ℕ) → IsLine front → IsFirstLineFeed octets n
-    → IsFirstLineFeed (front ++ octets) (length front + n)
-IsFirstLineFeed-behind front octets n plain first =
-    record {
-      in_range = omega (arith, length-append front octets);
-      no_line_feed = rw take-append-add (All-append IsNotLineFeed front (take n octets) plain first.no_line_feed);
-      is_line_feed = get_or-append-add front octets n 0 ∙ first.is_line_feed;
-    }
-
-pub count-before : (octets : List ℕ) (n : ℕ) → 64 ≤ length octets → n ≡ prefix_len (λ x. not (eqb x 10)) (take 64 octets) →
-    (n ≤ 64) × IsLine (take n octets) × (n < 64 → slice_index octets n ≡ 10)
-count-before octets n long counted =
-    let feed : ℕ → Bool = λ x. eqb x 10 in
-    let few = run_in_chunk_le feed octets 0 64 n 0 long counted in
-    let other = run_in_chunk_fails feed octets 0 64 n 0 long counted in
-    let front : 0 + n ≡ n = omega arith in (
-      few,
-      IsLine-front octets n (omega arith) (λ k low high is. false≢true (sym (other k low (omega arith)) ∙ is)),
-      λ less. eqb-true _ 10 (rw front at (run_in_chunk_stops feed octets 0 64 n 0 long counted less)),
-    )
-
--- in the mask that a vector comparison returns, the bit of each octet tells whether it is a line feed
-pub feed-bits : (octets : List ℕ) → 64 ≤ length octets →
-    mask_l (map (top 7) (zip2 (λ a b. cond (eqb a b) 255 0) (take 64 octets) (replicate 64 10))) % 2 ^ 64
-    ≡ mask_l (map (λ x. eqb x 10) (take 64 octets))
-feed-bits octets long = bitmask_splat w8 eqb (take 64 octets) 64 10 (length-take-le 64 octets long) (omega arith)
-
--- the number of trailing zeros of the mask from a vector comparison is the number of octets before the first line feed
-pub count-before-bits : (octets : List ℕ) (bits : ℕ) → 64 ≤ length octets →
-    bits ≡ mask_l (map (λ x. eqb x 10) (take 64 octets)) → bits ≢ 0 → (n : ℕ) → n ≡ count_trailing_zeros 64 bits →
-    (n ≤ 64) × IsLine (take n octets) × (n < 64 → slice_index octets n ≡ 10)
-count-before-bits octets bits long are some n is =
-    count-before octets n long (is ∙ ap (count_trailing_zeros 64) are
-    ∙ trailing_mask_l (λ x. eqb x 10) 64 (take 64 octets) (omega (arith, length-take-le 64 octets long)) (omega (arith, are)))
-
-pub slice_range-end : (octets : List ℕ) (from : ℕ) → slice_range octets from (length octets) ≡ drop from octets
-slice_range-end octets from = take_all (length octets - from) (drop from octets) (omega (arith, length-drop from octets))
-
-pub MatchOption-behind : (octets : List ℕ) (from : ℕ) (r : Option ℕ) → from ≤ length octets → IsLine (take from octets) →
-    MatchOption r (IsLine (slice_range octets from (length octets))) (IsFirstLineFeed (slice_range octets from (length octets))) →
-    MatchOption r (IsLine octets) (λ n. IsFirstLineFeed octets (from + n))
-MatchOption-behind octets from None fits plain none = subst IsLine (take-append-drop from octets)
-    (All-append IsNotLineFeed (take from octets) (drop from octets) plain (subst IsLine (slice_range-end octets from) none))
-MatchOption-behind octets from (Some n) fits plain first =
-    rw (take-append-drop from octets, length-take-le from octets fits) at
-    (IsFirstLineFeed-behind (take from octets) (drop from octets) n plain
-    (subst (λ rest. IsFirstLineFeed rest n) (slice_range-end octets from) first))
-
-slice_range-joined : (octets : List ℕ) (i j k : ℕ) → i ≤ j → j ≤ k
-    → slice_range octets i j ++ slice_range octets j k ≡ slice_range octets i k
-slice_range-joined octets i j k first second =
-    let rest = drop-drop (j - i) i octets ∙ ap (λ n. drop n octets) (omega arith) in
-    ap (λ l. take (j - i) (drop i octets) ++ take (k - j) l) (sym rest) ∙ sym (take-add (j - i) (k - j) (drop i octets))
-    ∙ ap (λ n. take n (drop i octets)) (omega arith)
-
-slice_range-front : (octets : List ℕ) (i k n : ℕ) → n ≤ k - i →
-    take n (slice_range octets i k) ≡ slice_range octets i (i + n)
-slice_range-front octets i k n fits =
-    take-take n (k - i) (drop i octets) fits ∙ ap (λ m. take m (drop i octets)) (omega arith)
-
-pub slice_range-rest : (octets : List ℕ) (i k n : ℕ) → i + n ≤ k →
-    drop n (slice_range octets i k) ≡ slice_range octets (i + n) k
-slice_range-rest octets i k n fits =
-    ap (λ m. drop n (take m (drop i octets))) (omega arith) ∙ drop-take n (k - (i + n)) (drop i octets)
-    ∙ ap (take (k - (i + n))) (drop-drop n i octets)
-
-pub IsLine-join : (octets : List ℕ) (i j k : ℕ) → i ≤ j → j ≤ k → IsLine (slice_range octets i j) →
-    IsLine (slice_range octets j k)
-    → IsLine (slice_range octets i k)
-IsLine-join octets i j k first second before behind =
-    subst IsLine (slice_range-joined octets i j k first second) (All-append IsNotLineFeed (slice_range octets i j) (slice_range octets j k)
-    before behind)
-
-pub IsLine-join_feed : (octets : List ℕ) (i j k n : ℕ) → i ≤ j → j ≤ k → k ≤ length octets →
-    IsLine (slice_range octets i j)
-    → IsFirstLineFeed (slice_range octets j k) n → IsLine (slice_range octets i (j + n))
-IsLine-join_feed octets i j k n first second fits before found =
-    let size = length-between octets j k fits in
-    IsLine-join octets i j (j + n) first (omega arith) before
-    (subst IsLine (slice_range-front octets j k n (omega arith)) found.no_line_feed)
-
-pub IsFirstLineFeed-upto : (octets : List ℕ) (i j k n : ℕ) → i ≤ j → j ≤ k → k ≤ length octets →
-    IsLine (slice_range octets i j)
-    → IsFirstLineFeed (slice_range octets j k) n → IsFirstLineFeed (slice_range octets i k) (j + n - i)
-IsFirstLineFeed-upto octets i j k n first second fits before found =
-    let size = length-between octets i j (omega arith) in
-    let joined = IsFirstLineFeed-behind (slice_range octets i j) (slice_range octets j k) n before found in
-    let at : length (slice_range octets i j) + n ≡ j + n - i = omega arith in
-    rw (slice_range-joined octets i j k first second, at) at joined
-
-pub IsLine-skipped : (octets : List ℕ) (i j n : ℕ) → IsLine (slice_range octets i j) →
-    IsLine (slice_range octets (i + n) (max j (i + n)))
-IsLine-skipped octets i j n plain =
-    elim (cases_lt j (i + n)) [
-      | inl less ↦
-          let none : max j (i + n) - (i + n) ≡ 0 = omega arith in
-          rw none (All-nil IsNotLineFeed)
-      | inr more ↦
-          let same : max j (i + n) ≡ j = omega arith in
-          rw (same, ← slice_range-rest octets i j n more) (All-drop IsNotLineFeed n (slice_range octets i j) plain)
-    ]
-
-pub slice_range-kept : (old new : List ℕ) (i j n : ℕ) → j ≤ n → take n new ≡ take n old →
-    slice_range new i j ≡ slice_range old i j
-slice_range-kept old new i j n within same =
-    let front = sym (take-take j n new within) ∙ ap (take j) same ∙ take-take j n old within in
-    between_is new i j ∙ ap (drop i) front ∙ sym (between_is old i j)
-
-pub slice_range-came : (old new : List ℕ) (i j n : ℕ) → i ≤ j → take j new ≡ take j old
-    → slice_range new i (j + n) ≡ slice_range old i j ++ slice_range new j (j + n)
-slice_range-came old new i j n ordered same =
-    sym (slice_range-joined new i j (j + n) ordered (omega arith)) ∙ ap (λ l. l ++ slice_range new j (j + n))
-    (slice_range-kept old new i j j (le_refl j) same)
-
-pub IsLine-before_feed : (octets : List ℕ) (m n : ℕ) → IsFirstLineFeed octets n → m ≤ n → IsLine (take m octets)
-IsLine-before_feed octets m n found low =
-    subst IsLine (take-take m n octets low) (All-take IsNotLineFeed m (take n octets) found.no_line_feed)
 
 -- ## NextLemmas: Lemmas for the contract of `Lines::next`: the octets read and the result of the search determine the result of the call.
 
@@ -648,9 +340,9 @@ IsLeft-answers (line ∷ lines) r r' octets came left' known (first, others, mid
 
 -- the octets buffered at the start and those read are the returned lines, each with its line feed, then the octets buffered at the end
 record AreWhole (r r' : ReaderState) (lines : List (List ℕ)) (came : List ℕ) : Type 0 where
-  octets : r.held ++ r.excess ++ came ≡ text_of_lines lines ++ (r'.held ++ r'.excess)
+  pub octets : r.held ++ r.excess ++ came ≡ text_of_lines lines ++ (r'.held ++ r'.excess)
   answered : r'.octet_count ≡ r.octet_count + length (text_of_lines lines)
-  no_line_feed : All IsLine lines
+  pub no_line_feed : All IsLine lines
 
 AreWhole-answers : (lines : List (List ℕ)) (r r' : ReaderState) (left left' : Option (List ℕ)) (came : List ℕ)
     → CallsReturnLines r left lines came r' left'

@@ -1,40 +1,28 @@
 -- Sent bursts: any information bits can be sent in exactly one way, and each sent burst has the right length and consists of bits.
-pub use Rattle.{
-  bit_blocks.{proofs.Lemmas.AllBits-table, specs.{Bits.{AllBits, IsBit}, Octets.AllOctets}},
-  burst_map.specs.Tails.tail_bits,
-  conv_code.{proofs.Lemmas.{AllBits-coded, length-coded}, specs.Code.{IsEncoderInput, encoding}},
-  fire_code.{
-    proofs.Lemmas.{one_rach_crc, one_sch_crc, one_xcch_crc, rach_crc_word, sch_crc_word, xcch_crc_word},
-    specs.Crcs.{rach_crc as crc_of_rach, sch_crc, xcch_crc},
-    specs.Words.{IsRachCodeword, IsSchCodeword, IsXcchCodeword},
-  },
-  std.{
-    proofs.{
-      Common.{List, [], append_assoc, ap, arith, drop, get_or, length-append, length, lit<, refl, subst, sym, take, ℕ, ◌*◌, ◌++◌},
-      Common.{◌+◌, ◌<◌, ◌∙◌, ◌∷◌, ◌≡◌, ◌≤◌},
-      lemmas.List.{Elements.{All-append, All-drop, All-map, All-take}, drop_at, length-drop, length-map, length-take-le, take_at},
-    },
-    specs.List.All,
-  },
-  training_seq.proofs.Lemmas.{AllBits-midamble, length-midamble},
-  um_block.specs.Sent.{IsCodedAccess, IsCodedBlock, IsCodedSync, IsSentAccess, IsSentBlock, IsSentSync},
-}
-pub use borrow.Rule.Slice.PartMut.{put_mid}
 use Rattle.{
+  std.proofs.Common.{true, List, [], append_assoc, ap, arith, drop, get_or, length-append, length, lit<, refl, sym, take, ℕ, ◌*◌},
+  std.proofs.Common.{◌++◌, ◌+◌, ◌<◌, ◌∙◌, ◌∷◌, ◌≡◌, ◌≤◌, replicate, leb},
+  std.proofs.lemmas.List.{Elements.{All-append, All-drop, All-map, All-take}, drop_at, length-drop, length-map, length-take-le, take_at},
+  std.{proofs.lemmas.Grind.flat_map-append, specs.List.{All, list_all}},
   bit_blocks.{
-    proofs.Lemmas.{AllBits-append, AllBits-bits_of, length-bits_of},
-    specs.{Octets.{bits_of, octet_bits}, Packed.AreCodedBitsPacked},
+    proofs.Lemmas.{AllBits-table, AllBits-append, AllBits-bits_of, AllBits-front, length-bits_of},
+    specs.{Bits.{AllBits, IsBit}, Octets.{AllOctets, bits_of, octet_bits}, Packed.AreCodedBitsPacked},
   },
-  burst_map.specs.{
-    AccessBurst.{access_burst, access_sequence, extended_tail_bits},
-    NormalBurst.normal_burst,
-    SyncBurst.{sync_burst, sync_sequence},
+  burst_map.specs.{Tails.tail_bits, AccessBurst.{access_sequence, extended_tail_bits}, NormalBurst.normal_burst, SyncBurst.sync_sequence},
+  conv_code.{
+    proofs.Lemmas.{AllBits-coded, length-coded, AreCodedBitsPacked-front, IsEncoderInput-tail},
+    specs.Code.{IsEncoderInput, encoding},
   },
-  conv_code.proofs.Lemmas.{AreCodedBitsPacked-front, IsEncoderInput-tail},
-  interleave.{proofs.Lemmas.{AllBits-bursts, IsInterleaved-interleaved, same_bursts}, specs.Bursts.interleaved},
-  std.{proofs.{Common.{replicate, leb, true}, lemmas.Grind.flat_map-append}, specs.List.list_all},
-  um_block.specs.{Computed.{coded_word, sent_access, sent_block, sent_sync}, Sent.{CarriesDataAndCrc, with_tail}},
+  fire_code.proofs.Lemmas.{one_rach_crc, one_sch_crc, one_xcch_crc, rach_crc_word, sch_crc_word, xcch_crc_word},
+  fire_code.specs.{Crcs.{rach_crc as crc_of_rach, sch_crc, xcch_crc}, Words.{IsRachCodeword, IsSchCodeword, IsXcchCodeword}},
+  training_seq.proofs.Lemmas.{AllBits-midamble, length-midamble},
+  um_block.specs.{
+    Sent.{IsCodedAccess, IsCodedBlock, IsCodedSync, IsSentAccess, IsSentBlock, IsSentSync, CarriesDataAndCrc, with_tail},
+    Computed.{coded_word, sent_access, sent_block, sent_sync},
+  },
+  interleave.{proofs.Bursts.{AllBits-bursts, IsInterleaved-interleaved, same_bursts}, specs.Bursts.interleaved},
 }
+use borrow.Rule.Slice.PartMut.{put_mid}
 
 -- ## Words: Encoder inputs that consist of information bits, CRC and tail, and their coded bits.
 
@@ -67,13 +55,11 @@ rach_carried b = carried _ 14 8 (lit< tt) (λ w h. h.count) (λ w h. h.bits)
 pub sch_carried : (u d : List ℕ) → length d ≡ 25 → CarriesDataAndCrc IsSchCodeword u d → Carried IsSchCodeword 35 25 u d
 sch_carried = carried _ 35 25 (lit< tt) (λ w h. h.count) (λ w h. h.bits)
 
--- the encoder input of given information bits is unique
 one_list : (IsWord : List ℕ → Type 0) (u u' d : List ℕ) →
     ((p p' : List ℕ) → IsWord (d ++ p) → IsWord (d ++ p') → p ≡ p') → CarriesDataAndCrc IsWord u d →
     CarriesDataAndCrc IsWord u' d → u ≡ u'
 one_list IsWord u u' d one h g = cc (one h.crc g.crc h.word g.word)
 
--- information bits with their CRC and tail are an encoder input that carries them
 pub carries : (IsWord : List ℕ → Type 0) (d p : List ℕ) → IsWord (d ++ p) → CarriesDataAndCrc IsWord (with_tail (d ++ p)) d
 carries IsWord d p word = record { crc = p; word = word; has_tail_bits_appended = refl }
 
@@ -85,13 +71,10 @@ pub block_carried : (octets c : List ℕ) (code : IsCodedBlock octets c) → Car
 block_carried octets c code =
     carried _ 224 184 (lit< tt) (λ w h. h.count) (λ w h. h.bits) _ _ (length-block _ code.count) code.information
 
--- information bits, CRC and tail form an encoder input
 pub IsEncoderInput-joined : (word d p : List ℕ) → word ≡ with_tail (d ++ p) → 0 < length d → AllBits d → AllBits p →
     IsEncoderInput word
 IsEncoderInput-joined word d p joined some d_bits p_bits =
     rw joined (IsEncoderInput-tail _ (omega (arith, length-append d p)) (AllBits-append d p d_bits p_bits))
-
--- ---- lemmas about the coded bits of an encoder input
 
 pub record AreBits (count : ℕ) (bits : List ℕ) : Type 0 where
   pub right_length : length bits ≡ count
@@ -147,23 +130,11 @@ tail = fixed tail_bits refl
 flag : AreBits 1 (1 ∷ [])
 flag = fixed (1 ∷ []) refl
 
--- ---- lemmas about the layouts of the three kinds of bursts
-
 normal_bits : (first second : List ℕ) (tsc : ℕ) → tsc ≤ 7 → AreBits 57 first → AreBits 57 second →
     AreBits 148 (normal_burst first second tsc)
 normal_bits first second tsc known f s =
     let sequence : AreBits 26 _ = record { right_length = length-midamble tsc known; each = AllBits-midamble tsc known } in
     joined (joined (joined (joined (joined (joined tail f) flag) sequence) flag) s) tail
-
-access_bits : (body : List ℕ) → AreBits 36 body → AreBits 88 (access_burst body)
-access_bits body b =
-    let head = fixed extended_tail_bits refl in
-    joined (joined (joined head (fixed access_sequence refl)) b) tail
-
-sync_bits : (first second : List ℕ) → AreBits 39 first → AreBits 39 second → AreBits 148 (sync_burst first second)
-sync_bits first second f s = joined (joined (joined (joined tail f) (fixed sync_sequence refl)) s) tail
-
--- ---- lemmas about sent bursts
 
 taken : (m n : ℕ) {bits : List ℕ} → AreBits (m + n) bits → AreBits m (take m bits)
 taken m n b = record { right_length = length-take-le m _ (omega arith); each = All-take IsBit m _ b.each }
@@ -183,13 +154,14 @@ sent_block_bits octets tsc bursts s =
     )
 
 pub sent_access_bits : (info bsic burst : List ℕ) → IsSentAccess info bsic burst → AreBits 88 burst
-sent_access_bits info bsic burst s = rw s.burst (access_bits s.coded_bits (coded_access_bits info bsic _ s.code))
+sent_access_bits info bsic burst s =
+    let sequence = joined (fixed extended_tail_bits refl) (fixed access_sequence refl) in
+    rw s.burst (joined (joined sequence (coded_access_bits info bsic _ s.code)) tail)
 
 pub sent_sync_bits : (info burst : List ℕ) → IsSentSync info burst → AreBits 148 burst
 sent_sync_bits info burst s =
-    let c = s.coded_bits in
-    let bits = coded_sync_bits info c s.code in
-    rw s.burst (sync_bits (take 39 c) (drop 39 c) (taken 39 39 bits) (dropped 39 39 bits))
+    let bits = coded_sync_bits info s.coded_bits s.code in
+    rw s.burst (joined (joined (joined (joined tail (taken 39 39 bits)) (fixed sync_sequence refl)) (dropped 39 39 bits)) tail)
 
 -- ## SentExists: Any information bits can be sent: their CRC exists, and their coded bits can be interleaved.
 
@@ -277,13 +249,13 @@ sent_block-only octets tsc x h =
 pub sent_access-only : (d b x : List ℕ) → IsSentAccess d b x → x ≡ sent_access d b
 sent_access-only d b x h =
     let w = h.code.information.word in
-    let bits = rw (take_at d h.code.information.crc 8 h.code.count) at (All-take IsBit 8 (d ++ h.code.information.crc) w.bits) in
+    let bits = AllBits-front d h.code.information.crc w.bits in
     one_access_burst d b x _ h (IsSentAccess-sent_access d b h.code.count bits w.bsic_bit_count w.bsic_bits)
 
 pub sent_sync-only : (d x : List ℕ) → IsSentSync d x → x ≡ sent_sync d
 sent_sync-only d x h =
     let w = h.code.information.word in
-    let bits = rw (take_at d h.code.information.crc 25 h.code.count) at (All-take IsBit 25 (d ++ h.code.information.crc) w.bits) in
+    let bits = AllBits-front d h.code.information.crc w.bits in
     one_sync_burst d x _ h (IsSentSync-sent_sync d h.code.count bits)
 
 -- ## SpreadParts: A list of four elements consists of its elements 0 to 3.

@@ -1,30 +1,26 @@
 -- The prescribed response to an input: the lines of octets, and the answers to them.
-pub use Rattle.{
+use Rattle.{
+  um_driver.specs.{
+    Table.{EndsAsPrescribed, IsPrefixOf, IsRun},
+    Continued.Continues,
+    Divided.BeginsWithLines,
+    Outputs.{InputEnd, Ended, Exceeded, Open, divided, input_end, last_line, lines_to_process, response, response_at_end, processed_lines},
+    Outputs.{response_from_answer, response_to_lines},
+    Rules.{Rules, Runs, answer_to_line, answer_to_meaning, concatenated_text},
+    declared.status.Status.{TheVariants.{BadInput, TooLong}, Status},
+  },
+  um_io.specs.{Lines.{IsDividedIntoLines, IsLine, IsNotLineFeed, text_of_lines}, Reading.{input_limit, line_limit}},
+  um_io.proofs.Division.{All-front, divide, text-cons},
   std.{
     proofs.{
-      Common.{Bool, Err, List, None, Ok, Option, Result, Some, [], append-nil, append_assoc, ap, arith, false, inl, inr},
-      Common.{add-one, length-append, length, refl, subst, sym, take, true, ℕ, ◌++◌, ◌+◌, ◌-◌, ◌<◌, ◌∙◌, ◌∷◌},
-      Common.{◌≡◌, ◌≤◌, ◌⊎◌},
-      lemmas.{
-        Bool.{cases_Bool, cases_lt, le-ltb, lt-ltb, ne_eqb},
-        List.{Elements.{All-append, All-cons, All-head, All-nil, All-push, All-tail}, length-take},
-      },
-      lemmas.List.{take-append-le, take_all, take_at},
-      Math.Seq.{take-append-add},
+      Common.{Bool, Err, List, None, Ok, Option, Result, Some, [], append-nil, append_assoc, ap, arith, false, inl, inr, add-one},
+      Common.{length-append, length, refl, subst, sym, take, true, ℕ, ◌++◌, ◌+◌, ◌-◌, ◌<◌, ◌∙◌, ◌∷◌},
+      Common.{◌≡◌, ◌≤◌},
+      lemmas.{Bool.{cases_lt, le-ltb, lt-ltb, ne_eqb}, List.{Elements.{All-append, All-head, All-tail}, take-append-le, take_all, take_at}},
+      Math.Seq.take-append-add,
     },
     specs.List.All,
   },
-  um_driver.specs.{
-    Continued.Continues,
-    Divided.BeginsWithLines,
-    Outputs.{InputEnd, Ended, Exceeded, Open, divided, input_end, last_line, lines_to_process, push_octet, response, response_at_end},
-    Outputs.{processed_lines, response_from_answer, response_to_lines},
-    Rules.{Rules, Runs, answer_to_line, answer_to_meaning, concatenated_text},
-    Table.{EndsAsPrescribed, EndsWithStatus, IsPrefixOf, IsRun},
-    declared.status.Status.{TheVariants.{BadInput, BadWords, Done, NoMemory, ReadFault, TooLong, WriteFault}, Status},
-  },
-  um_io.proofs.Lemmas.{All-front, divide, length-text-push, text-append, text-cons, text-push},
-  um_io.specs.{Lines.{EndsWithoutLineFeed, IsDividedIntoLines, IsLine, IsNotLineFeed, text_of_lines}, Reading.{input_limit, line_limit}},
   um_lines.specs.{Refusals.refused_text, declared.fault.LineFault.{TheVariants.Long, LineFault}},
 }
 
@@ -34,7 +30,6 @@ pub begins_with : {x rest : List ℕ} {lines : List (List ℕ)} → All IsLine l
     BeginsWithLines x lines rest
 begins_with plain split = record { no_line_feed = plain; octets_split = split }
 
--- octets that begin with complete lines still begin with these lines when more octets follow
 pub begins_with_more : {x rest : List ℕ} {lines : List (List ℕ)} (more : List ℕ) → BeginsWithLines x lines rest →
     BeginsWithLines (x ++ more) lines (rest ++ more)
 begins_with_more more b = begins_with b.no_line_feed (rw (b.octets_split, append_assoc))
@@ -134,13 +129,15 @@ over_end x ended over = rw (lt-ltb input_limit (length x) over) refl
 
 -- ## RunLemmas: Lemmas about joining and splitting runs over lines that are not refused.
 
--- the concatenated text of two joined lists is that of the first list, followed by that of the second
 pub joined-append : (ys ys' : List (List ℕ)) → concatenated_text (ys ++ ys') ≡ concatenated_text ys ++ concatenated_text ys'
 joined-append [] ys' = refl
 joined-append (y ∷ ys) ys' = rw (joined-append ys ys', append_assoc)
 
+-- the answers to some lines, and the response to what comes after them
+abbrev pub answers_then : List (List ℕ) → Option Status × List ℕ → Option Status × List ℕ
+answers_then answers next = (next.0, concatenated_text answers ++ next.1)
+
 module _ {State : Type 0} (r : Rules State) where
-  -- a run over some lines, followed by a run over further lines, is a run over all of them
   pub Runs-append : (a b c : State) (ls ls' ys ys' : List (List ℕ)) → Runs r a ls ys b → Runs r b ls' ys' c →
       Runs r a (ls ++ ls') (ys ++ ys') c
   Runs-append a b c [] ls' [] ys' same then = rw same at then
@@ -148,7 +145,6 @@ module _ {State : Type 0} (r : Rules State) where
       (mid, step, Runs-append mid b c ls ls' ys ys' runs then)
   Runs-append a b c _ ls' _ ys' none then = absurd none
 
-  -- if each step preserves a property of the state, so does the whole run
   pub Runs-keep : (P : State → Type 0) → ((a b : State) (line answer : List ℕ) → P a →
       answer_to_line r a line ≡ Ok (answer, b) → P b) →
       (a b : State) (ls ys : List (List ℕ)) → P a → Runs r a ls ys b → P b
@@ -158,10 +154,8 @@ module _ {State : Type 0} (r : Rules State) where
 
   -- ## Responding: The response to octets, from the answers to lines that are not refused and what comes after them.
 
-  -- the answers to lines that are not refused come first in the response to these and further lines
   response_to_lines-after : (a b : State) (n m : ℕ) (ls ys later : List (List ℕ)) (end : InputEnd) → m ≡ length ls + n →
-      Runs r a ls ys b → response_to_lines r a n (ls ++ later) end
-      ≡ ((response_to_lines r b m later end).0, concatenated_text ys ++ (response_to_lines r b m later end).1)
+      Runs r a ls ys b → response_to_lines r a n (ls ++ later) end ≡ answers_then ys (response_to_lines r b m later end)
   response_to_lines-after a b n m [] [] later end e same = let here : m ≡ n = omega arith in rw (same, here) refl
   response_to_lines-after a b n m (line ∷ ls) (y ∷ ys) later end e (mid, step, runs) =
       rw (step, response_to_lines-after mid b (n + 1) m ls ys later end (omega arith) runs, append_assoc) refl
@@ -171,22 +165,16 @@ module _ {State : Type 0} (r : Rules State) where
     abbrev next_number : ℕ
     next_number = length lines + 1
 
-    -- the response to octets whose first lines are these
     respond_to : (x : List ℕ) (ended : Bool) (end : InputEnd) (later : List (List ℕ)) → input_end x ended ≡ end →
         lines_to_process (take input_limit x) end ≡ lines ++ later →
-        response r a x ended ≡ (
-          (response_to_lines r b next_number later end).0,
-          concatenated_text answers ++ (response_to_lines r b next_number later end).1,
-        )
+        response r a x ended ≡ answers_then answers (response_to_lines r b next_number later end)
     unfolding response
     respond_to x ended end later end_is is =
         subst (λ e. response_to_lines r a 1 (lines_to_process (take input_limit x) e) e
-        ≡ ((response_to_lines r b next_number later end).0, concatenated_text answers ++ (response_to_lines r b next_number later end).1))
-        (sym end_is)
+        ≡ answers_then answers (response_to_lines r b next_number later end)) (sym end_is)
         (ap (λ l. response_to_lines r a 1 l end) is
         ∙ response_to_lines-after a b 1 next_number lines answers later end refl runs)
 
-    -- the octets within the limit that come after these lines
     within_limit : (x more : List ℕ) → x ≡ text_of_lines lines ++ more → length (text_of_lines lines) ≤ input_limit →
         take input_limit x ≡ text_of_lines lines ++ take (input_limit - length (text_of_lines lines)) more
     within_limit x more split within =
@@ -198,10 +186,7 @@ module _ {State : Type 0} (r : Rules State) where
     respond_after : (x more : List ℕ) (ended : Bool) (end : InputEnd) (front : List ℕ) (later : List (List ℕ)) →
         x ≡ text_of_lines lines ++ more → length (text_of_lines lines) ≤ input_limit → input_end x ended ≡ end →
         take (input_limit - length (text_of_lines lines)) more ≡ front → lines_to_process front end ≡ later →
-        response r a x ended ≡ (
-          (response_to_lines r b next_number later end).0,
-          concatenated_text answers ++ (response_to_lines r b next_number later end).1,
-        )
+        response r a x ended ≡ answers_then answers (response_to_lines r b next_number later end)
     respond_after x more ended end front later split within end_is front_is is = respond_to x ended end later end_is
         (ap (λ o. lines_to_process o end) (within_limit x more split within ∙ ap (λ o. text_of_lines lines ++ o) front_is)
         ∙ lines_to_process-after lines front end plain ∙ ap (λ l. lines ++ l) is)
@@ -241,10 +226,7 @@ module _ {State : Type 0} (r : Rules State) where
 
     respond_rest : (x last : List ℕ) (ended : Bool) (end : InputEnd) → x ≡ text_of_lines lines ++ last → IsLine last →
         length x ≤ input_limit → input_end x ended ≡ end →
-        response r a x ended ≡ (
-          (response_to_lines r b next_number (last_line last end) end).0,
-          concatenated_text answers ++ (response_to_lines r b next_number (last_line last end) end).1,
-        )
+        response r a x ended ≡ answers_then answers (response_to_lines r b next_number (last_line last end) end)
     respond_rest x last ended end split p within end_is =
         let size : length x ≡ length (text_of_lines lines) + length last = ap length split ∙ length-append (text_of_lines lines) last in
         respond_after x last ended end last (last_line last end) split (omega arith) end_is
@@ -291,10 +273,7 @@ module _ {State : Type 0} (r : Rules State) where
         ]
 
     pub respond_end : (x : List ℕ) → IsDividedIntoLines x lines → length x ≤ input_limit →
-        response r a x true ≡ (
-          (response_at_end next_number (r.end_fault b) Ended).0,
-          concatenated_text answers ++ (response_at_end next_number (r.end_fault b) Ended).1,
-        )
+        response r a x true ≡ answers_then answers (response_at_end next_number (r.end_fault b) Ended)
     respond_end x all within = respond_to x true Ended [] (rw (le-ltb input_limit (length x) within) refl)
         (whole_input x all within)
 
@@ -318,7 +297,6 @@ module _ {State : Type 0} (r : Rules State) where
         let end_is : input_end x true ≡ Ended = rw (le-ltb input_limit (length x) within) refl in
         ([], ap (λ e. lines_to_process (take input_limit x) e) end_is ∙ whole_input x all within)
 
-    -- the response begins with the answers to the first lines
     pub begins_with_answers : (x more : List ℕ) (ended : Bool) → x ≡ text_of_lines lines ++ more →
         length (text_of_lines lines) ≤ input_limit → IsPrefixOf (concatenated_text answers) (response r a x ended).1
     begins_with_answers x more ended split within =
@@ -385,7 +363,6 @@ module _ {State : Type 0} (r : Rules State) where
         (last ++ take j more) end) end)) (sym now) (continued a 1 ls last (take j more) end p)))
   ]
 
--- a line that is answered is answered by the step of the rules
 pub step_of_answer : {State : Type 0} (r : Rules State) (a : State) (line : List ℕ) (next : List ℕ × State) →
     answer_to_line r a line ≡ Ok next → r.step a line ≡ Ok next
 step_of_answer r a line next is = elim (cases_lt line_limit (length line)) [
@@ -393,7 +370,6 @@ step_of_answer r a line next is = elim (cases_lt line_limit (length line)) [
   | inr short ↦ rw (le-ltb line_limit (length line) short) at is
 ]
 
--- an answer that is computed from the meaning of a line has such a meaning
 pub meaning_of_answer : {Meaning Answer : Type 0} (answer : Meaning → Answer) (parsed : Result Meaning LineFault) (given : Answer) →
     answer_to_meaning answer parsed ≡ Ok given → (meaning : Meaning) × (parsed ≡ Ok meaning) × (given ≡ answer meaning)
 meaning_of_answer answer (Ok meaning) given is = (meaning, refl, grind arith)
@@ -439,7 +415,6 @@ module _ {S T : Type 0} (f : S → T) (r : Rules S) (r' : Rules T) (w : IsProjec
   whole_response_by a octets ended =
       response_by a 1 (lines_to_process (take input_limit octets) (input_end octets ended)) (input_end octets ended)
 
-  -- a run by the rules r is a run by the rules r'
   pub run_by : (a : S) (Represents : S → Type 0) (Stands : T → Type 0) →
       ((b : S) (lines answers : List (List ℕ)) → Runs r a lines answers b → Represents b → Stands (f b)) → (status : Status) →
       (left left' taken taken' : Option (List ℕ)) → IsRun r a Represents status left left' taken taken' →
@@ -476,7 +451,6 @@ module _ {S T : Type 0} (f : S → T) (r : Rules S) (r' : Rules T) (w : IsProjec
     answers_begun = h.answers_begun;
   }
 
-  -- a run that ends as the rules r prescribe ends as the rules r' prescribe
   pub prescribed_by : (a : S) (status : Status) (left taken taken' : Option (List ℕ)) →
       EndsAsPrescribed r a status left taken taken' →
       EndsAsPrescribed r' (f a) status left taken taken'
