@@ -25,6 +25,12 @@ def needs(*tools):
             skip_all(f"no {tool} here")
 
 
+def invocations():
+    """The lines of checks/invocations, as lists of words."""
+    with open(os.path.join(TOP, "checks", "invocations"), encoding="utf-8") as file:
+        return [line.split() for line in file if not line.startswith("#")]
+
+
 def lack_of_program():
     """Why ./um starts no program here, or nothing."""
     done = subprocess.run([os.path.join(TOP, "um"), "make", "1", "0"], stdin=subprocess.DEVNULL, capture_output=True, text=True, check=False)

@@ -45,6 +45,9 @@ runs() {
 # skip PART REASON: tells that a part of the check is left out; checks/run counts such lines, and checks/may_skip lists some
 skip() { echo "$check: skipped: $1: $2"; }
 
+# invocations: the lines of checks/invocations
+invocations() { grep -v '^#' checks/invocations; }
+
 # ends: ends a check of parts
 ends() {
   [ -n "$ran" ] || exit 77
