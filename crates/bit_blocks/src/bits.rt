@@ -43,7 +43,7 @@ impl<const N: usize> Bits<N> {
         Some(Bits { values: *values })
     }
 
-    /// Converts an array of zeros and ones to bits.
+    /// Converts an array of zeros and ones to bits, and does not test it.
     pub fn from_array(bits: [u8; N]) -> Bits<N>
         requires { AllBits bits }
         ensures value { result ≡ bits.entry }
@@ -61,7 +61,7 @@ impl<const N: usize> Bits<N> {
         self.values[i]
     }
 
-    /// Sets bit `i` to `bit`.
+    /// Sets bit `i`, counted from 0, to `bit`, 0 or 1.
     pub fn set(&mut self, i: usize, bit: u8)
         requires within { i < N }
         requires bit { bit ≤ 1 }
@@ -76,7 +76,7 @@ impl<const N: usize> Bits<N> {
         ensures count { length result ≡ N }
         ensures bits { AllBits result }
 
-        // Both operands have `N` bits.
+        // A contract sees only the list of the bits, so this says that both operands have `N`.
         ensures counts { (length self.now ≡ N) × (length other.now ≡ N) }
         ensures operands { AllBits self.now × AllBits other.now }
     {

@@ -19,7 +19,7 @@ pub fn count_wrong_bits(soft: &[i8], bits: &[u8]) -> u32
         + u32::from(count_wrong_bits_up_to_255(second, second_bits))
 }
 
-// A `u8` counter lets the compiler vectorize the loop, sixteen elements at a time.
+// A `u8` counter lets the compiler vectorize the loop, sixteen elements at a time; so `count_wrong_bits` counts two halves.
 fn count_wrong_bits_up_to_255(soft: &[i8], bits: &[u8]) -> u8
     requires count { length soft.now ≡ length bits.now }
     requires size { length soft.now ≤ 255 }

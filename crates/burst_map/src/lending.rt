@@ -3,6 +3,7 @@ ghost use Rattle.std.specs.Prelude.{◌≡◌, ◌≤◌, ◌-◌, length, slice
 ghost use Rattle.std.specs.Borrow.{sem, Lends, Array, u8};
 ghost use Rattle.burst_map.specs.Parts.{with_range_replaced};
 
+/// Exists for its contract: what the caller writes to the part stands in `places`, whose rest is unchanged.
 pub fn borrow_range_mut<const N: usize>(places: &mut [u8; N], from: usize, to: usize) -> &mut [u8]
     requires order { from ≤ to }
     requires within { to ≤ N }

@@ -26,7 +26,7 @@ impl Endpoint {
     }
 
     /// Encodes the frame that awaits an answer: the SABM, the DISC, or the outstanding I frame with P = 0 and the present N(R). Returns
-    /// `None` if no frame awaits an answer. Nothing is counted.
+    /// `None` if no frame awaits an answer. Nothing is counted. A data link encodes the frame anew in its slot, and so needs no queue.
     pub fn awaited(&self) -> Option<[u8; BLOCK_OCTETS]>
         ensures { (e : EndpointState) → Represents self.now e → result ≡ awaited_block e }
     {

@@ -61,6 +61,7 @@ impl EndpointView<'_> {
     }
 }
 
+// A count that nothing uses must be 0, so that an endpoint has only one state as plain data.
 fn has_no_repeats(state: State, retries: u8, segment_repeats: u8) -> bool
     ensures { IsTrue result ↔ HasNoRepeats state retries segment_repeats }
 {
@@ -141,6 +142,7 @@ impl Endpoint {
         ensures valid { IsTrue result ↔ SomeEndpointHasValues (values_of_parts parts.now) }
         ensures refused { result ≡ false → self.new ≡ self.old }
     {
+        // The window is tested last, because its test also restores it.
         if !parts.are_consistent() || !self.window.restore(&parts.window) {
             return false;
         }

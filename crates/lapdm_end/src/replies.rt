@@ -14,7 +14,8 @@ use crate::ends::Endpoint;
 use lapdm_frame::Body;
 use lapdm_window::{Reason, Sapi, State};
 
-/// The reaction of an endpoint to a received frame.
+/// The reaction of an endpoint to a received frame. The functions below choose it and `carry_out_reply` carries it out, so that most
+/// properties of frames are proved by cases on the replies.
 #[derive(Clone, Copy)]
 pub(crate) enum Reply<'a> {
     Nothing,
@@ -270,6 +271,7 @@ impl Endpoint {
         }
     }
 
+    // A SABM gets a DM, because a closed endpoint stays closed: its caller makes a new one.
     fn reply_in_closed<'a>(&self, poll: bool, body: &Body<'a>) -> Reply<'a>
         ensures reply { spec_reply_of result ≡ reply_in_closed poll (content_of_body body.now) }
         ensures possible { IsPossibleReply self.now result }
@@ -296,6 +298,7 @@ impl Endpoint {
         }
     }
 
+    // A UI frame has the same reply in every state.
     pub(crate) fn reply<'a>(&self, command: bool, body: &Body<'a>) -> Reply<'a>
         requires numbers { NsAndNrFit (content_of_body body.now) }
         requires information { InformationFits (channel_of self.now) (content_of_body body.now) }

@@ -44,6 +44,7 @@ impl Side {
 
     /// Carries out a layer 3 call to the endpoint with this SAPI and replaces the effects with its frames and notices. A refused call
     /// leaves the effects unchanged.
+    // Inlined, as `Endpoint::call`, because most callers pass a constant call.
     #[inline(always)]
     pub fn call(
         &mut self,

@@ -103,7 +103,7 @@ pub enum Body<'a> {
     },
 }
 
-/// A kind of frame.
+/// A kind of frame, in the order of their numbers.
 #[derive(Clone, Copy, PartialEq, Eq, Debug)]
 pub enum Kind {
     I,

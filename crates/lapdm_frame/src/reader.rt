@@ -67,6 +67,7 @@ fn has_no_information(body: &Body<'_>) -> bool
     }
 }
 
+// A function of its own, with which the proof of `read_on` is much shorter.
 fn length_fault(body: &Body<'_>, length: u8, max_length: usize) -> Option<Refusal>
     ensures fault { IfSome result (IsLengthFault max_length (content_of_body body.now) length) }
     ensures none { IfNone result (HasNoLengthFault max_length (content_of_body body.now) length) }
@@ -107,6 +108,7 @@ pub fn read_on<'a>(
     let length = octets[start + 2];
     let more = length / 2 % 2 == 1;
     let size = usize::from(length / 4);
+    // Cut to N201, because `length_fault` tests the length later, after the control octet.
     let info = &octets[start + 3..start + 3 + size.min(most)];
 
     if address >= 32 {

@@ -15,7 +15,6 @@ pub struct Effects {
 }
 
 impl Effects {
-    /// Creates effects with no frames and no notices.
     pub fn new() -> Effects
         ensures frames { result.frames ≡ [] }
         ensures notices { result.notices ≡ [] }
@@ -26,7 +25,6 @@ impl Effects {
         }
     }
 
-    /// Removes all frames and notices.
     pub fn clear(&mut self)
         ensures frames { self.new.frames ≡ [] }
         ensures notices { self.new.notices ≡ [] }
@@ -64,14 +62,12 @@ impl Frames {
         }
     }
 
-    /// Removes all blocks.
     pub fn clear(&mut self)
         ensures { self.new ≡ [] }
     {
         self.len = 0;
     }
 
-    /// Appends a block.
     pub fn push(&mut self, block: [u8; BLOCK_OCTETS])
         requires { length self.old < 2 }
         ensures { self.new ≡ self.old ++ block ∷ [] }
@@ -119,14 +115,12 @@ impl Notices {
         }
     }
 
-    /// Removes all notices.
     pub fn clear(&mut self)
         ensures { self.new ≡ [] }
     {
         self.len = 0;
     }
 
-    /// Appends a notice.
     pub fn push(&mut self, notice: Notice)
         requires { length self.old < 3 }
         ensures { self.new ≡ self.old ++ notice ∷ [] }

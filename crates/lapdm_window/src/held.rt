@@ -90,7 +90,6 @@ impl HeldMessageBuffers {
         &self.buffers[..self.len]
     }
 
-    /// Replaces the list with the messages in `buffers`.
     pub(crate) fn restore(&mut self, buffers: &[MessageBuffer])
         requires { length buffers.now ≤ 8 }
         ensures items { self.new.items ≡ map octets_in_buffer buffers.now }

@@ -114,7 +114,8 @@ pub enum Call<'a> {
     Idle,
 }
 
-/// Why a call is refused. If several reasons apply, the call returns the first one that it tests.
+/// Why a call is refused. If several reasons apply, the call returns the first one that it tests. It tests the state first, so that to send
+/// no octets before establishment is `NotOpen`.
 #[derive(Clone, Copy, PartialEq, Eq, Debug, Error)]
 pub enum Refused {
     /// The state is not Idle.

@@ -49,7 +49,7 @@ impl Message {
         Message { buffer: held, len }
     }
 
-    /// Replaces the octets of the message with `octets`.
+    /// Replaces the message; copies only `octets`, not the whole buffer.
     pub fn write(&mut self, octets: &[u8])
         requires { length octets.now ≤ max_message_octets }
         ensures { self.new ≡ octets.now }

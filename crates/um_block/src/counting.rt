@@ -24,8 +24,7 @@ pub fn wrong_block_bits(bursts: &[[i8; BURST_BITS]; 4], input: &[u8; ENCODER_INP
     wrong_coded_bits(&deinterleave_block(bursts), input)
 }
 
-/// The number of coded soft bits of a block, 0 to 456, that disagree with the coded bits of the encoder input; `soft` holds the coded soft
-/// bits, already deinterleaved.
+/// As `wrong_block_bits`, for deinterleaved soft bits: a caller that has decoded them does not deinterleave again.
 pub fn wrong_coded_bits(soft: &[i8; CODED_BITS], input: &[u8; ENCODER_INPUT_BITS]) -> u32
     requires { IsEncoderInput input.now }
     ensures value { result ≡ count_wrong_bits soft.now (encoding input.now) }

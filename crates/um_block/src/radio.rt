@@ -21,7 +21,7 @@ pub trait Radio {
     /// The number of blocks received.
     ghost heard: { Self → ℕ };
 
-    /// Encodes a block of 23 octets into four normal bursts, with a training sequence code, which must be 0 to 7.
+    /// As `send_block`. The training sequence code `tsc` must be 0 to 7.
     fn send(&mut self, octets: &[u8; BLOCK_OCTETS], tsc: u8) -> [[u8; BURST_BITS]; 4]
         requires { tsc ≤ 7 }
         ensures sent { IsSentBlock octets.now tsc result }
@@ -30,7 +30,7 @@ pub trait Radio {
         ensures raised { sent self.new ≡ counter_plus_one (sent self.old) }
         ensures unchanged { heard self.new ≡ heard self.old };
 
-    /// Decodes the four normal bursts of a block.
+    /// As `receive_block`.
     fn receive(&mut self, bursts: &[[i8; BURST_BITS]; 4]) -> Received
         requires { All AllSoftBits bursts.now }
         ensures received { IsReceivedBlock bursts.now result }

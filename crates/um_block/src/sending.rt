@@ -33,14 +33,15 @@ pub fn send_block(octets: &[u8; BLOCK_OCTETS], tsc: u8) -> [[u8; BURST_BITS]; 4]
     ]
 }
 
-/// The 456 coded bits of a block of 23 octets, packed into columns for interleaving.
+/// The 456 coded bits of a block of 23 octets, packed into columns for interleaving: with a list of coded bits `send_block` took 3,328
+/// instructions, with columns 819.
 fn encode_block(octets: &[u8; BLOCK_OCTETS]) -> Columns
     ensures { (coded : List ℕ) × IsCodedBlock octets.now coded × AreColumnsOfCodedBits coded result.octets }
 {
     Columns::new(&encode_packed(&octets_with_crc(octets)))
 }
 
-/// The 23 octets of a block, followed by their five Fire code octets and four zero octets.
+/// The 23 octets of a block, followed by their five Fire code octets and by four zero octets, since `encode_packed` takes 32 octets.
 fn octets_with_crc(octets: &[u8; BLOCK_OCTETS]) -> [u8; 32]
     ensures { (crc : List ℕ) × IsXcchCodeword (bits_of octets.now ++ bits_of crc) × (result ≡ octets.now ++ crc ++ replicate 4 0) }
 {
@@ -50,7 +51,8 @@ fn octets_with_crc(octets: &[u8; BLOCK_OCTETS]) -> [u8; 32]
     word
 }
 
-/// Builds normal burst `b` of a block, with both halves of its coded bits in their positions.
+/// Builds normal burst `b` of a block. Both halves are written in place: with one list of 114 bits, copied into both, `send_block` took 819
+/// instructions, and now it takes 697.
 fn build_normal_burst(columns: &Columns, b: usize, tsc: u8) -> [u8; BURST_BITS]
     requires burst_number { b < 4 }
     requires tsc_in_range { tsc ≤ 7 }
@@ -96,7 +98,6 @@ pub fn send_sync(info: &Bits<25>) -> [u8; BURST_BITS]
     sync(first, second)
 }
 
-/// Writes the information bits, the check bits and the four tail bits to `word`.
 fn write_crc_and_tail(info: &[u8], crc: &[u8], word: &mut [u8])
     requires count { length info.now + length crc.now + 4 ≡ length word.old }
     requires some { 0 < length info.now }

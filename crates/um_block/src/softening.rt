@@ -29,7 +29,7 @@ pub fn soften_block(block: &[[u8; BURST_BITS]; 4], soft: &mut [[i8; BURST_BITS];
 }
 
 // Converts the bits of a burst to soft bits, sixteen at a time. As 148 is not a multiple of sixteen, the last two groups overlap by twelve
-// bits.
+// bits: without a remainder of four bits, and written in place, a block takes 190 instructions and a copy less.
 fn soften_burst_into(burst: &[u8; BURST_BITS], soft: &mut [i8; BURST_BITS])
     requires { AllBits burst.now }
     ensures value { soft.new ≡ soft_bits burst.now }

@@ -111,7 +111,7 @@ pub extern "C" fn um_receive_block_among(
     true
 }
 
-/// The report on the block that was received from four bursts.
+/// `soft` are the deinterleaved soft bits of `bursts`, which the caller has for decoding: each receipt deinterleaves once.
 #[inline(always)]
 pub(crate) fn block_report_of(
     bursts: &[[i8; BURST_BITS]; 4],

@@ -187,7 +187,8 @@ fn placeholder_for(data_link: &CDataLink) -> DataLink {
     DataLink::new_on(role, channel, 1, 1)
 }
 
-/// Reads the state into `held` and returns true if it represents a data link; otherwise returns false.
+/// Reads the state into `held` in place, and returns true if it represents a data link; otherwise returns false. Copies of a data link took
+/// two fifths of a call's time.
 fn read_data_link(data_link: &CDataLink, held: &mut DataLink) -> bool
     ensures represents { IsTrue result → (s : DataLinkState) → RepresentsDataLink data_link.now s → Represents held.new s }
     ensures valid { IsTrue result ↔ RepresentsSomeDataLink data_link.now }
@@ -199,7 +200,6 @@ fn read_data_link(data_link: &CDataLink, held: &mut DataLink) -> bool
     }
 }
 
-/// Writes the state of a link.
 fn write_link(parts: &LinkView<'_>, c_struct: &mut CTimedEnd)
     requires { IsWritable parts.now }
     ensures { c_struct.new ≡ c_timed_end (values_of_parts parts.now) }
@@ -220,7 +220,6 @@ fn write_link(parts: &LinkView<'_>, c_struct: &mut CTimedEnd)
     }
 }
 
-/// Writes the state of a data link.
 fn write_data_link(held: &DataLink, data_link: &mut CDataLink)
     ensures { data_link.new ≡ c_data_link (data_link_values_of held.now) }
 {
@@ -250,6 +249,7 @@ pub extern "C" fn um_datalink_new(
     let Some(channel) = channel_of(channel) else {
         return false;
     };
+    // Two `if`s, since the prover takes `||` badly in a function with many exits.
     if t200 == 0 {
         return false;
     }
@@ -271,7 +271,7 @@ pub extern "C" fn um_datalink_valid(data_link: &CDataLink) -> bool
 }
 
 /// Returns whether the link of this SAPI supports the call: only a mobile establishes the link of SAPI 0, with information in its SABM;
-/// either side establishes that of SAPI 3, without information.
+/// either side establishes that of SAPI 3, without information. A mobile would answer the network's SABM on SAPI 0 with a DM.
 fn link_supports_call(held: &DataLink, sapi: Sapi, call: &Call<'_>) -> bool
     ensures exists { IsTrue result → IsCallAllowedFor (data_link_role held.now) sapi (endpoint_call_of call.now) }
     ensures allowed { IsTrue result → (s : DataLinkState) → Represents held.now s
@@ -329,7 +329,8 @@ pub extern "C" fn um_datalink_open(data_link: &mut CDataLink, info: &MessageBuff
     call_data_link(data_link, 0, &Call::Open(info.octets()))
 }
 
-/// Begins to establish the link of SAPI 3. If it is closed, it starts afresh first. Returns 0, or an error number.
+/// Begins to establish the link of SAPI 3. If it is closed, it starts afresh first, since an endpoint stays closed. Returns 0, or an error
+/// number.
 #[unsafe(no_mangle)]
 pub extern "C" fn um_datalink_open_bare(data_link: &mut CDataLink) -> u8
     ensures { DataLinkAnswersCall 3 OpensWithoutInfo result data_link.old data_link.new }
@@ -357,7 +358,7 @@ pub extern "C" fn um_datalink_close(data_link: &mut CDataLink, sapi: u8) -> u8
     call_data_link(data_link, sapi, &Call::Close)
 }
 
-/// Local end release: the link of this SAPI starts afresh. Returns 0, or an error number.
+/// Local end release: the link of this SAPI starts afresh, and nothing is reported. Returns 0, or an error number.
 #[unsafe(no_mangle)]
 pub extern "C" fn um_datalink_close_local(data_link: &mut CDataLink, sapi: u8) -> u8
     ensures { DataLinkChangesLink sapi afresh result data_link.old data_link.new }
@@ -412,7 +413,8 @@ pub extern "C" fn um_datalink_take(
     0
 }
 
-/// Creates a placeholder, which is then overwritten with one link in the struct after the other.
+/// Creates a placeholder, which is then overwritten with one link in the struct after the other: to fill two and to write both links back
+/// took half the time of `um_datalink_next`.
 fn placeholder_link() -> Link {
     Link::new_on(Role::Mobile, Sapi::Zero, Channel::Sdcch, 1)
 }
@@ -501,7 +503,6 @@ fn write_taken(sapi: Option<Sapi>, notices: &[Notice], report: &mut CReport)
     }
 }
 
-/// Writes the notices of the link with this SAPI.
 fn write_notices_of(sapi: Sapi, notices: &[Notice], report: &mut CReport)
     requires { length notices.now ≤ 3 }
     ensures { report.new ≡ c_report (reports_of sapi notices.now) }
@@ -543,7 +544,7 @@ fn with_layer1(channel: Channel, layer1: &[u8; 2], block: [u8; BLOCK_OCTETS]) ->
     }
 }
 
-/// Encodes a UI frame, for a slot that is free. Returns 0, or an error number.
+/// Encodes a UI frame, for a slot that is free. UI frames are not queued, so they delay nothing. Returns 0, or an error number.
 #[unsafe(no_mangle)]
 pub extern "C" fn um_datalink_unit(
     data_link: &CDataLink,
@@ -595,7 +596,6 @@ pub extern "C" fn um_datalink_next(
     slot_answer(slot.block)
 }
 
-/// Counts a slot for T200 of a link, unless its clock is stopped.
 fn count_slot_unless(is_stopped: bool, c_struct: &mut CTimedEnd)
     ensures { c_struct.new ≡ counted is_stopped c_struct.old }
 {
@@ -604,7 +604,8 @@ fn count_slot_unless(is_stopped: bool, c_struct: &mut CTimedEnd)
     }
 }
 
-/// Counts a slot for T200 of both links.
+/// Counts a slot for T200 of both links. After a frame of SAPI 0 other than UI, which took the slot of an answer on SAPI 3, the clock of
+/// SAPI 3 stands still.
 fn count_slot(data_link: &mut CDataLink)
     ensures { data_link.new ≡ record (with_clocks_counted data_link.old) {
       heard0 = 0;

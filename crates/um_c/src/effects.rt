@@ -31,7 +31,6 @@ pub struct CEffects {
     pub frames: [[u8; BLOCK_OCTETS]; 2],
 }
 
-/// Writes the frames and notices of a call.
 pub(crate) fn write_effects(call_effects: &Effects, effects: &mut CEffects)
     ensures { effects.new ≡ c_effects call_effects.now.frames call_effects.now.notices }
 {

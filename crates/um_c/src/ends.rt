@@ -152,6 +152,7 @@ pub extern "C" fn um_end_take(
 }
 
 /// Carries out a layer 3 call to an endpoint. Returns 0, or an error number.
+// Inlined, as `Endpoint::call`, because most callers pass a constant call.
 #[inline(always)]
 pub(crate) fn call_endpoint(end: &mut CEndpoint, call: &Call<'_>, effects: &mut CEffects) -> u8
     ensures answers_call { EndpointAnswersCall (endpoint_call_of call.now) result end.old end.new effects.old effects.new }
@@ -169,7 +170,7 @@ pub(crate) fn call_endpoint(end: &mut CEndpoint, call: &Call<'_>, effects: &mut 
     write_call_result(answer, &output, &held, end, effects)
 }
 
-/// Carries out a call that sends a UI frame and leaves the endpoint unchanged.
+/// Carries out a call that sends a UI frame. It leaves the endpoint unchanged, so the state is not written back.
 #[inline(always)]
 pub(crate) fn send_ui_frame(end: &CEndpoint, call: &Call<'_>, effects: &mut CEffects) -> u8
     requires { IsUiFrameCall (endpoint_call_of call.now) }
@@ -185,7 +186,7 @@ pub(crate) fn send_ui_frame(end: &CEndpoint, call: &Call<'_>, effects: &mut CEff
 }
 
 /// Returns whether the endpoint supports this call: only a mobile establishes the link of SAPI 0, with information in its SABM; either side
-/// establishes that of SAPI 3, without information.
+/// establishes that of SAPI 3, without information. A mobile would answer the network's SABM on SAPI 0 with a DM.
 fn endpoint_supports_call(endpoint: &Endpoint, call: &Call<'_>) -> bool
     ensures exists { IsTrue result → IsCallAllowedFor (link_role endpoint.now) (link_sapi endpoint.now) (endpoint_call_of call.now) }
     ensures allowed { IsTrue result → (e : EndpointState) → Represents endpoint.now e
@@ -211,7 +212,8 @@ fn endpoint_supports_call(endpoint: &Endpoint, call: &Call<'_>) -> bool
     }
 }
 
-/// Creates a placeholder endpoint, which is then overwritten with the state that the caller holds.
+/// Creates a placeholder endpoint, which is then overwritten in place with the state that the caller holds: an endpoint built as a value
+/// was copied several times.
 fn placeholder_endpoint() -> Endpoint {
     Endpoint::new_on(Role::Mobile, Sapi::Zero, Channel::Sdcch)
 }

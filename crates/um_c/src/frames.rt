@@ -139,7 +139,6 @@ fn frame_view_of_c_frame(frame: &CFrame) -> Option<FrameView<'_>>
     })
 }
 
-/// The body of the frame that the fields describe, or `None` if they describe none.
 fn body_of_c_frame(frame: &CFrame) -> Option<Body<'_>>
     requires { frame.now.count ≤ 20 }
     ensures { MatchOption result (content_from_fields frame.now ≡ None) (λ body. content_from_fields frame.now ≡

@@ -1,4 +1,5 @@
-//! Laws of a C program that connects endpoints. The body of a law is empty: call it to use its contract in a proof.
+//! Laws of a C program that connects endpoints. They stand in this crate, since no crate can depend on a static library. The body of a law
+//! is empty: call it to use its contract in a proof.
 ghost use Rattle.std.specs.Prelude.{◌≡◌, ℕ, List, length, Some};
 ghost use Rattle.lapdm_frame.specs.declared.Channel.{Channel};
 ghost use Rattle.um_air.specs.lapdm_link.Claims.{Claims, HasNoticesInOrder, AckedAtMostDelivered};

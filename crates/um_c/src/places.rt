@@ -25,7 +25,8 @@ pub struct CPlace {
     pub first: u32,
     /// The channel, 0 to 6.
     pub channel: u8,
-    /// The subchannel of SDCCH and SACCH; of CCCH the number of the block in the multiframe; otherwise 0.
+    /// The subchannel of SDCCH and SACCH; of CCCH the number of the block in the 51-multiframe, 0 to 8, so that each number names one
+    /// block; otherwise 0.
     pub subchannel: u8,
     /// Which burst of the block, 0 to 3.
     pub burst: u8,

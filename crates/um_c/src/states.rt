@@ -164,14 +164,12 @@ fn reassembly_from_number(number: u8) -> Option<ReassemblyState>
     }
 }
 
-/// Writes the state of an endpoint.
 pub(crate) fn write_endpoint(endpoint: &Endpoint, c_struct: &mut CEndpoint)
     ensures { c_struct.new ≡ c_endpoint (values_of endpoint.now) }
 {
     write_endpoint_view(&endpoint.parts(), c_struct);
 }
 
-/// Writes the state of an endpoint as plain data.
 pub(crate) fn write_endpoint_view(parts: &EndpointView<'_>, c_struct: &mut CEndpoint)
     requires size { length parts.now.window.held.now ≤ 8 }
     requires sabm_info { length parts.now.sabm_info.now ≤ largest_n201 }
@@ -199,7 +197,7 @@ pub(crate) fn write_endpoint_view(parts: &EndpointView<'_>, c_struct: &mut CEndp
     write_buffers(window.held, &mut c_struct.held);
 }
 
-/// Writes these messages to the array, and fills the rest of it with empty messages.
+/// Writes these messages to the array, and fills the rest of it with empty messages, so that equal endpoints have equal structs.
 fn write_buffers(messages: &[MessageBuffer], buffers: &mut [MessageBuffer; 8])
     requires { length messages.now ≤ 8 }
     ensures { buffers.new ≡ buffers_of_messages 8 (map octets_in_buffer messages.now) }

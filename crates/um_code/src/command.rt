@@ -1,4 +1,4 @@
-//! The `code` command: encodes the information of blocks, access bursts and synchronisation bursts, and writes the bursts.
+//! Implements the `code` command as an `Answer` for the driver.
 ghost use Rattle.std.specs.Prelude.{◌≡◌, [], Ok, Err, MatchResult};
 ghost use Rattle.um_driver.specs.Rules.{answer_to_meaning};
 ghost use Rattle.um_formats.specs.CodeLines.{code_line};
@@ -31,6 +31,7 @@ impl Answer for Code {
     }
 }
 
+// Rare lines are answered out of the way of blocks, the most frequent lines.
 #[cold]
 #[inline(never)]
 fn write_coded_access_burst(out: &mut Text, info: &Bits<8>, bsic: &Bits<6>)

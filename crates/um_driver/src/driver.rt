@@ -47,6 +47,7 @@ fn answer_next_line<C: Command, S: Source>(
 
 /// Replaces the contents of `out` with the line that reports why line `line_number`, or the end of the input, is refused. Returns the
 /// status `BadInput`.
+// Cold and not inlined: it runs once a run, and is kept out of the way of each line.
 #[cold]
 #[inline(never)]
 fn write_refusal(line_number: u64, fault: LineFault, out: &mut Text) -> Status
@@ -60,6 +61,7 @@ fn write_refusal(line_number: u64, fault: LineFault, out: &mut Text) -> Status
 
 /// Writes the octets in the output buffer, and then those of `out`, to `output`. Returns the final status: `WriteFault` if a write fails,
 /// otherwise `status`. After a read failure it writes nothing, because the buffer was written before the source was read.
+// Cold and not inlined, as `write_refusal`.
 #[cold]
 #[inline(never)]
 fn write_final_output<K: Sink>(
@@ -81,7 +83,8 @@ fn write_final_output<K: Sink>(
     }
 }
 
-/// Writes the octets in the output buffer to `output` if the reader must read from the source to return its next result.
+/// Writes the octets in the output buffer to `output` if the reader must read from the source to return its next result, so that each line
+/// is answered before more input is read.
 #[inline(always)]
 fn flush_before_read<K: Sink>(
     lines: &mut Lines,
@@ -121,6 +124,7 @@ fn answer_all_lines<C: Command, S: Source, K: Sink>(
 {
     let mut out = Text::new();
     let mut gathered = OutputBuffer::new();
+    // A `match` at each exit, since the prover takes `.is_err()` badly in a function with many exits.
     loop {
         match flush_before_read(lines, &mut gathered, output) {
             Ok(()) => {}

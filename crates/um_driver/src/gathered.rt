@@ -60,6 +60,7 @@ impl OutputBuffer {
     }
 
     /// Writes all octets in the buffer to `output`. If this succeeds, the buffer is empty.
+    // Cold and not inlined: it runs once a reading, or when the buffer is full, and is kept out of the way of each line.
     #[cold]
     #[inline(never)]
     pub(crate) fn flush<K: Sink>(&mut self, output: &mut K) -> Result<(), Failed>
@@ -72,7 +73,6 @@ impl OutputBuffer {
         Ok(())
     }
 
-    /// Writes all octets in the buffer to `output` if `due` is true.
     pub(crate) fn flush_if<K: Sink>(&mut self, due: bool, output: &mut K) -> Result<(), Failed>
         ensures gathers { BuffersTextIfOk result self.old self.new (K.taken output.old) (K.taken output.new) }
         ensures empty { IsTrue due → OnOk result (self.new ≡ []) }
@@ -82,7 +82,8 @@ impl OutputBuffer {
         if due { self.flush(output) } else { Ok(()) }
     }
 
-    /// Appends `octets` to the buffer. If they do not fit, first writes the buffered octets to `output`.
+    /// Appends `octets` to the buffer. If they do not fit, first writes the buffered octets to `output`. An answer without octets, as to
+    /// three of four bursts, is not copied.
     pub(crate) fn add<K: Sink>(&mut self, octets: &[u8], output: &mut K) -> Result<(), Failed>
         requires { length octets.now ≤ 4096 }
         ensures gathers { BuffersTextIfOk result (self.old ++ octets.now) self.new (K.taken output.old) (K.taken output.new) }
@@ -97,7 +98,6 @@ impl OutputBuffer {
         Ok(())
     }
 
-    /// Appends `octets` to the buffer, and then writes all buffered octets to `output`.
     pub(crate) fn add_and_flush<K: Sink>(
         &mut self,
         octets: &[u8],

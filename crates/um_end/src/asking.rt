@@ -9,7 +9,6 @@ ghost use Rattle.um_end.specs.CallEvents.{IsCallEvent, sapi_of_call_event, endpo
 use lapdm_end::{Call, Sapi};
 use um_link::Event;
 
-/// The SAPI of the endpoint that the event calls.
 pub(crate) fn sapi_of_event(event: &Event<'_>) -> Sapi
     ensures { result ≡ sapi_of_call_event (spec_event_of event.now) }
 {
@@ -22,7 +21,6 @@ pub(crate) fn sapi_of_event(event: &Event<'_>) -> Sapi
     }
 }
 
-/// The endpoint call that the event requests.
 pub(crate) fn endpoint_call_of_event<'a>(event: &Event<'a>) -> Call<'a>
     requires call { IsCallEvent (spec_event_of event.now) }
     ensures asked_call { endpoint_call_of result ≡ endpoint_call_in_event (spec_event_of event.now) }

@@ -123,7 +123,6 @@ fn write_answer(out: &mut Text, terminal: &Terminal, outcome: &Result<(), No>, s
     }
 }
 
-/// Appends the burst lines of each frame to `out`.
 fn push_block_lines(out: &mut Text, terminal: &Terminal, frames: &[[u8; BLOCK_OCTETS]])
     requires space { length out.old < 2000 }
     requires size { length frames.now ≤ 2 }

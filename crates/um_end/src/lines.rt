@@ -57,7 +57,6 @@ pub fn parse_end<'a>(
     }
 }
 
-/// Returns whether a line begins with the name of an endpoint of this side.
 fn begins_with_own_endpoint_name(line: &[u8], side: End) -> bool
     ensures { result ≡ names_endpoint_of_side (spec_role_of side) (words line.now) }
 {
@@ -91,7 +90,7 @@ fn parse_call_line<'a>(
     }
 }
 
-/// Converts the fault of a call line outside a block, if any, to its fault inside a block.
+/// The fault of a call line inside a block, where only `Word` comes before `Order`.
 fn call_line_fault_in_block(fault: Option<LineFault>) -> LineFault
     ensures { Some result ≡ call_line_fault_inside_block fault }
 {
@@ -101,7 +100,8 @@ fn call_line_fault_in_block(fault: Option<LineFault>) -> LineFault
     }
 }
 
-/// Parses a line with one burst of a block. The `end` command does not allow access bursts or synchronisation bursts.
+/// Parses a line with one burst of a block as if three bursts came before it: an access or synchronisation burst, which `end` does not
+/// allow, then has the fault `Order`, and here `Word`.
 fn parse_burst_line<'a>(
     line: &[u8],
     side: End,
@@ -127,7 +127,7 @@ fn end_command_line_of_burst_line<'a>(burst_line: BurstLine) -> EndCommandLine<'
     }
 }
 
-/// Converts the fault of a burst line inside a block in `replay` to its fault in the `end` command.
+/// The fault in `end` of a burst line that has this fault inside a block of `replay`.
 fn end_command_fault_of_burst_line(fault: LineFault) -> LineFault
     ensures { Some result ≡ burst_line_fault_in_end_command (Some fault) }
 {

@@ -68,7 +68,8 @@ impl Terminal {
         }
     }
 
-    /// Carries out a layer 3 call to an endpoint of this side and writes the result into `step`. A refused call leaves `step` unchanged.
+    /// Carries out a layer 3 call to an endpoint of this side and writes the result into `step`: a step has more than 850 octets, and to
+    /// return it would copy them. A refused call leaves `step` unchanged.
     pub fn ask_into(&mut self, event: &Event<'_>, step: &mut Step) -> Result<(), No>
         requires own { IsCallOfRole (role_of_terminal self.old) (spec_event_of event.now) }
         ensures refines { CallRefinesSideStep (spec_event_of event.now) self.old (result_with_step result step.new) self.new }
@@ -133,7 +134,6 @@ impl Terminal {
         send_block(octets, self.tsc)
     }
 
-    /// Records in `step` the side that acted and the SAPI.
     fn set_side_and_sapi(&self, sapi: Sapi, step: &mut Step)
         ensures step { spec_step_of step.new ≡ record {
           who = E.BySide (role_of_terminal self.now);

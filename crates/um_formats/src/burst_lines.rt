@@ -46,7 +46,7 @@ pub fn parse_burst(line: &[u8], held: u8) -> Result<BurstLine, LineFault>
     parse_burst_words(line, held)
 }
 
-/// Parses the words of a line that is not skipped, as `parse_burst` does.
+/// As `parse_burst`, for a line that is not skipped and has at most 4,096 octets.
 #[inline(never)]
 pub fn parse_burst_words(line: &[u8], held_bursts: u8) -> Result<BurstLine, LineFault>
     ensures { result ≡ burst_parse_result held_bursts (words line.now) }
@@ -99,6 +99,7 @@ fn parse_hard_normal_burst(operands: &[u8]) -> Result<BurstLine, LineFault>
     Ok(BurstLine::Normal(hard_values(operands)))
 }
 
+// Searches the text for a space only if some octet is not a digit, as `parse_hard_normal_burst` does.
 #[tactic(auto, using(crate::proofs::BurstLines::hex_word, crate::proofs::BurstLines::whole_word))]
 fn parse_soft_normal_burst(operands: &[u8]) -> Result<BurstLine, LineFault>
     ensures { (held : ℕ) → result ≡ burst_parse_result held (codes "N" ∷ words operands.now) }

@@ -7,7 +7,7 @@ ghost use Rattle.um_formats.specs.BurstTexts.{normal_burst_text, access_burst_te
 use um_block::{BURST_BITS, Bits};
 use um_lines::Text;
 
-/// Writes the text line of a normal burst.
+/// Writes the line `n DIGITS148` of a normal burst.
 pub fn normal_line(out: &mut Text, burst: &[u8; BURST_BITS])
     requires empty { out.old ≡ [] }
     requires bits { AllBits burst.now }
@@ -17,7 +17,7 @@ pub fn normal_line(out: &mut Text, burst: &[u8; BURST_BITS])
     push_normal_burst(out, burst);
 }
 
-/// Writes the text lines of the four normal bursts of a block.
+/// Writes the four lines `n DIGITS148` of a block.
 pub fn write_block_burst_lines(out: &mut Text, bursts: &[[u8; BURST_BITS]; 4])
     requires empty { out.old ≡ [] }
     requires bits { All AllBits bursts.now }
@@ -27,7 +27,7 @@ pub fn write_block_burst_lines(out: &mut Text, bursts: &[[u8; BURST_BITS]; 4])
     push_block(out, bursts);
 }
 
-/// Appends the text lines of the four normal bursts of a block.
+/// Appends the four lines `n DIGITS148` of a block, 604 octets.
 pub fn push_block(out: &mut Text, bursts: &[[u8; BURST_BITS]; 4])
     requires space { length out.old + 604 ≤ 4096 }
     requires bits { All AllBits bursts.now }
@@ -39,7 +39,7 @@ pub fn push_block(out: &mut Text, bursts: &[[u8; BURST_BITS]; 4])
     }
 }
 
-/// Writes the text line of an access burst, with the base station identity code (BSIC) of its cell.
+/// Writes the line `a BSIC6 DIGITS88` of an access burst, with the base station identity code (BSIC) of its cell.
 pub fn access_line(out: &mut Text, bsic: &Bits<6>, burst: &[u8; 88])
     requires empty { out.old ≡ [] }
     requires bits { AllBits burst.now }
@@ -53,7 +53,7 @@ pub fn access_line(out: &mut Text, bsic: &Bits<6>, burst: &[u8; 88])
     out.push(b"\n");
 }
 
-/// Writes the text line of a synchronisation burst.
+/// Writes the line `s DIGITS148` of a synchronisation burst.
 pub fn sync_line(out: &mut Text, burst: &[u8; BURST_BITS])
     requires empty { out.old ≡ [] }
     requires bits { AllBits burst.now }

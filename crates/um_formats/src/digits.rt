@@ -4,7 +4,6 @@ ghost use Rattle.um_lines.specs.Fields.{is_digit_up_to};
 
 use um_lines::parse_digit_up_to;
 
-/// Whether a word is one digit from `0` to `max_digit`.
 pub(crate) fn is_digit_up_to(max_digit: u8, word: &[u8]) -> bool
     requires { max_digit ≤ 9 }
     ensures { result ≡ is_digit_up_to max_digit word.now }
@@ -12,7 +11,6 @@ pub(crate) fn is_digit_up_to(max_digit: u8, word: &[u8]) -> bool
     parse_digit_up_to(max_digit, word).is_ok()
 }
 
-/// Returns the number, 0 to 7, that a word of one digit represents.
 pub(crate) fn value_of_digit(word: &[u8]) -> u8
     requires { IsTrue (is_digit_up_to 7 word.now) }
     ensures value { result ≡ slice_index word.now 0 - 48 }

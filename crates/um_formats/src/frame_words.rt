@@ -38,7 +38,7 @@ pub(crate) enum FrameFormat {
     WithoutInfo(&'static [u8]),
 }
 
-/// Returns the word that names a frame kind, and the format of the fields that follow it.
+/// The writer and the parser of frame lines both take the fields of a kind from this table.
 pub(crate) fn kind_word_and_frame_format(kind: Kind) -> (&'static [u8], FrameFormat)
     ensures word { result.0.now ≡ (syntax kind).word }
     ensures shape { spec_frame_format_of result.1 ≡ (syntax kind).shape }
@@ -58,7 +58,6 @@ pub(crate) fn kind_word_and_frame_format(kind: Kind) -> (&'static [u8], FrameFor
     }
 }
 
-/// Returns the frame kind that the word names, or `None`.
 fn kind_of_word(word: &[u8]) -> Option<Kind>
     ensures known { IfSome result (λ kind. word.now ≡ (syntax kind).word) }
     ensures unknown { IfNone result (list_any (bytes_eq word.now) (map (λ kind. (syntax kind).word) all_frame_kinds) ≡ false) }
@@ -196,7 +195,7 @@ fn parse_p_bit_m_bit_and_info<'a>(
 }
 
 /// Returns the words for the value of the named bit and for the information, which follows it. Only the contract uses `LEAST`, the minimum
-/// number of information octets.
+/// number of information octets: their number is tested after all digits, because the fault `Digits` comes before `Length`.
 fn parse_bit_and_information<'a, const LEAST: usize>(
     fields: &'a [u8],
     name: &[u8],
@@ -260,7 +259,7 @@ impl FrameWords<'_> {
                 .have_valid_digits(kind_word_and_frame_format(self.kind).1)
     }
 
-    /// Whether the number of information octets is within the limits of its field.
+    /// Whether the frame has at most 20 octets of information, and an I frame at least one.
     pub(crate) fn has_valid_info_length(&self) -> bool
         ensures { result ≡ not (has_faulty_word has_wrong_length (frame_fields (syntax self.now.kind)) (frame_line_words self.now)) }
     {
@@ -332,7 +331,6 @@ impl<'a> FrameFieldWords<'a> {
         }
     }
 
-    /// Returns the fields of the frame, given its kind, the format of that kind, and its information octets.
     fn frame_fields_of_kind<'b>(
         &self,
         kind: Kind,

@@ -35,7 +35,7 @@ pub fn octets_line(out: &mut Text, octets: &[u8; BLOCK_OCTETS])
     out.push(b"\n");
 }
 
-/// Appends the text line of the frame in an SDCCH block, or the line `unread REASON` if the block does not hold a valid frame.
+/// Appends what `frame_line` writes.
 pub(crate) fn push_frame(out: &mut Text, octets: &[u8; BLOCK_OCTETS])
     requires { length out.old + 100 ≤ 4096 }
     ensures text { (text : List ℕ) × IsTextOfOctets octets.now text × (out.new ≡ out.old ++ text) }

@@ -50,7 +50,7 @@ pub enum BurstsToDecode {
     Skip,
     /// A normal burst, which is held until its block is complete.
     Held,
-    /// The fourth burst of a block. `HeldBursts::block` returns the whole block.
+    /// The fourth burst of a block. `HeldBursts::block` lends the whole block, so that it is not copied.
     Block,
     /// An access burst, and the base station identity code (BSIC) of the cell.
     Access { bsic: Bits<6>, soft: [i8; 88] },
@@ -96,7 +96,7 @@ impl HeldBursts {
         self.count_burst()
     }
 
-    /// Adds the burst whose hard bits these digits represent, and returns true if it completes a block.
+    /// As `add`, for hard bits given as digits. Writes their soft values at their place in the block, so that no burst is copied.
     #[tactic(auto, using(crate::proofs::BurstLines::adds_next, crate::proofs::BurstLines::written_next))]
     fn add_hard_burst(&mut self, digits: &[u8]) -> bool
         requires each { IsTrue (list_all is_bit_digit digits.now) }
@@ -107,7 +107,7 @@ impl HeldBursts {
         self.count_burst()
     }
 
-    /// Adds the burst whose soft values these octets represent, and returns true if it completes a block.
+    /// As `add`, for soft values given as octets.
     #[tactic(auto, using(crate::proofs::BurstLines::adds_next, crate::proofs::BurstLines::written_next))]
     fn add_soft_burst(&mut self, octets: &[u8; BURST_BITS]) -> bool
         requires { AllSoftBits (signed_octets octets.now) }
@@ -147,6 +147,7 @@ pub fn hold_normal_burst(line: &[u8], held: &mut HeldBursts) -> Option<bool>
     }
 }
 
+// Decodes into an array of its own, because a line that turns out to be no burst must leave `held` unchanged.
 #[inline(never)]
 fn hold_soft_burst(line: &[u8], held: &mut HeldBursts) -> Option<bool>
     ensures { MatchOption result ((held.new ≡ held.old) × ((digits : List ℕ) → ¬ IsSoftNormalBurstLine line.now digits))
@@ -164,6 +165,7 @@ fn hold_soft_burst(line: &[u8], held: &mut HeldBursts) -> Option<bool>
 }
 
 /// Parses a line as `parse_burst` does, and adds a normal burst to `held`. Any other line, or a fault, leaves `held` unchanged.
+// Not inlined: it serves the rare lines, since `replay` tries `hold_normal_burst` first.
 #[inline(never)]
 pub fn parse_and_hold_burst(line: &[u8], held: &mut HeldBursts) -> Result<BurstsToDecode, LineFault>
     ensures means { IfOk result (λ next. (meaning : Meaning) × BurstLineMeans (length held.old.held) line.now meaning

@@ -47,6 +47,7 @@ pub fn sync_report(out: &mut Text, r: &ReceivedSync)
     push_data_and_crc_bits(out, &r.u, 25, 35);
 }
 
+// Packs the octets from `u`, because a block whose CRC is wrong has no accepted octets.
 fn push_block(out: &mut Text, report: &Received)
     requires { out.old ≡ [] }
     ensures text { out.new ≡ block_report_line report.now }

@@ -20,7 +20,8 @@ pub(crate) fn hard_values<const N: usize>(digits: &[u8]) -> [i8; N]
     values
 }
 
-/// Writes the soft values of `N` hard bits, given as digits, to `values`: 127 for `0`, -127 for `1`.
+/// Writes what `hard_values` returns. A plain loop: sixteen digits at a time, the last sixteen overlapping, took 18 instructions more for
+/// a burst.
 pub(crate) fn write_soft_values_of_bit_digits<const N: usize>(digits: &[u8], values: &mut [i8; N])
     requires each { IsTrue (list_all is_bit_digit digits.now) }
     requires size { length digits.now ≡ N }
@@ -32,6 +33,7 @@ pub(crate) fn write_soft_values_of_bit_digits<const N: usize>(digits: &[u8], val
     }
 }
 
+// The digit `1` gives 129, which is -127 as a signed octet.
 fn soft_value_of_bit_digit(digit: u8) -> i8
     requires { IsTrue (is_bit_digit digit) }
     ensures { result ≡ soft_bit_of (digit - 48) }
@@ -57,7 +59,7 @@ pub(crate) fn soft_values_of_hex_digits<const N: usize>(digits: &[u8]) -> Result
     Ok(values)
 }
 
-// Whether one of the octets is 0x80, the soft value -128.
+// Whether one of the octets is 0x80, the soft value -128. A plain loop: a test in steps of sixteen took 18 instructions more for a burst.
 pub(crate) fn has_minus_128(octets: &[u8]) -> bool
     ensures { result ≡ list_any (λ octet. octet == 128) octets.now }
 {

@@ -147,7 +147,7 @@ fn read_into<S: Source>(source: &mut S, octets: &mut Vec<u8>, start: usize) -> R
     source.take(&mut octets[start..])
 }
 
-/// Returns the index of the first line feed, if there is one. Finds a line feed at index 0 without a search.
+/// Returns the index of the first line feed, if there is one. One that an earlier call has found is at index 0, and takes no search.
 fn find_line_feed(octets: &[u8]) -> Option<usize>
     ensures { MatchOption result (IsLine octets.now) (IsFirstLineFeed octets.now) }
 {

@@ -11,7 +11,7 @@ use crate::streams::{Failed, NoMemory, Source};
 use std::alloc::Global;
 use std::marker::Model;
 
-/// The maximum number of octets in an input.
+/// The maximum number of octets in an input, 64 MiB.
 const INPUT_LIMIT: u64 = 67_108_864;
 
 /// The result of one call of a line reader.

@@ -241,6 +241,7 @@ impl<'a> Sink for MemorySink<'a> {
         if self.failing_calls.contains(&self.call_count) || count > self.room - self.octets.len() {
             return Err(count_failure(&mut self.faults));
         }
+        // This cannot fail: `new` has allocated `room` octets.
         self.octets.extend_from_slice(&piece[..count]).unwrap();
         Ok(count)
     }

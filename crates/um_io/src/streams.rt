@@ -26,7 +26,8 @@ impl From<AllocError> for NoMemory {
 
 /// A source of octets.
 ///
-/// `left` holds the remaining octets, if the source knows them. `faults` counts failures, up to `u64::MAX`.
+/// `left` holds the remaining octets, if the source knows them. `faults` counts failures, up to `u64::MAX`. `is_call` relates the states
+/// before and after a call, because a contract cannot count calls.
 pub trait Source {
     ghost left: { Self → Option (List ℕ) };
 
@@ -73,7 +74,7 @@ pub trait Sink {
         ensures cause { OnErr result (FailureCountRose (faults self.old) (faults self.new)) };
 }
 
-/// Counts a failure and returns the error.
+/// Raises the count, up to `u64::MAX`.
 pub(crate) fn count_failure(count: &mut u64) -> Failed
     ensures raised { count.new ≡ next_failure_count count.old }
     ensures later { count.old ≤ count.new }

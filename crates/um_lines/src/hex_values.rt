@@ -15,7 +15,7 @@ pub(crate) struct HexValues {
 }
 
 impl HexValues {
-    /// Returns sixteen values, all of them 0.
+    /// Sixteen zeros, with which a series of `maxima` begins.
     #[inline(always)]
     pub(crate) fn new() -> HexValues
         ensures count { length result.lanes ≡ 16 }
@@ -35,6 +35,8 @@ impl HexValues {
         ensures values { IsTrue (list_all is_hex_digit (take 16 (drop from digits.now)))
             → result.lanes ≡ map digit_value (take 16 (drop from digits.now)) }
     {
+        // `decimal` is 240 to 249 for `0` to `9`, which 16 more makes 0 to 9; `letter` is 0 to 5 for letters, which 10 more makes 10 to 15.
+        // For all other octets each sum is above 15, so the lesser of the two is the value, without a branch.
         let octets = u8x16::from_slice(&digits[from..from + 16]);
         let decimal = (octets + u8x16::splat(198)).saturating_sub(u8x16::splat(6));
         let letter = (octets & u8x16::splat(223)) + u8x16::splat(191);
@@ -59,7 +61,6 @@ impl HexValues {
         }
     }
 
-    /// Returns whether all sixteen values are at most 15, as the values of hexadecimal digits are.
     #[inline(always)]
     pub(crate) fn are_digits(self) -> bool
         requires { length self.lanes ≡ 16 }

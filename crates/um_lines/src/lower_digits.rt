@@ -1,9 +1,8 @@
-//! Writes octets as lowercase hexadecimal digits, two digits for each octet.
+//! Writes octets as lowercase hexadecimal digits, two digits for each octet, the high one first.
 ghost use Rattle.std.specs.Prelude.{◌≡◌, ◌+◌, ◌*◌, ◌<◌, ◌≤◌, ◌/◌, ◌%◌, ℕ, length, slice_index};
 ghost use Rattle.hex.specs.Hex.{encode_lower, lower_digits};
 ghost use Rattle.um_lines.specs.HexPlaces.{HasDigitsOfOctet};
 
-/// Writes the octets as lowercase hexadecimal digits, high digit first.
 #[tactic(auto, using(crate::proofs::Texts::digits_from_places))]
 pub(crate) fn write_lower_hex(octets: &[u8], digits: &mut [u8])
     requires size { length digits.old ≡ 2 * length octets.now }

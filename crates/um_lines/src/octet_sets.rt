@@ -23,6 +23,7 @@ pub(crate) fn all_octets_in_set<S: OctetSet>(word: &[u8]) -> bool
     }
 }
 
+// No octet ends the loop early, so that the compiler can vectorise it.
 fn all_in_set_one_by_one<S: OctetSet>(word: &[u8]) -> bool
     ensures { result ≡ list_all S.has word.now }
 {

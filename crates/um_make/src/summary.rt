@@ -15,7 +15,6 @@ use um_link::{Air, Event, No, Notice, Received, Sapi, Step, Who};
 pub struct Summary {
     /// How many events there were.
     pub steps: u64,
-    /// How many blocks were sent.
     pub sent_blocks: u64,
     /// How many blocks were received with a good CRC.
     pub good_blocks: u64,

@@ -25,7 +25,8 @@ impl<const N: usize> Model for WordComparison<N> {
     ghost view = { λ c. record { best = c.best; next = c.next; margin = c.margin; metric = c.metric } };
 }
 
-/// Finds the two most likely words of `N` bits; `soft` holds two soft bits for each bit of a word.
+/// Finds the two most likely words of `N` bits; `soft` holds two soft bits for each bit of a word. Decodes twice, because `margin` does not
+/// return the path metric.
 pub(crate) fn compare_words<const N: usize>(soft: &[i8]) -> WordComparison<N>
     requires count { length soft.now ≡ 2 * N }
     requires at_least { 5 ≤ N }

@@ -1,4 +1,4 @@
-//! The `show` command: converts LAPDm frames between octets and text.
+//! Implements the `show` command as an `Answer` for the driver.
 ghost use Rattle.std.specs.Prelude.{◌≡◌, [], Ok, Err, MatchResult};
 ghost use Rattle.um_driver.specs.Rules.{answer_to_meaning};
 ghost use Rattle.um_formats.specs.ShowLines.{show_line};

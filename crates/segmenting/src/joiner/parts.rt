@@ -17,7 +17,7 @@ impl Joiner {
         &self.octets[..self.len]
     }
 
-    /// Returns which part of a message the `Joiner` holds.
+    /// Returns which part of a message these octets form.
     pub fn part(&self) -> ReassemblyState
         ensures { result ≡ (values_of self.now).part }
     {
@@ -39,6 +39,7 @@ impl Joiner {
             return false;
         }
         let len = octets.len();
+        // First `Open`, of which the ghost fields say nothing, so that they hold throughout.
         self.part = ReassemblyState::Open;
         self.octets[0..len].copy_from_slice(octets);
         self.len = len;
