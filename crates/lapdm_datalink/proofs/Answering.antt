@@ -1,11 +1,16 @@
 -- What a link does in a slot: nothing is owed after it, and the slot after an I frame carries its answer.
-use Rattle.std.specs.Prelude.{◌≡◌, ℕ, Bool, true, false, ◌||◌, ◌⊎◌, nat_eq, Option, Some, None}
-use Rattle.std.proofs.Common.{inl, inr, arith, refl}
+use Rattle.std.proofs.lemmas.Bool.{cases_Bool}
+use Rattle.std.specs.Prelude.{◌≡◌, ℕ, Bool, true, false, not, ◌&&◌, ◌||◌, ◌⊎◌, if◌then◌else◌, nat_eq}
+use Rattle.std.specs.Prelude.{Option, Some, None}
+use Rattle.std.proofs.Common.{inl, inr, arith, refl, sym}
 use Rattle.lapdm_frame.specs.Content.{Frame}
 use Rattle.lapdm_end.specs.lapdm_window.declared.State.TheVariants.{Open, Closed}
 use Rattle.lapdm_end.specs.lapdm_window.segmenting.Segments.{Segment}
-use Rattle.lapdm_end.specs.lapdm_window.Ends.{vr}
-use Rattle.lapdm_datalink.specs.Links.{LinkState, after_slot, slot_outcome, sabm_goes_first, is_due, keeps_back}
+use Rattle.lapdm_end.specs.lapdm_window.Ends.{EndpointState, vr, awaits_answer}
+use Rattle.lapdm_end.specs.lapdm_window.Calls.{t200_expiry}
+use Rattle.lapdm_datalink.specs.Links.{LinkState, SlotOutcome, after_slot, slot_outcome, slot_outcome_owing, sabm_goes_first, is_due}
+use Rattle.lapdm_datalink.specs.Links.{keeps_back, is_opening, sends_due_frame, sends_nothing, sends_answer, sends_awaited, expires}
+use Rattle.lapdm_datalink.specs.Progress.{answer_goes, expires_in}
 use Rattle.lapdm_datalink.specs.Slots.{IsStepOfEndpoint, nr_in, nr_of, took}
 
 pub owes_nothing : (l : LinkState) → sabm_goes_first l ≡ false → (slot_outcome l).link.answer ≡ None
@@ -60,11 +65,10 @@ module _ (l : LinkState) (h : l.endpoint.state ≡ Open) (g : l.answer ≡ None)
 
   pub says_took : (ns nr : ℕ) (p : Bool) (segment : Segment) → (nat_eq ns (vr l.endpoint) || p) ≡ true →
       Says (took ns nr p segment l)
-  says_took ns nr true segment k = by_match (nat_eq ns (vr l.endpoint)) refl
-    where
-      by_match : (b : Bool) → nat_eq ns (vr l.endpoint) ≡ b → Says (took ns nr true segment l)
-      by_match true e = says_accepted_poll ns nr segment e
-      by_match false e = says_rejected ns nr segment e
+  says_took ns nr true segment k = elim (cases_Bool (nat_eq ns (vr l.endpoint))) [
+    | inl e ↦ says_accepted_poll ns nr segment e
+    | inr e ↦ says_rejected ns nr segment e
+  ]
   says_took ns nr false segment k = says_accepted ns nr segment (grind (arith, k))
 
 pub answers_i_frame : (l : LinkState) → l.endpoint.state ≡ Open → l.answer ≡ None →
@@ -76,58 +80,82 @@ answers_i_frame l h g ns nr p segment k =
     carries (after_slot (took ns nr p segment l)) (stays_open l h g ns nr p segment)
     (says_after_slot (took ns nr p segment l) (says_took l h g ns nr p segment k))
 
--- ---- what a slot does to the endpoint
+-- ---- the five things that a link may do in a slot
+
+pub data IsSlot (l : LinkState) : SlotOutcome → Type 0 where
+  sabm_first : is_opening l.endpoint.state ≡ true → sabm_goes_first l ≡ true → is_due l ≡ true → l.is_sent ≡ false →
+      IsSlot l (sends_awaited l)
+  idles : sabm_goes_first l ≡ false → l.answer ≡ None → is_due l ≡ false → IsSlot l (sends_nothing l)
+  answering : (f : Frame) → sabm_goes_first l ≡ false → l.answer ≡ Some f → keeps_back f l ≡ false →
+      IsSlot l (sends_answer f l)
+  repeating : awaits_answer l.endpoint ≡ true → is_due l ≡ true → l.is_sent ≡ false →
+      IsSlot l (sends_awaited (record l { answer = None }))
+  expiring : awaits_answer l.endpoint ≡ true → l.is_sent ≡ true → is_due l ≡ true → expires_in l ≡ true →
+      IsSlot l (expires (record l { answer = None }))
 
 module _ (l : LinkState) where
-  due_step : (a : Option Frame) → l.answer ≡ a → (b : Bool) → is_due l ≡ b → (c : Bool) → l.is_sent ≡ c → (k : Bool) →
-      ((f : Frame) → a ≡ Some f → keeps_back f l ≡ k) → IsStepOfEndpoint l (slot_outcome l)
-  due_step None n false e c g k kept = inl (record {
-    endpoint = grind (arith, n, e);
-    frame = inl (grind (arith, n, e));
-    notices = grind (arith, n, e);
-  })
-  due_step None n true e false g k kept = inr (inl (record {
-    awaits = grind (arith, e);
-    repeats = grind (arith, n, e, g);
-    frame = grind (arith, n, e, g);
-    notices = grind (arith, n, e, g);
-  }))
-  due_step None n true e true g k kept = inr (inr (record {
-    awaits = grind (arith, e);
-    expires = grind (arith, n, e, g);
-    frame = grind (arith, n, e, g);
-    notices = grind (arith, n, e, g);
-  }))
-  due_step (Some f) n b e c g false kept = inl (record {
-    endpoint = grind (arith, n, kept f refl);
-    frame = inr (grind (arith, n, kept f refl));
-    notices = grind (arith, n, kept f refl);
-  })
-  due_step (Some f) n false e c g true kept =
-      inl (record {
-        endpoint = grind (arith, n, kept f refl, e);
-        frame = inl (grind (arith, n, kept f refl, e));
-        notices = grind (arith, n, kept f refl, e);
-      })
-  due_step (Some f) n true e false g true kept = inr (inl (record {
-    awaits = grind (arith, e);
-    repeats = grind (arith, n, kept f refl, e, g);
-    frame = grind (arith, n, kept f refl, e, g);
-    notices = grind (arith, n, kept f refl, e, g);
-  }))
-  due_step (Some f) n true e true g true kept = inr (inr (record {
-    awaits = grind (arith, e);
-    expires = grind (arith, n, kept f refl, e, g);
-    frame = grind (arith, n, kept f refl, e, g);
-    notices = grind (arith, n, kept f refl, e, g);
-  }))
+  pub due-awaits : is_due l ≡ true → awaits_answer l.endpoint ≡ true
+  due-awaits h = grind arith
 
-kept_by : (a : Option Frame) (l : LinkState) → (k : Bool) × ((f : Frame) → a ≡ Some f → keeps_back f l ≡ k)
-kept_by None l = (false, λ f e. absurd cc)
-kept_by (Some g) l = (keeps_back g l, λ f e. same f e)
-  where
-    same : (f : Frame) → Some g ≡ Some f → keeps_back f l ≡ keeps_back g l
-    same f e = cc
+  first-due : sabm_goes_first l ≡ true → is_due l ≡ true
+  first-due h = grind arith
 
-pub step_of_endpoint : (l : LinkState) → IsStepOfEndpoint l (slot_outcome l)
-step_of_endpoint l = let k = kept_by l.answer l in due_step l l.answer refl (is_due l) refl l.is_sent refl k.0 k.1
+  first-unsent : sabm_goes_first l ≡ true → l.is_sent ≡ false
+  first-unsent h = grind arith
+
+  first-opening : sabm_goes_first l ≡ true → is_opening l.endpoint.state ≡ true
+  first-opening h = grind arith
+
+  kept-due : (f : Frame) → keeps_back f l ≡ true → is_due l ≡ true
+  kept-due f h = grind arith
+
+  first-keeps : (f : Frame) → sabm_goes_first l ≡ true → keeps_back f l ≡ true
+  first-keeps f h = grind arith
+
+  due_by : (due first sent : Bool) → is_due l ≡ due → sabm_goes_first l ≡ first → l.is_sent ≡ sent →
+      answer_goes l.answer l ≡ false → (first ≡ false → due ≡ false → l.answer ≡ None) →
+      IsSlot l (if due then (let m = if first then l else record l { answer = None } in if sent then expires m else sends_awaited m)
+      else sends_nothing l)
+  due_by true true true due first sent goes owes_none = let e = first-unsent first in absurd cc
+  due_by true true false due first sent goes owes_none = sabm_first (first-opening first) first due sent
+  due_by true false true due first sent goes owes_none = expiring (due-awaits due) sent due (λ i. due i && sent i && not (goes i))
+  due_by true false false due first sent goes owes_none = repeating (due-awaits due) due sent
+  due_by false true sent due first is goes owes_none = let e = first-due first in absurd cc
+  due_by false false sent due first is goes owes_none = idles first (owes_none refl refl) due
+
+  due_frame : answer_goes l.answer l ≡ false → (sabm_goes_first l ≡ false → is_due l ≡ false → l.answer ≡ None) →
+      IsSlot l (sends_due_frame l)
+  due_frame goes owes_none = due_by (is_due l) (sabm_goes_first l) l.is_sent refl refl refl goes owes_none
+
+  slot_owing : (a : Option Frame) → l.answer ≡ a → IsSlot l (slot_outcome_owing a l)
+  slot_owing None n = due_frame (rw n refl) (λ first due. n)
+  slot_owing (Some f) n = by_kept (keeps_back f l) refl (sabm_goes_first l) refl
+    where
+      by_kept : (b : Bool) → keeps_back f l ≡ b → (first : Bool) → sabm_goes_first l ≡ first →
+          IsSlot l (if b then sends_due_frame l else sends_answer f l)
+      by_kept true back first e = due_frame (rw (n, back) refl) (λ none_first due. (let g = kept-due f back in absurd cc))
+      by_kept false back true e = let g = first-keeps f e in absurd cc
+      by_kept false back false e = answering f e n back
+
+  pub is_slot : IsSlot l (slot_outcome l)
+  is_slot = slot_owing l.answer refl
+
+  -- the endpoint changes only if T200 expires
+  pub slot_keeps : {A : Type 0} (f : EndpointState → A) → ((e : EndpointState) → f (t200_expiry e).new_state ≡ f e) →
+      f (slot_outcome l).link.endpoint ≡ f l.endpoint
+  slot_keeps f keeps = by (slot_outcome l) is_slot
+    where
+      by : (o : SlotOutcome) → IsSlot l o → f o.link.endpoint ≡ f l.endpoint
+      by o (expiring awaits sent due over) = keeps l.endpoint
+      by o other = refl
+
+  step_by : (o : SlotOutcome) → IsSlot l o → IsStepOfEndpoint l o
+  step_by o (sabm_first opening first due new) =
+      inr (inl (record { awaits = due-awaits due; repeats = refl; frame = refl; notices = refl }))
+  step_by o (idles first none due) = inl (record { endpoint = refl; frame = inl refl; notices = refl })
+  step_by o (answering f first owes back) = inl (record { endpoint = refl; frame = inr (sym owes); notices = refl })
+  step_by o (repeating awaits due new) = inr (inl (record { awaits = awaits; repeats = refl; frame = refl; notices = refl }))
+  step_by o (expiring awaits sent due over) = inr (inr (record { awaits = awaits; expires = refl; frame = refl; notices = refl }))
+
+  pub step_of_endpoint : IsStepOfEndpoint l (slot_outcome l)
+  step_of_endpoint = step_by (slot_outcome l) is_slot

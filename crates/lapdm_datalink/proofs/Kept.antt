@@ -1,21 +1,21 @@
 -- What a data link keeps, its role and channel, and that the frame of a slot fits in a block.
 use Rattle.{
-  std.specs.Prelude.{◌≡◌, Bool, true, false, ◌||◌, if◌then◌else◌, List, [], ◌∷◌, ◌⊎◌, All},
+  std.specs.Prelude.{◌≡◌, Bool, true, false, ◌||◌, if◌then◌else◌, List, [], ◌∷◌, All},
   std.specs.Prelude.{Option, Some, None, IfSome},
-  std.proofs.{Common.{arith, refl, sym, ap, ◌∙◌, inl, inr}, lemmas.List.Elements.All-head},
+  std.proofs.{Common.{arith, refl, ap, ◌∙◌, inl, inr}, lemmas.List.Elements.All-head},
   lapdm_frame.{specs.{Content.{Frame, Ui, fill_frame}, Frames.FrameFits}, specs.declared.Channel.Channel},
   lapdm_end.specs.lapdm_window.{
     declared.{Sapi.Sapi, Sapi.TheVariants.{Zero, Three}},
     segmenting.Segments.Message,
-    Ends.{Role, EndpointState, IsValidEndpoint},
+    Ends.{Role, IsValidEndpoint},
     Calls.{Call, SendsUi, Repeats, T200Expires, refusal_of, call_outcome, IsCallAllowedForEndpoint},
   },
   lapdm_link.proofs.lapdm_window.Lemmas.keeps-call,
   lapdm_datalink.{
     specs.{
       Links.{frame_notices, ui_frame},
-      Links.{LinkState, SlotOutcome, first_frame, for_call, after_call, after_frame, after_slot, slot_outcome},
-      DataLinks.{DataLinkState, IsDataLink, DataLinkOutcome, link_with_sapi, with_link, having_heard, sapi_for_frame, taken_by},
+      Links.{LinkState, first_frame, for_call, after_call, after_slot, slot_outcome},
+      DataLinks.{DataLinkState, IsDataLink, link_with_sapi, with_link, sapi_for_frame, taken_by},
       DataLinks.{after_arrival, with_clocks_moved, with_sapi3, data_link_outcome},
       Slots.IsStepOfEndpoint,
     },
@@ -79,12 +79,10 @@ slot-fits : (l : LinkState) → IsFit l → IfSome (slot_outcome l).frame (Frame
 slot-fits l h = by (step_of_endpoint l)
   where
     by : IsStepOfEndpoint l (slot_outcome l) → IfSome (slot_outcome l).frame (FrameFits l.endpoint.channel)
-    by (inl k) = by_frame k.frame
-      where
-        by_frame : ((slot_outcome l).frame ≡ None) ⊎ ((slot_outcome l).frame ≡ l.answer) →
-            IfSome (slot_outcome l).frame (FrameFits l.endpoint.channel)
-        by_frame (inl e) = rw e tt
-        by_frame (inr e) = rw e h.answer
+    by (inl k) = elim k.frame [
+      | inl e ↦ rw e tt
+      | inr e ↦ rw e h.answer
+    ]
     by (inr (inl k)) = rw k.frame (first-fits l.endpoint.channel (call_outcome Repeats l.endpoint).frames
         (keeps-call Repeats l.endpoint h.valid tt (rw k.awaits refl)).frames)
     by (inr (inr k)) = rw k.frame (first-fits l.endpoint.channel (call_outcome T200Expires l.endpoint).frames
@@ -119,8 +117,7 @@ pub fill-same : (cr : Bool) (d : DataLinkState) → after_arrival (fill_frame cr
 fill-same cr d = λ i. record d { link0 = ui-same 0 cr (Ui false []) d.link0 refl i; heard_sapi0 = heard d.heard_sapi0 i }
   where
     heard : (b : Bool) → (b || false) ≡ b
-    heard true = refl
-    heard false = refl
+    heard b = grind arith
 
 pub fill-silent : (cr : Bool) (l : LinkState) → frame_notices (fill_frame cr) l ≡ []
 fill-silent cr l = grind arith

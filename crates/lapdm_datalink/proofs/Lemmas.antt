@@ -55,7 +55,7 @@ pub kept_answer : (m : Link) (f : Frame) (l : LinkState) (block : List ℕ) → 
 kept_answer m f l block awaits may is h = grind (arith, may.1 awaits)
 
 -- the endpoint of a link is not changed by what is kept
-endpoint_with_frame : (f : Frame) (l : LinkState) → (with_frame f l).endpoint ≡ l.endpoint
+pub endpoint_with_frame : (f : Frame) (l : LinkState) → (with_frame f l).endpoint ≡ l.endpoint
 endpoint_with_frame f l = grind arith
 
 -- link `n` is link `m` after it kept this block
@@ -264,7 +264,7 @@ pub endpoint_with_frames : (fs : List Frame) (l : LinkState) → (with_frames fs
 endpoint_with_frames [] l = refl
 endpoint_with_frames (f ∷ fs) l = endpoint_with_frames fs (with_frame f l) ∙ endpoint_with_frame f l
 
-t200_with_frames : (fs : List Frame) (l : LinkState) → (with_frames fs l).t200 ≡ l.t200
+pub t200_with_frames : (fs : List Frame) (l : LinkState) → (with_frames fs l).t200 ≡ l.t200
 t200_with_frames [] l = refl
 t200_with_frames (f ∷ fs) l = t200_with_frames fs (with_frame f l) ∙ t200_with_frame f l
 

@@ -30,7 +30,7 @@ mod RunsWorlds
 mod RunsQueues
 mod RunsLinks
 pub mod Runs
-mod Lockstep
+pub mod Lockstep
 mod LockstepAsked
 mod LockstepRuns
 pub mod Kept

@@ -1,7 +1,7 @@
 -- Two whole data links in lockstep: the links of SAPI 0 do what they would do alone, so they make progress.
 use Rattle.{
   std.{
-    specs.Prelude.{◌≡◌, ℕ, zero, suc, ◌+◌, Bool, true, false, not, ◌&&◌, ◌||◌, if◌then◌else◌, nat_eq, List, []},
+    specs.Prelude.{◌≡◌, ℕ, zero, suc, Bool, true, false, not, ◌&&◌, ◌||◌, if◌then◌else◌, nat_eq, List, []},
     specs.{Prelude.{◌∷◌, map, All, get_or, Option, Some, None, IfSome}, List.filter_map},
     proofs.{Common.{arith, refl, sym, ap, ◌∙◌, subst}, lemmas.{List.Elements.{All-head, All-tail}, Bool.Decides.nat_tests}},
   },
@@ -10,8 +10,7 @@ use Rattle.{
     segmenting.Segments.Message,
     declared.{Sapi.{Sapi, TheVariants.{Zero, Three}}, State.State, Refused.Refused},
     Ends.{Role, Mobile, Network, EndpointState, Outcome, sapi_number, awaits_answer},
-    Rules.is_open,
-    Calls.{Call, OpensWithoutInfo, IsCallAllowedFor, refusal_of, awaited_frame, t200_expiry, is_idle},
+    Calls.{Call, OpensWithoutInfo, IsCallAllowedFor, refusal_of, awaited_frame, t200_expiry},
   },
   lapdm_link.specs.Events.other,
   lapdm_datalink.{
@@ -23,16 +22,18 @@ use Rattle.{
       Abstraction.{IsAnswer, is_answer_kind},
       Runs.after_arrival_if_any,
       Channels.{after_call_unless, carried},
-      Progress.{one_if, is_loss},
+      Progress.{is_loss, slots_with},
       Lockstep.{Part, Run, after_call_of, after_calls, frame_or_unit, side_at, link0_at, arriving_at, ready_at, outcome_at, IsCallOf},
-      Lockstep.{HasCalls, frame_of_link0, call_of_link0, turn_of, sapi_0_of, IsAsAlone, AreAsAlone, slots_with, awaits, is_loss_at},
-      Lockstep.{is_lossy, expires, frames_at, Progresses, KeepsLinks, ProgressesAfterFewLosses, PaysForExpiries},
+      Lockstep.{HasCalls, frame_of_link0, call_of_link0, turn_of, sapi_0_of, IsAsAlone, AreAsAlone, awaits, is_loss_at},
+      Lockstep.{is_lossy, expires, Progresses, KeepsLinks, ProgressesAfterFewLosses, PaysForExpiries},
     },
     proofs.{
       Returned.{IsReturned, Returns, returns-call, returns-frame},
-      RunsLinks.{IsSlot, sabm_first, idles, answering, repeating, expiring, is_slot},
+      RunsLinks.awaited-own,
+      Answering.{IsSlot, sabm_first, idles, answering, repeating, expiring, is_slot},
       ProgressAlone.sapi_0_goes_first,
-      ProgressCut.{progress_from_start, few_losses_keep_links, pays_for_expiries},
+      ProgressSlots.slots_same,
+      ProgressCut.{progress_from_start, few_losses_keep_links, paid_as, pays_for_expiries},
     },
   },
 }
@@ -90,14 +91,11 @@ own_frame s f l h =
     (own_outcome s (for_frame f l) (own_if s _ (afresh l) l (own_afresh s l h) h) (received_outcome f (for_frame f l))
     (returns-frame _ (for_frame f l).endpoint))
 
-awaited-sapi : (p : Bool) (st : State) (e : EndpointState) → (awaited_frame p st e).sapi ≡ sapi_number e.sapi
-awaited-sapi p st e = grind arith
-
 awaited-no_ui : (p : Bool) (st : State) (e : EndpointState) → is_ui (awaited_frame p st e).content ≡ false
 awaited-no_ui p st e = grind arith
 
 awaited-of : (s : Sapi) (p : Bool) (st : State) (e : EndpointState) → e.sapi ≡ s → IsOf s (awaited_frame p st e)
-awaited-of s p st e same = (awaited-sapi p st e ∙ ap sapi_number same, awaited-no_ui p st e)
+awaited-of s p st e same = (awaited-own p st e ∙ ap sapi_number same, awaited-no_ui p st e)
 
 expired-sapi : (e : EndpointState) → (t200_expiry e).new_state.sapi ≡ e.sapi
 expired-sapi e = grind arith
@@ -111,17 +109,17 @@ pub record OwnSlot (s : Sapi) (o : SlotOutcome) : Type 0 where
   pub frame : IfSome o.frame (IsOf s)
 
 own_slot_by : (s : Sapi) (l : LinkState) (o : SlotOutcome) → Owns s l → IsSlot l o → OwnSlot s o
-own_slot_by s l o h (sabm_first opening first) = record {
+own_slot_by s l o h (sabm_first opening first due new) = record {
   link = record { sapi = h.sapi; answer = h.answer };
   frame = awaited-of s false l.endpoint.state l.endpoint h.sapi;
 }
-own_slot_by s l o h (idles first owes_none) = record { link = h; frame = tt }
-own_slot_by s l o h (answering f first owes) = record { link = record { sapi = h.sapi; answer = tt }; frame = rw owes at h.answer }
-own_slot_by s l o h (repeating await) = record {
+own_slot_by s l o h (idles first owes_none due) = record { link = h; frame = tt }
+own_slot_by s l o h (answering f first owes back) = record { link = record { sapi = h.sapi; answer = tt }; frame = rw owes at h.answer }
+own_slot_by s l o h (repeating await due new) = record {
   link = record { sapi = h.sapi; answer = tt };
   frame = awaited-of s false l.endpoint.state l.endpoint h.sapi;
 }
-own_slot_by s l o h (expiring await sent) = record {
+own_slot_by s l o h (expiring await sent due over) = record {
   link = record { sapi = expired-sapi l.endpoint ∙ h.sapi; answer = tt };
   frame = expired-of;
 }
@@ -178,8 +176,7 @@ not_reopened role OpensWithoutInfo l h = absurd cc
 not_reopened role call l h = by (is_closed l.endpoint.state)
   where
     by : (b : Bool) → (if b && false then afresh l else l) ≡ l
-    by true = refl
-    by false = refl
+    by b = grind arith
 
 calls-link0 : (role : Role) (cs : List (Sapi × Call)) (d : DataLinkState) → All (IsCallOf role) cs →
     (after_calls cs d).link0 ≡ C.after_calls (filter_map call_of_link0 cs) d.link0
@@ -220,8 +217,7 @@ ui-lets : (n : ℕ) (cr : Bool) (p : Bool) (m : Message) → holds_up_sapi3 (rec
 ui-lets n cr p m = by (nat_eq n 0)
   where
     by : (b : Bool) → (b && not true) ≡ false
-    by true = refl
-    by false = refl
+    by b = grind arith
 
 unit-none : (a : Option Frame) (unit : Option (Sapi × Message)) (d : DataLinkState) → IfSome a (IsOf Three) →
     frame_of_link0 (frame_or_unit a unit d) ≡ None
@@ -235,8 +231,7 @@ none-link0 None h = refl
 none-link0 (Some f) h = rw (lets f h) refl
 
 carries-link0 : (lost : Bool) (a : Option Frame) → frame_of_link0 (carried lost a) ≡ carried lost (frame_of_link0 a)
-carries-link0 true a = refl
-carries-link0 false a = refl
+carries-link0 b a = grind arith
 
 -- in this module, each link of a data link owns what it owes before its slot
 module _ (d : DataLinkState) (h : (s : Sapi) → Owns s (link_with_sapi s d)) where
@@ -289,13 +284,11 @@ module _ (r : Run) where
   arriving n role = get_or (alone n (other role)).sent r.delay None
 
   alone_step : (n : ℕ) (role : Role) → alone (suc n) role ≡ C.side_after (turn_of (r.part n role)) (arriving n role) (alone n role)
-  alone_step n Mobile = refl
-  alone_step n Network = refl
+  alone_step n role = grind arith
 
   alone_ready : (n : ℕ) (role : Role) → P.ready_at (sapi_0_of r) n role
       ≡ C.before_sending (arriving n role) (filter_map call_of_link0 (r.part n role).calls) (alone n role).link
-  alone_ready n Mobile = refl
-  alone_ready n Network = refl
+  alone_ready n role = grind arith
 
   -- the side before the slot
   record IsJoined (n : ℕ) (role : Role) : Type 0 where
@@ -304,19 +297,7 @@ module _ (r : Run) where
     owns : (s : Sapi) → Owns s (link_with_sapi s (side_at r n role).data_link)
 
   joined_start : (role : Role) → IsJoined 0 role
-  joined_start role = record { link = link role; sent = sent role; owns = owns role }
-    where
-      link : (role : Role) → link0_at r 0 role ≡ (alone 0 role).link
-      link Mobile = refl
-      link Network = refl
-
-      sent : (role : Role) → map frame_of_link0 (side_at r 0 role).sent ≡ (alone 0 role).sent
-      sent Mobile = refl
-      sent Network = refl
-
-      owns : (role : Role) (s : Sapi) → Owns s (link_with_sapi s (side_at r 0 role).data_link)
-      owns role Zero = record { sapi = refl; answer = tt }
-      owns role Three = record { sapi = refl; answer = tt }
+  joined_start role = grind arith
 
   module _ (calls : HasCalls r) (n : ℕ) (h : (role : Role) → IsJoined n role) (role : Role) where
     abbrev part : Part
@@ -393,27 +374,15 @@ are_as_alone r calls n role = as_alone r calls n (joined r calls n) role
 
 -- ---- progress
 
-after_none : (k : ℕ) → 0 + k ≡ k
-after_none k = omega arith
-
-slots-same : (f g : ℕ → Bool) (k : ℕ) → ((m : ℕ) → f m ≡ g m) → (count : (k : ℕ) → ℕ) → count 0 ≡ 0 →
-    ((k : ℕ) → count (suc k) ≡ count k + one_if (g (0 + k))) → slots_with f k ≡ count k
-slots-same f g zero same count first next = sym first
-slots-same f g (suc k) same count first next =
-    rw (slots-same f g k same count first next, same k)
-    (sym (next k ∙ ap (λ m. count k + one_if (g m)) (after_none k)))
-
 module _ (r : Run) (calls : HasCalls r) where
   abbrev at : (n : ℕ) (role : Role) → IsAsAlone r n role
   at n role = are_as_alone r calls n role
 
   turn-lost : (n : ℕ) (role : Role) → (r.part n role).is_lost ≡ (P.turn_at (sapi_0_of r) n role).is_lost
-  turn-lost n Mobile = refl
-  turn-lost n Network = refl
+  turn-lost n role = grind arith
 
   turn-calls : (n : ℕ) (role : Role) → (turn_of (r.part n role)).calls ≡ (P.turn_at (sapi_0_of r) n role).calls
-  turn-calls n Mobile = refl
-  turn-calls n Network = refl
+  turn-calls n role = grind arith
 
   loss-same : (n : ℕ) (role : Role) → is_loss_at r n role ≡ P.is_loss_at (sapi_0_of r) n role
   loss-same n role = ap (λ b. is_loss b (frame_of_link0 (outcome_at r n role).frame)) (turn-lost n role)
@@ -428,18 +397,14 @@ module _ (r : Run) (calls : HasCalls r) where
   expires-same : (role : Role) (n : ℕ) → expires r role n ≡ P.expires_in (P.ready_at (sapi_0_of r) n role)
   expires-same role n = ap P.expires_in (at n role).ready
 
-  waits-count : (role : Role) (k : ℕ) → slots_with (awaits r role) k ≡ P.waiting_slots (sapi_0_of r) 0 k role
-  waits-count role k = slots-same _ _ k (awaits-same role) (λ j. P.waiting_slots (sapi_0_of r) 0 j role) refl (λ j. refl)
+  waits-count : (role : Role) (k : ℕ) → slots_with (awaits r role) 0 k ≡ P.waiting_slots (sapi_0_of r) 0 k role
+  waits-count role k = slots_same _ _ 0 k (λ m a. awaits-same role m)
 
-  lossy-count : (k : ℕ) → slots_with (is_lossy r) k ≡ P.lossy_slots (sapi_0_of r) 0 k
-  lossy-count k = slots-same _ _ k lossy-same (λ j. P.lossy_slots (sapi_0_of r) 0 j) refl (λ j. refl)
+  lossy-count : (k : ℕ) → slots_with (is_lossy r) 0 k ≡ P.lossy_slots (sapi_0_of r) 0 k
+  lossy-count k = slots_same _ _ 0 k (λ m a. lossy-same m)
 
-  expires-count : (role : Role) (k : ℕ) → slots_with (expires r role) k ≡ P.expiries (sapi_0_of r) 0 k role
-  expires-count role k = slots-same _ _ k (expires-same role) (λ j. P.expiries (sapi_0_of r) 0 j role) refl (λ j. refl)
-
-  frames-same : (k : ℕ) (role : Role) → frames_at r k role ≡ P.frames_at (sapi_0_of r) k role
-  frames-same k Mobile = ap (λ (l : LinkState). one_if (not (is_idle l.endpoint.state)) + l.endpoint.sent_segments) (at k Mobile).link
-  frames-same k Network = ap (λ (l : LinkState). l.endpoint.sent_segments) (at k Network).link
+  expires-count : (role : Role) (k : ℕ) → slots_with (expires r role) 0 k ≡ P.expiries (sapi_0_of r) 0 k role
+  expires-count role k = slots_same _ _ 0 k (λ m a. expires-same role m)
 
   closed-same : (k : ℕ) (role : Role) →
       is_closed (link0_at r k role).endpoint.state ≡ is_closed (P.link_at (sapi_0_of r) k role).endpoint.state
@@ -447,12 +412,13 @@ module _ (r : Run) (calls : HasCalls r) where
 
 pub data_links_progress : (r : Run) → Progresses r
 data_links_progress r calls long k kept none role =
-    let h = progress_from_start (sapi_0_of r) long k (λ n few q. rw (← turn-calls r calls n q) (kept n few q))
-    (λ q. sym (closed-same r calls k q) ∙ none q) role in
-    record {
-      waits = rw (waits-count r calls role k, lossy-count r calls k, frames-same r calls k role) h.waits;
-      expires = rw (expires-count r calls role (suc k), lossy-count r calls k) h.expires;
-    }
+    rw (
+      waits-count r calls role k,
+      expires-count r calls role (suc k),
+      ap (P.frames_of role) (at r calls k role).link,
+      lossy-count r calls k,
+    ) (progress_from_start (sapi_0_of r) long k (λ n few q. rw (← turn-calls r calls n q) (kept n few q))
+    (λ q. sym (closed-same r calls k q) ∙ none q) role)
 
 pub data_links_keep : (r : Run) → KeepsLinks r
 data_links_keep r calls long k kept few role = closed-same r calls k role ∙ few_losses_keep_links (sapi_0_of r) long k
@@ -464,14 +430,6 @@ few_losses_progress r calls long k kept few =
 
 pub data_links_pay : (r : Run) → PaysForExpiries r
 data_links_pay r calls long n kept none role again =
-    let x = pays_for_expiries (sapi_0_of r) long n (λ m early q. rw (← turn-calls r calls m q) (kept m early q))
-    (λ q. sym (closed-same r calls n q) ∙ none q) role (ap P.is_repetition (sym (at r calls n role).frame) ∙ again) in
-    record {
-      slot = x.slot;
-      before = x.before;
-      sent = ap P.is_i_frame (at r calls x.slot role).frame ∙ x.sent;
-      last = λ k h g. ap P.is_i_frame (at r calls k role).frame ∙ x.last k h g;
-      lost = λ h. rw (loss-same r calls x.slot role, loss-same r calls (suc x.slot + r.delay) (other role))
-          (x.lost (ap (λ (l : LinkState). is_open l.endpoint.state)
-          (sym (at r calls (suc x.slot + r.delay) (other role)).link) ∙ h));
-    }
+    paid_as n long (λ k h q. sym (at r calls k q).frame) (λ k h q. sym (loss-same r calls k q)) (λ k h q. sym (at r calls k q).link) role
+    (pays_for_expiries (sapi_0_of r) long n (λ m early q. rw (← turn-calls r calls m q) (kept m early q))
+    (λ q. sym (closed-same r calls n q) ∙ none q) role (ap P.is_repetition (sym (at r calls n role).frame) ∙ again))

@@ -1,5 +1,6 @@
 -- The frames of a link of SAPI 0 are at most what layer 3's accepted calls ask for.
 use Rattle.{
+  std.proofs.lemmas.Bool.cases_Bool,
   std.specs.Prelude.{◌≡◌, ℕ, zero, suc, ◌+◌, ◌≤◌, Bool, true, false, not, if◌then◌else◌, length, All},
   std.specs.Prelude.{List, [], ◌∷◌, Option, Some, None},
   std.proofs.{
@@ -30,7 +31,7 @@ use Rattle.{
       Lockstep.{IsCallOf, HasCalls, frame_of_link0, frames_of_call, frames_of_calls, asked_at, SendsWhatIsAsked},
     },
     proofs.{Answering.step_of_endpoint, ProgressAlone.sapi_0_goes_first, ProgressSteps.outcome_endpoint},
-    proofs.Lockstep.{arrives-link0, not_reopened},
+    proofs.{Lockstep.{arrives-link0, not_reopened}, ProgressSlots.one_most},
   },
 }
 
@@ -107,30 +108,22 @@ idle-stays : (f : Frame) (x : EndpointState) → x.role ≡ Mobile → x.sapi �
     (frame_outcome f x).new_state.state ≡ Idle
 idle-stays f x role sapi idle = grind arith
 
-at_most_one : (b : Bool) → one_if b ≤ 1
-at_most_one true = omega arith
-at_most_one false = omega arith
-
 opened-frame : (r : Role) (f : Frame) (x : EndpointState) → x.role ≡ r → x.sapi ≡ Zero →
     opened r (frame_outcome f x).new_state ≤ opened r x
 opened-frame Network f x role sapi = omega arith
-opened-frame Mobile f x role sapi = by (is_idle x.state) refl
+opened-frame Mobile f x role sapi = elim (cases_Bool (is_idle x.state)) [
+  | inl e ↦ rw (idle-stays f x role sapi (is e), e) (omega arith)
+  | inr e ↦ rw e (one_most (not (is_idle (frame_outcome f x).new_state.state)))
+]
   where
     is : is_idle x.state ≡ true → x.state ≡ Idle
     is h = grind arith
 
-    by : (b : Bool) → is_idle x.state ≡ b →
-        one_if (not (is_idle (frame_outcome f x).new_state.state)) ≤ one_if (not (is_idle x.state))
-    by true e = rw (idle-stays f x role sapi (is e), e) (omega arith)
-    by false e = rw e (at_most_one (not (is_idle (frame_outcome f x).new_state.state)))
-
 queued-opened : (m : Message) (x : EndpointState) (r : Role) → opened r (with_queued_message m x) ≡ opened r x
-queued-opened m x Mobile = refl
-queued-opened m x Network = refl
+queued-opened m x role = grind arith
 
 next-opened : (x : EndpointState) (r : Role) → opened r (sends_next_segment x).new_state ≤ opened r x
-next-opened x Mobile = grind arith
-next-opened x Network = omega arith
+next-opened x role = grind arith
 
 -- ---- what a link was asked for
 
@@ -204,7 +197,7 @@ module _ (r : Role) (channel : Channel) where
   opened-most e = by r
     where
       by : (r : Role) → opened r e ≤ 1
-      by Mobile = at_most_one (not (is_idle e.state))
+      by Mobile = one_most (not (is_idle e.state))
       by Network = omega arith
 
   asked-call : (n : ℕ) (call : Call) (e : EndpointState) → IsCallOf r (Zero, call) → refusal_of call e ≡ None →
@@ -243,8 +236,7 @@ module _ (r : Role) (channel : Channel) where
       (asked-call n call l.endpoint may e h)
 
   three-none : (x : Option Refused) (call : Call) → frames_of_call x channel (Three, call) ≡ 0
-  three-none None call = refl
-  three-none (Some why) call = refl
+  three-none x call = grind arith
 
   asked-calls : (cs : List (Sapi × Call)) (n : ℕ) (d : DataLinkState) → All (IsCallOf r) cs → Asked r channel n d.link0.endpoint →
       Asked r channel (n + frames_of_calls channel cs d) (after_calls cs d).link0.endpoint

@@ -99,8 +99,7 @@ module _ (peer : DataLinkState) (sent coming : List Frame) where
   arrives-goes Network lost (Some f) d h = goes-one (Arrives Mobile (carried lost (Some f))) _ _ _ (oldest lost f, h) refl refl
 
   same-link : (t : Sapi) (d : DataLinkState) → with_link t (link_with_sapi t d) d ≡ d
-  same-link Zero d = refl
-  same-link Three d = refl
+  same-link sapi d = grind arith
 
   not_afresh : (call : Call) (l : LinkState) → is_reopened_by_call call l ≡ false → for_call call l ≡ l
   not_afresh call l h = ap (λ (b : Bool). if b then afresh l else l) h
@@ -172,8 +171,7 @@ transit-none [] = refl
 transit-none (a ∷ aired) = refl
 
 cons-append : (a : Option Frame) (fs gs : List Frame) → cons_option a fs ++ gs ≡ cons_option a (fs ++ gs)
-cons-append None fs gs = refl
-cons-append (Some f) fs gs = refl
+cons-append x fs gs = grind arith
 
 transit-front : (aired : List (Option Frame)) (k : ℕ) → transit aired (suc k) ≡ cons_option (get_or aired k None) (transit aired k)
 transit-front [] k = refl

@@ -7,7 +7,8 @@ use Rattle.lapdm_end.specs.lapdm_window.declared.Notice.TheVariants as N
 use Rattle.lapdm_end.specs.lapdm_window.Ends.{Role, Mobile, Network}
 use Rattle.lapdm_end.specs.lapdm_window.Calls.{Call, Opens, OpensWithoutInfo, Sends}
 use Rattle.lapdm_link.specs.Claims.{Asked, Notified}
-use Rattle.lapdm_datalink.specs.Lockstep.{Run, log_before, slots_with, awaits}
+use Rattle.lapdm_datalink.specs.Progress.{slots_with}
+use Rattle.lapdm_datalink.specs.Lockstep.{Run, log_before, awaits}
 
 abbrev calls_in : ℕ → Role → List (Sapi × Call)
 calls_in zero Mobile = (Zero, Opens (1 ∷ [])) ∷ []
@@ -30,5 +31,5 @@ log : log_before run 6 ≡ Asked Mobile Zero (Opens (1 ∷ [])) ∷ Notified Net
 log = refl
 
 -- a round trip for the SABM, and one for the segment
-waits : slots_with (awaits run Mobile) 6 ≡ 4
+waits : slots_with (awaits run Mobile) 0 6 ≡ 4
 waits = refl

@@ -10,8 +10,7 @@ use Rattle.{
 }
 
 link_first : (o : SlotOutcome) (x : Option Frame) (s : DataLinkState) → (with_sapi3 o x s).new_state.link0 ≡ o.link
-link_first o None s = refl
-link_first o (Some f) s = refl
+link_first o x s = grind arith
 
 frame_first : (o : SlotOutcome) (x : Option Frame) (s : DataLinkState) (f : Frame) → x ≡ Some f → (with_sapi3 o x s).frame ≡ Some f
 frame_first o None s f e = absurd cc
@@ -23,8 +22,7 @@ none_first o None s e = refl
 none_first o (Some g) s e = absurd cc
 
 notices_first : (o : SlotOutcome) (x : Option Frame) (s : DataLinkState) → (with_sapi3 o x s).notices0 ≡ o.notices
-notices_first o None s = refl
-notices_first o (Some f) s = refl
+notices_first o x s = grind arith
 
 module _ (s : DataLinkState) (f : Frame) where
   arrives_first : f.sapi ≡ 0 → (after_arrival f s).link0 ≡ after_frame f s.link0

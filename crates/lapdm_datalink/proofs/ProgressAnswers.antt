@@ -1,20 +1,20 @@
 -- An acknowledgement that arrives ends the wait, and an I frame that arrives is answered in the slot.
 use Rattle.{
-  std.specs.Prelude.{◌≡◌, ◌≢◌, ℕ, Bool, true, false, ◌||◌, nat_eq, List, [], ◌∷◌, Option, Some, None, All},
-  std.proofs.{Common.{inl, inr, arith, refl, ap, ◌∙◌}, lemmas.List.Elements.{All-head, All-tail}},
+  std.specs.Prelude.{◌≡◌, ◌≢◌, ℕ, Bool, true, false, ◌||◌, nat_eq, List, Some, None, All},
+  std.proofs.Common.{inl, inr, arith, refl, ap, ◌∙◌},
   lapdm_frame.specs.Content.{Content, I, Rr, Rej, Frame},
   lapdm_end.specs.lapdm_window.{
-    declared.{Sapi.TheVariants.Zero, State.TheVariants.Open, Refused.Refused},
+    declared.{Sapi.TheVariants.Zero, State.TheVariants.Open},
     segmenting.Segments.Segment,
-    Ends.{EndpointState, Role, vr, vs, awaits_ack, command_cr},
+    Ends.{Role, vr, vs, awaits_ack, command_cr},
     Tables.TakesIFrame,
-    Calls.{Call, Opens, Sends, refusal_of},
+    Calls.{Call, Sends},
   },
   lapdm_datalink.{
     specs.{Links.{LinkState, after_frame, after_slot, after_call, is_unnumbered_answer}, Slots.{nr_in, took}, Channels.after_calls},
-    specs.Channels.{after_call_unless, IsUse},
-    proofs.{ProgressSteps.{acked, issued, Good, taken, by_nr_i, by_nr_rr}, ProgressLink.{reply_with, is_i, is_rr, ns_in}, Answering.Says},
-    proofs.Answering.{Carries, carries, says_after_slot, says_took, stays_open},
+    specs.Channels.IsUse,
+    proofs.{ProgressSteps.{acked, issued, Good, taken, by_nr_i, by_nr_rr}, ProgressLink.{reply_with, over_calls, is_i, is_rr, ns_in}},
+    proofs.Answering.{Says, Carries, carries, says_after_slot, says_took, stays_open},
   },
 }
 
@@ -72,24 +72,12 @@ says_sends m l o (inr (a, b, c)) = inr (grind (arith, a), grind (arith, b), grin
 sends_open : (m : List ℕ) (l : LinkState) → l.endpoint.state ≡ Open → (after_call (Sends m) l).endpoint.state ≡ Open
 sends_open m l o = grind arith
 
-opens_refused : (info : List ℕ) (e : EndpointState) → e.state ≡ Open → refusal_of (Opens info) e ≡ None → ⊥
-opens_refused info e o h = grind (arith, o, h)
-
 abbrev OpenAndSays : LinkState → Type 0
 OpenAndSays l = (l.endpoint.state ≡ Open) × Says l
 
-says_call : (role : Role) (c : Call) (l : LinkState) → IsUse role c → (r : Option Refused) → refusal_of c l.endpoint ≡ r →
-    OpenAndSays l → OpenAndSays (after_call_unless r c l)
-says_call role c l u (Some why) e h = h
-says_call role (Sends m) l u None e h = (sends_open m l h.0, says_sends m l h.0 h.1)
-says_call role (Opens info) l u None e h = absurd (opens_refused info l.endpoint h.0 e)
-says_call role other l u None e h = absurd u
-
 says_calls : (role : Role) (cs : List Call) (l : LinkState) → All (IsUse role) cs → OpenAndSays l → OpenAndSays (after_calls cs l)
-says_calls role [] l u h = h
-says_calls role (c ∷ cs) l u h =
-    says_calls role cs (after_call_unless (refusal_of c l.endpoint) c l) (All-tail (IsUse role) c cs u)
-    (says_call role c l (All-head (IsUse role) c cs u) _ refl h)
+says_calls role = over_calls role (λ l m. OpenAndSays l → OpenAndSays m) (λ l h. h) (λ l m k a b h. b (a h))
+    (λ m l e h. (sends_open m l h.0, says_sends m l h.0 h.1)) (λ info l q e h. absurd (grind (arith, h.0, e)))
 
 -- the slot in which an I frame arrives that is in sequence or polls: it carries an N(R) equal to V(R), or the link is given up in it
 pub answers : (role : Role) (cs : List Call) (ns nr : ℕ) (p : Bool) (s : Segment) (l : LinkState) → All (IsUse role) cs →

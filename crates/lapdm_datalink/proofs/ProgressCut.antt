@@ -1,20 +1,23 @@
 -- A run that is cut: after some slots layer 3 makes no call and no block is lost. Until then both runs are the same.
 use Rattle.{
-  std.specs.Prelude.{◌≡◌, ℕ, zero, suc, ◌+◌, ◌≤◌, Bool, true, false, nat_lt, [], ◌⊎◌, All, ◌≢◌, not},
+  std.proofs.lemmas.Bool.cases_Bool,
+  std.specs.Prelude.{◌≡◌, ℕ, zero, suc, ◌+◌, ◌≤◌, Bool, true, false, nat_lt, [], All, ◌≢◌, Option},
   std.proofs.Common.{inl, inr, arith, refl, ap, sym, ◌∙◌},
+  lapdm_frame.specs.Content.Frame,
   lapdm_end.specs.lapdm_window.{
     declared.State.{TheVariants.Closed, State},
     Ends.{Role, Mobile, Network, awaits_answer},
     Rules.is_open,
-    Calls.is_idle,
   },
   lapdm_link.specs.Events.other,
   lapdm_datalink.{
     specs.Channels.{Run, Slot, ChannelState, channel_at, channel_after, side_at, turn_of, before_sending, arriving, IsUse},
-    specs.{Links.{slot_outcome, is_closed}, Progress.{link_at, turn_at, ready_at, frame_at, is_loss, is_loss_at, is_lossy, one_if}},
-    specs.Progress.{waiting_slots, lossy_slots, expiries, expires_in, is_i_frame, is_repetition, IsWithoutRelease, IsPaid, Progress},
-    specs.Progress.{round_trip, PaysForExpiries, Progresses, frames_at, FromStart, ProgressesFromStart, KeepsLinks, NoneGaveUp},
-    proofs.{ProgressRuns.NeverReleases, ProgressExpiries.pays, ProgressPolls.progresses, ProgressFromStart.{from_start, keeps, unclosed}},
+    specs.{Links.{LinkState, slot_outcome, is_closed}, Progress.{link_at, turn_at, ready_at, frame_at, is_loss, is_loss_at}},
+    specs.Progress.is_lossy,
+    specs.Progress.{waiting_slots, lossy_slots, expiries, expires_in, is_i_frame, is_repetition, IsWithoutRelease, IsPaidFor, Progress},
+    specs.Progress.{round_trip, PaysForExpiries, Progresses, frames_of, ProgressesFromStart, KeepsLinks, NoneGaveUp},
+    proofs.{ProgressSlots.slots_same, ProgressRuns.NeverReleases, ProgressExpiries.pays, ProgressPolls.progresses},
+    proofs.ProgressFromStart.{from_start, keeps, unclosed},
     proofs.{ProgressFromStart.{mobile_ready, network_ready_open}, ProgressKnown.{Known, Unclosed, known}},
   },
 }
@@ -71,35 +74,24 @@ module _ (m : ℕ) (r : Run) where
   lossy_same n h = rw (loss_same n h Mobile, loss_same n h Network) refl
 
   pub waiting_same : (n k : ℕ) → n + k ≤ m → (role : Role) → waiting_slots (cut m r) n k role ≡ waiting_slots r n k role
-  waiting_same n zero h role = refl
-  waiting_same n (suc k) h role = rw (
-    waiting_same n k (omega (arith, h)) role,
-    ap (λ l. one_if (awaits_answer l.endpoint)) (ready_same (n + k) (omega (arith, h)) role),
-  ) refl
+  waiting_same n k h role = slots_same _ _ n k (λ j a. ap (λ l. awaits_answer l.endpoint) (ready_same j (omega (arith, a, h)) role))
 
   pub losses_same : (n k : ℕ) → n + k ≤ m → lossy_slots (cut m r) n k ≡ lossy_slots r n k
-  losses_same n zero h = refl
-  losses_same n (suc k) h =
-      rw (losses_same n k (omega (arith, h)), ap one_if (lossy_same (n + k) (omega (arith, h)))) refl
+  losses_same n k h = slots_same _ _ n k (λ j a. lossy_same j (omega (arith, a, h)))
 
   pub expiries_same : (n k : ℕ) → n + k ≤ m → (role : Role) → expiries (cut m r) n k role ≡ expiries r n k role
-  expiries_same n zero h role = refl
-  expiries_same n (suc k) h role = rw (
-    expiries_same n k (omega (arith, h)) role,
-    ap (λ l. one_if (expires_in l)) (ready_same (n + k) (omega (arith, h)) role),
-  ) refl
+  expiries_same n k h role = slots_same _ _ n k (λ j a. ap expires_in (ready_same j (omega (arith, a, h)) role))
 
   -- a run without a release in these slots is cut to one without any
   pub never : IsWithoutRelease r m → NeverReleases (cut m r)
-  never u n role = by_slot (nat_lt n m) refl
+  never u n role = elim (cases_Bool (nat_lt n m)) [
+    | inl e ↦ rw (turn_same n (within n m e) role) (u n (within n m e) role)
+    | inr e ↦ rw (ap (λ b. turn_of role (slot_if b (r.slot n))) e) (idle role)
+  ]
     where
       idle : (role : Role) → All (IsUse role) (turn_of role idle_slot).calls
       idle Mobile = λ k d h. absurd (omega (arith, h))
       idle Network = λ k d h. absurd (omega (arith, h))
-
-      by_slot : (b : Bool) → nat_lt n m ≡ b → All (IsUse role) (turn_at (cut m r) n role).calls
-      by_slot true e = rw (turn_same n (within n m e) role) (u n (within n m e) role)
-      by_slot false e = rw (ap (λ b. turn_of role (slot_if b (r.slot n))) e) (idle role)
 
 -- ---- what holds of a cut run holds of the run
 
@@ -131,31 +123,30 @@ ready_unclosed r long n u none role = ap (λ l. is_closed l.endpoint.state) (sym
     by Mobile = mobile_ready (cut (suc n) r) (never (suc n) r u) long n h (K.mobile_slot (cut (suc n) r) (never (suc n) r u) n h)
     by Network = network_ready_open (cut (suc n) r) (never (suc n) r u) long n h (K.network_slot (cut (suc n) r) (never (suc n) r u) n h)
 
-pub pays_for_expiries : (r : Run) → PaysForExpiries r
-pays_for_expiries r long n u none role again = record {
-  slot = x.slot;
-  before = x.before;
-  sent = ap is_i_frame (sym (frame_same m r x.slot (omega (arith, x.before)) role)) ∙ x.sent;
-  last = λ k a b. ap is_i_frame (sym (frame_same m r k (omega (arith, b)) role)) ∙ x.last k a b;
-  lost = λ o. by_loss (x.lost (ap (λ l. is_open l.endpoint.state)
-      (link_same m r (suc x.slot + r.delay) (omega (arith, early)) (other role)) ∙ o));
+-- a payment in one run is one in another that is the same up to the slot
+pub paid_as : {d t : ℕ} {f g : ℕ → Role → Option Frame} {l m : ℕ → Role → Bool} {x y : ℕ → Role → LinkState}
+    (n : ℕ) → round_trip d ≤ t → ((k : ℕ) → k ≤ n → (role : Role) → f k role ≡ g k role) →
+    ((k : ℕ) → k ≤ n → (role : Role) → l k role ≡ m k role) →
+    ((k : ℕ) → k ≤ n → (role : Role) → x k role ≡ y k role) →
+    (role : Role) → IsPaidFor d t f l x n role → IsPaidFor d t g m y n role
+paid_as {d} n long frames losses links role p = record {
+  slot = p.slot;
+  before = p.before;
+  sent = ap is_i_frame (sym (frames p.slot (omega (arith, p.before)) role)) ∙ p.sent;
+  last = λ k a b. ap is_i_frame (sym (frames k (omega (arith, b)) role)) ∙ p.last k a b;
+  lost = λ o. rw (
+    ← losses p.slot (omega (arith, p.before)) role,
+    ← losses (suc p.slot + d) (omega (arith, p.before, long)) (other role),
+  ) (p.lost (ap (λ z. is_open z.endpoint.state) (links (suc p.slot + d) (omega (arith, p.before, long)) (other role)) ∙ o));
 }
-  where
-    m : ℕ
-    m = suc n
 
-    x : IsPaid (cut m r) n role
-    x = pays (cut m r) (never m r u) long n
-        (λ k h q. not_closed (link_at (cut m r) k q).endpoint.state (none_closed m r u n (omega arith) none k h q)) role
-        (ap is_repetition (frame_same m r n (omega arith) role) ∙ again)
-
-    early : suc (suc x.slot + r.delay) ≤ m
-    early = omega (arith, x.before, long)
-
-    by_loss : (is_loss_at (cut m r) x.slot role ≡ true) ⊎ (is_loss_at (cut m r) (suc x.slot + r.delay) (other role) ≡ true) →
-        (is_loss_at r x.slot role ≡ true) ⊎ (is_loss_at r (suc x.slot + r.delay) (other role) ≡ true)
-    by_loss (inl e) = inl (sym (loss_same m r x.slot (omega (arith, x.before)) role) ∙ e)
-    by_loss (inr e) = inr (sym (loss_same m r (suc x.slot + r.delay) early (other role)) ∙ e)
+pub pays_for_expiries : (r : Run) → PaysForExpiries r
+pays_for_expiries r long n u none role again =
+    paid_as n long (λ k h q. frame_same (suc n) r k (omega (arith, h)) q) (λ k h q. loss_same (suc n) r k (omega (arith, h)) q)
+    (λ k h q. link_same (suc n) r k (omega (arith, h)) q) role
+    (pays (cut (suc n) r) (never (suc n) r u) long n
+    (λ k h q. not_closed (link_at (cut (suc n) r) k q).endpoint.state (none_closed (suc n) r u n (omega arith) none k h q)) role
+    (ap is_repetition (frame_same (suc n) r n (omega arith) role) ∙ again))
 
 pub all_progress : (r : Run) → Progresses r
 all_progress r long n k u o role = record {
@@ -176,21 +167,13 @@ all_progress r long n k u o role = record {
     acked_last : (link_at (cut m r) (n + k) role).endpoint.acked_segments ≡ (link_at r (n + k) role).endpoint.acked_segments
     acked_last = ap (λ l. l.endpoint.acked_segments) (link_same m r (n + k) (omega arith) role)
 
-module _ (r : Run) (k : ℕ) (u : IsWithoutRelease r (suc k)) where
-  frames_same : (role : Role) → frames_at (cut (suc k) r) k role ≡ frames_at r k role
-  frames_same Mobile = ap (λ l. one_if (not (is_idle l.endpoint.state)) + l.endpoint.sent_segments)
-      (link_same (suc k) r k (omega arith) Mobile)
-  frames_same Network = ap (λ l. l.endpoint.sent_segments) (link_same (suc k) r k (omega arith) Network)
-
-  from_cut : (role : Role) → FromStart (cut (suc k) r) k role → FromStart r k role
-  from_cut role x = record {
-    waits = rw (waiting_same (suc k) r 0 k (omega arith) role, frames_same role, losses_same (suc k) r 0 k (omega arith)) at x.waits;
-    expires = rw (expiries_same (suc k) r 0 (suc k) (omega arith) role, losses_same (suc k) r 0 k (omega arith)) at x.expires;
-  }
-
 pub progress_from_start : (r : Run) → ProgressesFromStart r
-progress_from_start r long k u none role =
-    from_cut r k u role (from_start (cut (suc k) r) (never (suc k) r u) long k (none_closed (suc k) r u k (omega arith) none) role)
+progress_from_start r long k u none role = rw (
+  waiting_same (suc k) r 0 k (omega arith) role,
+  expiries_same (suc k) r 0 (suc k) (omega arith) role,
+  ap (frames_of role) (link_same (suc k) r k (omega arith) role),
+  losses_same (suc k) r 0 k (omega arith),
+) at (from_start (cut (suc k) r) (never (suc k) r u) long k (none_closed (suc k) r u k (omega arith) none) role)
 
 pub few_losses_keep_links : (r : Run) → KeepsLinks r
 few_losses_keep_links r long k u few role =

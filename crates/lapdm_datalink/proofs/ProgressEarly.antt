@@ -1,5 +1,6 @@
 -- From the start of a run until the mobile opens: the frames of a network that is open already.
 use Rattle.{
+  std.proofs.lemmas.Bool.cases_Bool,
   std.specs.Prelude.{◌≡◌, ◌≢◌, ℕ, suc, ◌+◌, ◌-◌, ◌*◌, ◌≤◌, Bool, true, false, ◌⊎◌, nat_le, List},
   std.{specs.Prelude.{Option, Some, None, IfSome}, proofs.{Common.{inl, inr, arith, refl, ap, sym, ◌∙◌}, Math.Nat.mul-one}},
   lapdm_frame.specs.Content.{Ua, Frame},
@@ -14,15 +15,15 @@ use Rattle.{
     proofs.{
       ProgressSteps.{acked, issued, aired, Moves},
       ProgressLink.{slot_acked, slot_issued, aired_unsent, aired_sent},
-      ProgressStart.{ready_moves, ready_due, ready_t200, is_young},
-      ProgressRuns.{NeverReleases, sound, slotted_in, link_step, arrived, nothing_arrives, carried_none},
+      ProgressStart.is_young,
+      ProgressRuns.{NeverReleases, sound, slotted_in, link_step, arrived, nothing_arrives, carried_none, moved_in, due_in, t200_in},
       ProgressWaits.{SlotWay, sends, blocked, counts, slot_way},
       ProgressPaid.{le_of, not_le_of},
       ProgressExpiries.{waits_at, true-false},
       ProgressFrames.{Brings, sabm_of, ua_of, idle_open},
       ProgressKnown.{Known, Unclosed, NetworkSlot},
       ProgressOpening.{times_one, idle_rests, young_number, W, E, B, waits_step, expiry_step, answer_step, Calling},
-      ProgressSlots.{one_most, ack_one, both, due_clock, expires_due, goes_it, no_ack, not_due, open_awaits, times_le},
+      ProgressSlots.{not_if, one_most, ack_one, both, due_clock, expires_due, goes_it, no_ack, not_due, open_awaits, times_le},
     },
   },
 }
@@ -30,28 +31,19 @@ use Rattle.lapdm_datalink.proofs.ProgressFrames as F
 use Rattle.lapdm_datalink.proofs.ProgressKnown as K
 
 pub times_less : (t a b : ℕ) → t * a + 1 ≤ t * (b + 1) → a ≤ b
-times_less t a b h = by_case (nat_le a b) refl
-  where
-    by_case : (q : Bool) → nat_le a b ≡ q → a ≤ b
-    by_case true e = le_of a b e
-    by_case false e = absurd (omega (arith, h, times_le t (b + 1) a (omega (arith, not_le_of a b e))))
+times_less t a b h = elim (cases_Bool (nat_le a b)) [
+  | inl e ↦ le_of a b e
+  | inr e ↦ absurd (omega (arith, h, times_le t (b + 1) a (omega (arith, not_le_of a b e))))
+]
 
 ua_no_i : (x : Option Frame) (info : List ℕ) → x ≡ Some (ua_of info) → is_i_frame x ≡ false
 ua_no_i x info e = rw e refl
 
 pub expires_not : (m : LinkState) → answer_goes m.answer m ≡ true → expires_in m ≡ false
-expires_not m h = by_case (expires_in m) refl
-  where
-    by_case : (b : Bool) → expires_in m ≡ b → expires_in m ≡ false
-    by_case true e = absurd (true-false (sym h ∙ (expires_due m e).2))
-    by_case false e = e
+expires_not m h = not_if (expires_in m) (λ e. true-false (sym h ∙ (expires_due m e).2))
 
 due_not : (m : LinkState) → is_due m ≡ false → expires_in m ≡ false
-due_not m h = by_case (expires_in m) refl
-  where
-    by_case : (b : Bool) → expires_in m ≡ b → expires_in m ≡ false
-    by_case true e = absurd (true-false (sym (expires_due m e).0 ∙ h))
-    by_case false e = e
+due_not m h = not_if (expires_in m) (λ e. true-false (sym (expires_due m e).0 ∙ h))
 
 due_is : (m : LinkState) → awaits_answer m.endpoint ≡ true → m.clock ≡ 0 → is_due m ≡ true
 due_is m w k = grind (arith, w, k)
@@ -97,17 +89,15 @@ module _ (r : Run) (u : NeverReleases r) (long : round_trip r.delay ≤ r.t200) 
 
     -- nothing acknowledges a frame of the network
     same_acked : acked k ≡ acked l
-    same_acked = by_case (slotted_in r u n Network).by_nr
+    same_acked = elim (slotted_in r u n Network).by_nr [
+      | inl e ↦ e
+      | inr y ↦ absurd (no_number (arriving_at r n Network) (h.frames Mobile r.delay) (vs l.endpoint) y.0)
+    ]
       where
         no_number : (x : Option Frame) → IfSome x (λ f. (f.sapi ≡ 0) × Brings Mobile (is_young (link_at r n Mobile).endpoint.state)
             (link_at r n Mobile).endpoint.sabm_info f.cr f.content) → (j : ℕ) → nr_of x ≡ Some j → ⊥
         no_number None b j e = cc
         no_number (Some f) b j e = young_number f.content f.cr (link_at r n Mobile).endpoint.sabm_info j (rw young at b.1) e
-
-        by_case : (acked k ≡ acked l) ⊎ ((nr_of (arriving_at r n Network) ≡ Some (vs l.endpoint)) × (issued l ≡ acked l + 1)
-            × (acked k ≡ issued l)) → acked k ≡ acked l
-        by_case (inl e) = e
-        by_case (inr (e, one, got)) = absurd (no_number (arriving_at r n Network) (h.frames Mobile r.delay) (vs l.endpoint) e)
 
     m_acked : acked k ≡ acked m
     m_acked = ap acked (link_step r n Network) ∙ slot_acked m
@@ -125,16 +115,13 @@ module _ (r : Run) (u : NeverReleases r) (long : round_trip r.delay ≤ r.t200) 
     flag_is b e = ap (λ x. x.is_sent) (link_step r n Network) ∙ e
 
     m_time : m.t200 ≡ r.t200
-    m_time = ready_t200 Network (arriving_at r n Network) (turn_at r n Network).calls l ((sound r u n).good Network)
-        ((sound r u n).settled Network).owes ((sound r u n).idle Network) (u n Network) ∙ (sound r u n).t200 Network
+    m_time = t200_in r u n Network
 
     m_due : m.is_sent ≡ false → m.clock ≡ 0
-    m_due = ready_due Network (arriving_at r n Network) (turn_at r n Network).calls l ((sound r u n).good Network).sapi (u n Network)
-        ((sound r u n).settled Network)
+    m_due = due_in r u n Network
 
     moved : Moves l m
-    moved = ready_moves Network (arriving_at r n Network) (turn_at r n Network).calls l ((sound r u n).good Network)
-        ((sound r u n).settled Network).owes ((sound r u n).idle Network) (u n Network)
+    moved = moved_in r u n Network
 
     -- a network that had sent no frame has none that it has sent
     none_sent : ((l.is_sent ≡ false) ⊎ (awaits_ack l.endpoint ≡ false)) → awaits_ack m.endpoint ≡ true → m.is_sent ≡ false
@@ -174,36 +161,32 @@ module _ (r : Run) (u : NeverReleases r) (long : round_trip r.delay ≤ r.t200) 
       ack_of d = sym (open_awaits m.endpoint m_open) ∙ (due_clock m d).1
 
       -- it had sent nothing
-      first_slot : (q : ℕ) → suc q ≤ n → W r u long n Network ≤ B r u long n Network → E r u long n Network ≡ 0 →
-          (l.is_sent ≡ false) ⊎ (awaits_ack l.endpoint ≡ false) → SlotWay m → Alone (suc n) q
+      first_slot : (q : ℕ) → (is_i_frame (slot_outcome m).frame ≡ true → suc q ≤ n) →
+          W r u long n Network ≤ B r u long n Network → E r u long n Network ≡ 0 →
+          (l.is_sent ≡ false) ⊎ (awaits_ack l.endpoint ≡ false) → SlotWay m (slot_outcome m) → Alone (suc n) q
       first_slot q a w e z (sends d i t x) = sent 1
           (omega (arith, w_next true (due_clock m d).1, w, b_next, clock_is m.t200 x, m_time, mul-one r.t200, long))
           (omega (arith, e_next false (not_sent (none_sent z (ack_of d))), e))
-          (omega (arith, a, clock_is m.t200 x, m_time, mul-one r.t200))
+          (omega (arith, a i, clock_is m.t200 x, m_time, mul-one r.t200))
           (k_awaits true (ack_of d)) (flag_is true t)
         where
           not_sent : m.is_sent ≡ false → expires_in m ≡ false
-          not_sent s = by_case (expires_in m) refl
-            where
-              by_case : (b : Bool) → expires_in m ≡ b → expires_in m ≡ false
-              by_case true y = absurd (true-false (sym (expires_due m y).1 ∙ s))
-              by_case false y = y
+          not_sent s = not_if (expires_in m) (λ y. true-false (sym (expires_due m y).1 ∙ s))
       first_slot q a w e z (blocked f y g d i t x) = unsent
           (omega (arith, w_next true (due_clock m d).1, w, b_more d (goes_it m f y g)))
           (omega (arith, e_next false (expires_not m (goes_it m f y g)), e))
           (inl (flag_is false (t ∙ none_sent z (ack_of d))))
-      first_slot q a w e z (counts d t x) = by_awaits (awaits_ack m.endpoint) refl
-        where
-          by_awaits : (b : Bool) → awaits_ack m.endpoint ≡ b → Alone (suc n) q
-          by_awaits true y = absurd (omega (arith, not_due m d (waits true y), m_due (none_sent z y)))
-          by_awaits false y = unsent (omega (arith, w_next false (waits false y), w, b_next))
-              (omega (arith, e_next false (due_not m d), e)) (inr (k_awaits false y))
+      first_slot q a w e z (counts d t x) = elim (cases_Bool (awaits_ack m.endpoint)) [
+        | inl y ↦ absurd (omega (arith, not_due m d (waits true y), m_due (none_sent z y)))
+        | inr y ↦ unsent (omega (arith, w_next false (waits false y), w, b_next))
+            (omega (arith, e_next false (due_not m d), e)) (inr (k_awaits false y))
+      ]
 
       -- it waits for its first frame
       next_slot : (q a : ℕ) → W r u long n Network + (l.clock - 1) ≤ r.t200 * a + B r u long n Network →
           E r u long n Network + 1 ≤ a → q + 2 + r.t200 * a ≤ n + l.clock → awaits_ack l.endpoint ≡ true →
           l.is_sent ≡ true →
-          SlotWay m → Alone (suc n) q
+          SlotWay m (slot_outcome m) → Alone (suc n) q
       next_slot q a w e f g s way = by_way way
         where
           one : issued l ≡ acked l + 1
@@ -218,7 +201,7 @@ module _ (r : Run) (u : NeverReleases r) (long : round_trip r.delay ≤ r.t200) 
           e_most : E r u long (suc n) Network ≤ E r u long n Network + 1
           e_most = omega (arith, expiry_step r u long n Network, one_most (expires_in m))
 
-          by_way : SlotWay m → Alone (suc n) q
+          by_way : SlotWay m (slot_outcome m) → Alone (suc n) q
           by_way (sends d i t x) = sent (a + 1)
               (omega (arith, w_next true (due_clock m d).1, w, b_next, clock_is m.t200 x, m_time, times_one r.t200 a, long))
               (omega (arith, e_most, e))
@@ -236,32 +219,15 @@ module _ (r : Run) (u : NeverReleases r) (long : round_trip r.delay ≤ r.t200) 
               (k_awaits true still.0) (flag_is true (t ∙ still.1))
 
       alone_next : (q : ℕ) → suc q ≤ n → Alone n q → Alone (suc n) q
-      alone_next q a (unsent w e z) = first_slot q a w e z (slot_way m m_open out_open)
+      alone_next q a (unsent w e z) = first_slot q (λ i. a) w e z (slot_way m m_open out_open)
       alone_next q a (sent b w e f g s) = next_slot q b w e f g s (slot_way m m_open out_open)
 
       -- the slot in which the SABM arrives
       opens_slot : (info : List ℕ) → m.answer ≡ Some (ua_of info) → l.endpoint.state ≡ Idle → W r u long n Network ≡ 0 →
           E r u long n Network ≡ 0 → Alone (suc n) n
-      opens_slot info owes i w e = by_way (slot_way m m_open out_open)
-        where
-          goes : ((slot_outcome m).frame ≡ Some (ua_of info)) × (answer_goes m.answer m ≡ true)
-          goes = F.ua_goes m info m_open owes
-
-          z : (l.is_sent ≡ false) ⊎ (awaits_ack l.endpoint ≡ false)
-          z = inr (no_ack l ((sound r u n).idle Network (ap is_idle i)))
-
-          by_way : SlotWay m → Alone (suc n) n
-          by_way (sends d f t x) = absurd (true-false (sym f ∙ ua_no_i (slot_outcome m).frame info goes.0))
-          by_way (blocked f y g d j t x) = unsent
-              (omega (arith, w_next true (due_clock m d).1, w, b_more d (goes_it m f y g)))
-              (omega (arith, e_next false (expires_not m goes.1), e))
-              (inl (flag_is false (t ∙ none_sent z (ack_of d))))
-          by_way (counts d t x) = by_awaits (awaits_ack m.endpoint) refl
-            where
-              by_awaits : (b : Bool) → awaits_ack m.endpoint ≡ b → Alone (suc n) n
-              by_awaits true y = absurd (omega (arith, not_due m d (waits true y), m_due (none_sent z y)))
-              by_awaits false y = unsent (omega (arith, w_next false (waits false y), w, b_next))
-                  (omega (arith, e_next false (due_not m d), e)) (inr (k_awaits false y))
+      opens_slot info owes i w e = first_slot n
+          (λ f. absurd (true-false (sym f ∙ ua_no_i (slot_outcome m).frame info (F.ua_goes m info m_open owes).0)))
+          (omega (arith, w)) e (inr (no_ack l ((sound r u n).idle Network (ap is_idle i)))) (slot_way m m_open out_open)
 
     pub early_next : Early n → Early (suc n)
     early_next x = by_slot x (K.network_slot r u n h)
@@ -294,16 +260,15 @@ module _ (r : Run) (u : NeverReleases r) (long : round_trip r.delay ≤ r.t200) 
     where
       by_case : (b : Bool) → nat_le (x.v1 + r.delay + 1) q ≡ b → x.v1 + r.delay + 1 ≤ q
       by_case true e = le_of (x.v1 + r.delay + 1) q e
-      by_case false e = by_start (nat_le (suc r.delay) q) refl
+      by_case false e = elim (cases_Bool (nat_le (suc r.delay) q)) [
+        | inl f ↦
+            let g : suc (q - suc r.delay) + r.delay ≡ q = omega (arith, le_of (suc r.delay) q f) in
+            absurd (some (ap (λ j. arriving_at r j Network) (sym g) ∙ arrived r (q - suc r.delay) Network
+            ∙ ap (λ y. carried (turn_at r (q - suc r.delay) Mobile).is_lost y)
+            (x.before (q - suc r.delay) (omega (arith, sooner, le_of (suc r.delay) q f)))
+            ∙ carried_none r (turn_at r (q - suc r.delay) Mobile).is_lost))
+        | inr f ↦ absurd (some (nothing_arrives r q Network (omega (arith, not_le_of (suc r.delay) q f))))
+      ]
         where
           sooner : suc q ≤ x.v1 + r.delay + 1
           sooner = not_le_of (x.v1 + r.delay + 1) q e
-
-          by_start : (b : Bool) → nat_le (suc r.delay) q ≡ b → x.v1 + r.delay + 1 ≤ q
-          by_start false f = absurd (some (nothing_arrives r q Network (omega (arith, not_le_of (suc r.delay) q f))))
-          by_start true f =
-              let g : suc (q - suc r.delay) + r.delay ≡ q = omega (arith, le_of (suc r.delay) q f) in
-              absurd (some (ap (λ j. arriving_at r j Network) (sym g) ∙ arrived r (q - suc r.delay) Network
-              ∙ ap (λ y. carried (turn_at r (q - suc r.delay) Mobile).is_lost y)
-              (x.before (q - suc r.delay) (omega (arith, sooner, le_of (suc r.delay) q f)))
-              ∙ carried_none r (turn_at r (q - suc r.delay) Mobile).is_lost))

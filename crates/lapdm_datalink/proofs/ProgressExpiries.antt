@@ -1,11 +1,12 @@
 -- Each expiry of T200 of an open link of SAPI 0 is paid by a loss: the last sending of its I frame, followed from slot to slot.
 use Rattle.{
+  std.proofs.lemmas.Bool.cases_Bool,
   std.specs.Prelude.{◌≡◌, ◌≢◌, ℕ, zero, suc, ◌+◌, ◌-◌, ◌≤◌, Bool, true, false, ◌⊎◌, nat_le, List, Option},
   std.{specs.Prelude.{Some, None, IfSome}, proofs.Common.{inl, inr, arith, refl, ap, sym, ◌∙◌}},
   lapdm_frame.specs.Content.{Content, I, Frame},
   lapdm_end.specs.lapdm_window.{
     declared.State.TheVariants.{Open, Closed},
-    Ends.{Role, Mobile, Network, awaits_ack},
+    Ends.{Role, awaits_ack},
     Rules.is_open,
     Calls.{awaited_frame, t200_expiry},
   },
@@ -13,13 +14,13 @@ use Rattle.{
   lapdm_datalink.{
     specs.{Links.{LinkState, slot_outcome, is_closed, is_due, first_frame, is_awaiting_kind}, Channels.Run, Progress.{link_at, turn_at}},
     specs.Progress.{arriving_at, ready_at, frame_at, is_loss, is_loss_at, is_i_frame, is_i_content, is_repetition, is_repeated_content},
-    specs.Progress.{round_trip, NoneGaveUp, IsPaid},
+    specs.Progress.{round_trip, expires_in, NoneGaveUp, IsPaid},
     proofs.{
       ProgressSteps.{acked, issued, IsAnswerOf},
       ProgressLink.{From, nowhere, owed, first, again, slot_from, slot_acked, slot_issued},
-      ProgressStart.{is_young, Ages, ages, ages_ready, ready_owed, ready_t200, slot_open},
+      ProgressStart.{is_young, Ages, ages, ages_ready, ready_owed, slot_open},
       ProgressWaits.{WaitsFrom, waits_ready, WaitsOver, starts, goes_on, waits_over},
-      ProgressRuns.{sound, slotted_in, link_step, NeverReleases},
+      ProgressRuns.{sound, slotted_in, link_step, t200_in, NeverReleases},
       ProgressPaid.{acked_in_time, le_of, not_le_of, answered_frame},
     },
   },
@@ -56,15 +57,16 @@ true-false h = cc
 
 -- the link that repeats its I frame had sent it, and its clock is over
 pub repeats : (m : LinkState) → IfSome m.answer (IsAnswerOf m) → is_repetition (slot_outcome m).frame ≡ true →
-    (m.is_sent ≡ true) × (m.endpoint.state ≡ Open) × (m.clock ≡ 0) × (awaits_ack m.endpoint ≡ true)
+    (m.is_sent ≡ true) × (m.endpoint.state ≡ Open) × (m.clock ≡ 0) × (awaits_ack m.endpoint ≡ true) × (expires_in m ≡ true)
 repeats m owes h = by_from (slot_from m)
   where
-    by_from : From m (slot_outcome m) →
-        (m.is_sent ≡ true) × (m.endpoint.state ≡ Open) × (m.clock ≡ 0) × (awaits_ack m.endpoint ≡ true)
+    by_from : From m (slot_outcome m) → (m.is_sent ≡ true) × (m.endpoint.state ≡ Open) × (m.clock ≡ 0)
+        × (awaits_ack m.endpoint ≡ true) × (expires_in m ≡ true)
     by_from (nowhere e) = absurd (true-false (sym h ∙ ap is_repetition e))
     by_from (owed e) = absurd (true-false (sym (poll_is_i m.answer (ap is_repetition (sym e) ∙ h)) ∙ answer_no_i m m.answer owes))
     by_from (first e due new sent) = absurd (first_no_poll m (ap is_repetition (sym e) ∙ h))
-    by_from (again e due old sent) = let x = again_open m (ap is_repetition (sym e) ∙ h) due in (old, x.0, x.1, x.2)
+    by_from (again e due old sent over) =
+        let x = again_open m (ap is_repetition (sym e) ∙ h) due in (old, x.0, x.1, x.2, over)
 
 -- ---- the last sending
 
@@ -84,8 +86,7 @@ module _ (r : Run) (u : NeverReleases r) (role : Role) where
   old_enough zero h = start_same role
     where
       start_same : (q : Role) → issued (link_at r 0 q) ≡ acked (link_at r 0 q)
-      start_same Mobile = refl
-      start_same Network = refl
+      start_same role = grind arith
   old_enough (suc n) h =
       let a : Ages (link_at r n role) (link_at r (suc n) role) =
       rw (link_step r n role)
@@ -99,15 +100,13 @@ module _ (r : Run) (u : NeverReleases r) (role : Role) where
   -- a link that waits before a slot is open if the link is open after what arrives and the calls
   open_before : (n : ℕ) → awaits_ack (link_at r n role).endpoint ≡ true → (ready_at r n role).endpoint.state ≡ Open →
       (link_at r n role).endpoint.state ≡ Open
-  open_before n w h = by_age (a.opened h)
+  open_before n w h = elim (a.opened h) [
+    | inl e ↦ e
+    | inr y ↦ absurd (awaits_differs (link_at r n role) w (old_enough n y))
+  ]
     where
       a : Ages (link_at r n role) (ready_at r n role)
       a = ages_ready role (arriving_at r n role) (turn_at r n role).calls (link_at r n role) ((sound r u n).good role).sapi (u n role)
-
-      by_age : ((link_at r n role).endpoint.state ≡ Open) ⊎ (is_young (link_at r n role).endpoint.state ≡ true) →
-          (link_at r n role).endpoint.state ≡ Open
-      by_age (inl e) = e
-      by_age (inr y) = absurd (awaits_differs (link_at r n role) w (old_enough n y))
 
   pub owes_ready : (n : ℕ) → IfSome (ready_at r n role).answer (IsAnswerOf (ready_at r n role))
   owes_ready n = ready_owed role (arriving_at r n role) (turn_at r n role).calls (link_at r n role) ((sound r u n).good role)
@@ -126,8 +125,7 @@ module _ (r : Run) (u : NeverReleases r) (role : Role) where
   last_sending zero o w s = absurd (start_none role o)
     where
       start_none : (q : Role) → (link_at r 0 q).endpoint.state ≡ Open → ⊥
-      start_none Mobile e = cc
-      start_none Network e = cc
+      start_none role e = grind arith
   last_sending (suc n) o w s = step (is_i_frame (frame_at r n role)) refl (waits_over m m_open s_out o_out)
       (λ ro rw_ rs. last_sending n ro rw_ rs)
     where
@@ -152,10 +150,6 @@ module _ (r : Run) (u : NeverReleases r) (role : Role) where
       here : acked (link_at r (suc n) role) ≡ acked m
       here = ap acked same_link ∙ slot_acked m
 
-      t200_same : m.t200 ≡ r.t200
-      t200_same = ready_t200 role (arriving_at r n role) (turn_at r n role).calls (link_at r n role) ((sound r u n).good role)
-          ((sound r u n).settled role).owes ((sound r u n).idle role) (u n role) ∙ (sound r u n).t200 role
-
       fresh : is_i_frame (frame_at r n role) ≡ true → (slot_outcome m).link.clock ≡ m.t200 → LastSending (suc n)
       fresh i c = record {
         slot = n;
@@ -163,7 +157,7 @@ module _ (r : Run) (u : NeverReleases r) (role : Role) where
         sent = i;
         last = λ k a b. absurd (omega (arith, a, b));
         same = refl;
-        time = omega (arith, ap (λ l. l.clock) same_link, c, t200_same);
+        time = omega (arith, ap (λ l. l.clock) same_link, c, t200_in r u n role);
         opened = λ k a b. (let e : k ≡ suc n = omega (arith, a, b) in rw e o);
       }
 
@@ -184,20 +178,18 @@ module _ (r : Run) (u : NeverReleases r) (role : Role) where
           }
         where
           last_now : (y : LastSending n) (k : ℕ) → suc y.slot ≤ k → suc k ≤ suc n → is_i_frame (frame_at r k role) ≡ false
-          last_now y k a b = by_last (nat_le (suc k) n) refl
-            where
-              by_last : (q : Bool) → nat_le (suc k) n ≡ q → is_i_frame (frame_at r k role) ≡ false
-              by_last true e = y.last k a (le_of (suc k) n e)
-              by_last false e = let same : k ≡ n = omega (arith, not_le_of (suc k) n e, b) in rw same i
+          last_now y k a b = elim (cases_Bool (nat_le (suc k) n)) [
+            | inl e ↦ y.last k a (le_of (suc k) n e)
+            | inr e ↦ let same : k ≡ n = omega (arith, not_le_of (suc k) n e, b) in rw same i
+          ]
 
           opened_now : (y : LastSending n) (k : ℕ) → suc y.slot ≤ k → k ≤ suc n → (link_at r k role).endpoint.state ≡ Open
-          opened_now y k a b = by_last (nat_le k n) refl
-            where
-              by_last : (q : Bool) → nat_le k n ≡ q → (link_at r k role).endpoint.state ≡ Open
-              by_last true e = y.opened k a (le_of k n e)
-              by_last false e = let same : k ≡ suc n = omega (arith, not_le_of k n e, b) in rw same o
+          opened_now y k a b = elim (cases_Bool (nat_le k n)) [
+            | inl e ↦ y.opened k a (le_of k n e)
+            | inr e ↦ let same : k ≡ suc n = omega (arith, not_le_of k n e, b) in rw same o
+          ]
 
-      step : (b : Bool) → is_i_frame (frame_at r n role) ≡ b → WaitsOver m →
+      step : (b : Bool) → is_i_frame (frame_at r n role) ≡ b → WaitsOver m (slot_outcome m) →
           ((link_at r n role).endpoint.state ≡ Open → awaits_ack (link_at r n role).endpoint ≡ true →
           (link_at r n role).is_sent ≡ true → LastSending n) → LastSending (suc n)
       step true i (starts f c) before_ = fresh i c
@@ -245,6 +237,7 @@ pays r u long n none role again_ = record {
     m = ready_at r n role
 
     rep : (m.is_sent ≡ true) × (m.endpoint.state ≡ Open) × (m.clock ≡ 0) × (awaits_ack m.endpoint ≡ true)
+        × (expires_in m ≡ true)
     rep = repeats m (owes_ready r u role n) again_
 
     x : (awaits_ack (link_at r n role).endpoint ≡ true) × ((link_at r n role).is_sent ≡ true)

@@ -1,11 +1,11 @@
 -- What each link of SAPI 0 sends while neither is closed, and what opens it.
 use Rattle.{
   std.specs.Prelude.{◌≡◌, ◌≢◌, ℕ, ◌≤◌, Bool, true, false, ◌⊎◌, nat_eq, List, [], ◌∷◌, length, Option, Some},
-  std.{specs.{Prelude.{None, All, IfSome}, Str.bytes_eq}, proofs.Common.{inl, inr, arith, refl, ap, sym, ◌∙◌}},
-  std.proofs.lemmas.{Slice.Eq.bytes_eq-Decides, List.Elements.{All-head, All-tail}},
+  std.{specs.{Prelude.{None, All, IfSome}, Str.bytes_eq}, proofs.Common.{inl, inr, arith, refl, ap, sym, ◌∙◌, subst}},
+  std.proofs.lemmas.Slice.Eq.bytes_eq-Decides,
   lapdm_frame.specs.Content.{Content, I, Rr, Rej, Sabm, Ua, Frame},
   lapdm_end.specs.lapdm_window.{
-    declared.{Sapi.TheVariants.Zero, State.TheVariants.{Idle, Opening, Open, Closed}, Refused.Refused},
+    declared.{Sapi.TheVariants.Zero, State.TheVariants.{Idle, Opening, Open, Closed}},
     segmenting.Segments.Segment,
     Ends.{EndpointState, Role, Mobile, Network, command_cr, response_frame, vr, first_unacked_segment, awaits_answer},
     Rules.{nr_acknowledges_segment, takes_i_frame, takes_rr},
@@ -14,12 +14,12 @@ use Rattle.{
   },
   lapdm_link.specs.Events.other,
   lapdm_datalink.{
-    specs.{Links.{LinkState, slot_outcome, after_call, first_frame, after_frame}, Channels.{after_calls, after_call_unless}},
-    specs.{Channels.{after_arriving, IsUse}, Slots.IsStepOfEndpoint, Progress.{answer_goes, expires_in}},
+    specs.{Links.{LinkState, SlotOutcome, slot_outcome, after_call, first_frame, after_frame}, Channels.after_calls},
+    specs.{Channels.{after_arriving, IsUse}, Progress.{answer_goes, expires_in}},
     proofs.{
       ProgressSteps.{taken, outcome_endpoint},
-      ProgressLink.{reply_with, frame_taken, is_rr, From, nowhere, owed, first, again, slot_from},
-      Answering.step_of_endpoint,
+      ProgressLink.{reply_with, over_arrival, over_calls, is_rr, From, nowhere, owed, first, again, slot_from},
+      Answering.{IsSlot, expiring, is_slot, slot_keeps},
     },
   },
 }
@@ -219,12 +219,10 @@ module _ (l : LinkState) (o : l.endpoint.state ≡ Open) (none : l.answer ≡ No
 
     pub open_keeps : (role : Role) → l.endpoint.role ≡ role → (idle : Bool) (c : Content) →
         Brings (other role) idle l.endpoint.sabm_info cr c → StaysOpen l (taken (reply_with 0 cr l c) l)
-    open_keeps role ro idle (I ns nr p more x) b = by_case (i_case ns nr p more x)
-      where
-        by_case : (reply_with 0 cr l (I ns nr p more x) ≡ TakesIFrame ns nr p (x, more))
-            ⊎ (reply_with 0 cr l (I ns nr p more x) ≡ Nothing) → StaysOpen l (taken (reply_with 0 cr l (I ns nr p more x)) l)
-        by_case (inl e) = rw e (open_i ns nr p (x, more))
-        by_case (inr e) = open_nothing (reply_with 0 cr l (I ns nr p more x)) e
+    open_keeps role ro idle (I ns nr p more x) b = elim (i_case ns nr p more x) [
+      | inl e ↦ rw e (open_i ns nr p (x, more))
+      | inr e ↦ open_nothing (reply_with 0 cr l (I ns nr p more x)) e
+    ]
     open_keeps role ro idle (Rr nr p) b =
         rw ((is_rr 0 cr l nr p refl z o).1) (open_rr nr _)
     open_keeps role ro idle (Rej nr p) b =
@@ -245,19 +243,12 @@ pub data CalledTo (role : Role) (l m : LinkState) : Type 0 where
   sends : l.endpoint.state ≡ Open → m.endpoint.state ≡ Open → m.endpoint.sabm_info ≡ l.endpoint.sabm_info → CalledTo role l m
 
 module _ (l : LinkState) where
-  opens_to : (info : List ℕ) → refusal_of (Opens info) l.endpoint ≡ None → CalledTo Mobile l (after_call (Opens info) l)
-  opens_to info ok = opens refl (grind (arith, ok)) refl (grind (arith, ok)) (grind arith) (grind arith)
+  opens_to : (role : Role) → role ≡ Mobile → (info : List ℕ) → refusal_of (Opens info) l.endpoint ≡ None →
+      CalledTo role l (after_call (Opens info) l)
+  opens_to role q info ok = opens q (grind (arith, ok)) refl (grind (arith, ok)) (grind arith) (grind arith)
 
   sends_to : (role : Role) (m : List ℕ) → refusal_of (Sends m) l.endpoint ≡ None → CalledTo role l (after_call (Sends m) l)
   sends_to role m ok = sends (grind (arith, ok)) (grind (arith, ok)) (grind (arith, ok))
-
-call_to : (role : Role) (c : Call) (l : LinkState) → IsUse role c → (r : Option Refused) → refusal_of c l.endpoint ≡ r →
-    CalledTo role l (after_call_unless r c l)
-call_to role c l u (Some why) e = nothing refl
-call_to role (Sends m) l u None e = sends_to l role m e
-call_to Mobile (Opens info) l u None e = opens_to l info e
-call_to Network (Opens info) l u None e = absurd (network_mobile u)
-call_to role other l u None e = absurd u
 
 pub idle_opening : Idle ≡ Opening → ⊥
 idle_opening h = cc
@@ -277,12 +268,8 @@ then_to role l m k (sends a b c) (opens a' b' c' d' f' g') = absurd (idle_open (
 then_to role l m k (sends a b c) (sends a' b' c') = sends a b' (c' ∙ c)
 
 pub calls_to : (role : Role) (cs : List Call) (l : LinkState) → All (IsUse role) cs → CalledTo role l (after_calls cs l)
-calls_to role [] l u = nothing refl
-calls_to role (c ∷ cs) l u =
-    let r = refusal_of c l.endpoint in
-    then_to role l (after_call_unless r c l) (after_calls cs (after_call_unless r c l))
-    (call_to role c l (All-head (IsUse role) c cs u) r refl)
-    (calls_to role cs (after_call_unless r c l) (All-tail (IsUse role) c cs u))
+calls_to role = over_calls role (CalledTo role) (λ l. nothing refl) (then_to role) (λ m l. sends_to l role m)
+    (λ info l q. opens_to l role q info)
 
 -- ---- the slot
 
@@ -293,32 +280,16 @@ again_case e = grind arith
 expiry_state : (e : EndpointState) → ((t200_expiry e).new_state.state ≡ e.state) ⊎ ((t200_expiry e).new_state.state ≡ Closed)
 expiry_state e = grind arith
 
-expiry_info : (e : EndpointState) → (t200_expiry e).new_state.sabm_info ≡ e.sabm_info
-expiry_info e = grind arith
-
 module _ (m : LinkState) where
   pub slot_info : (slot_outcome m).link.endpoint.sabm_info ≡ m.endpoint.sabm_info
-  slot_info = by_step (step_of_endpoint m)
-    where
-      by_step : IsStepOfEndpoint m (slot_outcome m) → (slot_outcome m).link.endpoint.sabm_info ≡ m.endpoint.sabm_info
-      by_step (inl x) = ap (λ e. e.sabm_info) x.endpoint
-      by_step (inr (inl x)) = ap (λ e. e.sabm_info) x.repeats
-      by_step (inr (inr x)) = ap (λ e. e.sabm_info) x.expires ∙ expiry_info m.endpoint
+  slot_info = slot_keeps m (λ e. e.sabm_info) (λ e. grind arith)
 
   pub slot_state : ((slot_outcome m).link.endpoint.state ≡ m.endpoint.state) ⊎ ((slot_outcome m).link.endpoint.state ≡ Closed)
-  slot_state = by_step (step_of_endpoint m)
+  slot_state = by_slot (slot_outcome m) (is_slot m)
     where
-      by_step : IsStepOfEndpoint m (slot_outcome m) → ((slot_outcome m).link.endpoint.state ≡ m.endpoint.state)
-          ⊎ ((slot_outcome m).link.endpoint.state ≡ Closed)
-      by_step (inl x) = inl (ap (λ e. e.state) x.endpoint)
-      by_step (inr (inl x)) = inl (ap (λ e. e.state) x.repeats)
-      by_step (inr (inr x)) = by_expiry (expiry_state m.endpoint)
-        where
-          by_expiry : ((t200_expiry m.endpoint).new_state.state ≡ m.endpoint.state)
-              ⊎ ((t200_expiry m.endpoint).new_state.state ≡ Closed) →
-              ((slot_outcome m).link.endpoint.state ≡ m.endpoint.state) ⊎ ((slot_outcome m).link.endpoint.state ≡ Closed)
-          by_expiry (inl e) = inl (ap (λ e. e.state) x.expires ∙ e)
-          by_expiry (inr e) = inr (ap (λ e. e.state) x.expires ∙ e)
+      by_slot : (o : SlotOutcome) → IsSlot m o → (o.link.endpoint.state ≡ m.endpoint.state) ⊎ (o.link.endpoint.state ≡ Closed)
+      by_slot o (expiring awaits sent due over) = expiry_state m.endpoint
+      by_slot o other = inl refl
 
   module _ (role : Role) (ro : m.endpoint.role ≡ role) (idle : Bool) where
     abbrev pub SentBy : Option Frame → Type 0
@@ -332,12 +303,10 @@ module _ (m : LinkState) where
     open_made o e p = rw o e
 
     again_made : SentBy (Some (awaited_frame true m.endpoint.state m.endpoint)) → SentBy (first_frame (t200_expiry m.endpoint).frames)
-    again_made h = by_case (again_case m.endpoint)
-      where
-        by_case : (first_frame (t200_expiry m.endpoint).frames ≡ Some (awaited_frame true m.endpoint.state m.endpoint))
-            ⊎ (first_frame (t200_expiry m.endpoint).frames ≡ None) → SentBy (first_frame (t200_expiry m.endpoint).frames)
-        by_case (inl e) = rw e h
-        by_case (inr e) = rw e tt
+    again_made h = elim (again_case m.endpoint) [
+      | inl e ↦ rw e h
+      | inr e ↦ rw e tt
+    ]
 
     made_brings : IfSome m.answer (λ f. Brings role idle m.endpoint.sabm_info f.cr f.content) →
         ((p : Bool) → SentBy (Some (awaited_frame p m.endpoint.state m.endpoint))) → SentBy (slot_outcome m).frame
@@ -347,7 +316,7 @@ module _ (m : LinkState) where
         by_from (nowhere e) = rw e tt
         by_from (owed e) = rw e owes
         by_from (first e due new sent) = rw e (made false)
-        by_from (again e due old sent) = rw e (again_made (made true))
+        by_from (again e due old sent over) = rw e (again_made (made true))
 
     pub opening_brings : m.endpoint.state ≡ Opening → role ≡ Mobile → m.answer ≡ None → SentBy (slot_outcome m).frame
     opening_brings o e none = made_brings (rw none tt) (opening_made o e)
@@ -365,46 +334,31 @@ module _ (l : LinkState) (z : l.endpoint.sapi ≡ Zero) (idle : Bool) where
   pub opening_arrives : l.endpoint.role ≡ Mobile → l.endpoint.state ≡ Opening → (o : Option Frame) →
       Arrived Mobile idle l.endpoint.sabm_info o →
       (after_arriving o l ≡ l) ⊎ ((after_arriving o l ≡ opened l) × (idle ≡ false))
-  opening_arrives ro op None b = inl refl
-  opening_arrives ro op (Some f) b = by_taken (frame_taken f l z)
-    where
-      by_taken : (after_frame f l ≡ l) ⊎ (after_frame f l ≡ taken (reply_with f.sapi f.cr l f.content) l) →
-          (after_frame f l ≡ l) ⊎ ((after_frame f l ≡ opened l) × (idle ≡ false))
-      by_taken (inl e) = inl e
-      by_taken (inr e) = by_kept (opening_keeps f.cr l z idle ro op f.content b.1)
-        where
-          by_kept : (taken (reply_with 0 f.cr l f.content) l ≡ l)
-              ⊎ ((taken (reply_with 0 f.cr l f.content) l ≡ opened l) × (idle ≡ false)) →
-              (after_frame f l ≡ l) ⊎ ((after_frame f l ≡ opened l) × (idle ≡ false))
-          by_kept (inl k) = inl (e ∙ ap (λ s. taken (reply_with s f.cr l f.content) l) b.0 ∙ k)
-          by_kept (inr (k, i)) = inr (e ∙ ap (λ s. taken (reply_with s f.cr l f.content) l) b.0 ∙ k, i)
+  opening_arrives ro op o b = over_arrival o l z (λ m. (m ≡ l) ⊎ ((m ≡ opened l) × (idle ≡ false))) (inl refl)
+      (λ f e. (let x : Arrived Mobile idle l.endpoint.sabm_info (Some f) = rw e at b in
+      subst (λ s. (taken (reply_with s f.cr l f.content) l ≡ l)
+      ⊎ ((taken (reply_with s f.cr l f.content) l ≡ opened l) × (idle ≡ false)))
+      (sym x.0) (opening_keeps f.cr l z idle ro op f.content x.1)))
 
   pub idle_arrives : l.endpoint.role ≡ Network → l.endpoint.state ≡ Idle → idle ≡ true → (info : List ℕ) →
       1 ≤ length info →
       (o : Option Frame) → Arrived Network idle info o →
       (after_arriving o l ≡ l) ⊎ ((after_arriving o l ≡ accepting info l) × (o ≢ None))
-  idle_arrives ro op i info some None b = inl refl
-  idle_arrives ro op i info some (Some f) b = by_taken (frame_taken f l z)
+  idle_arrives ro op i info some o b = over_arrival o l z (λ m. (m ≡ l) ⊎ ((m ≡ accepting info l) × (o ≢ None))) (inl refl)
+      (λ f e. (let x : Arrived Network idle info (Some f) = rw e at b in inr (
+        ap (λ s. taken (reply_with s f.cr l f.content) l) x.0 ∙ idle_accepts f.cr l z idle ro op info some f.content x.1 i,
+        λ h. some_not_none f (sym e ∙ h),
+      )))
     where
-      by_taken : (after_frame f l ≡ l) ⊎ (after_frame f l ≡ taken (reply_with f.sapi f.cr l f.content) l) →
-          (after_frame f l ≡ l) ⊎ ((after_frame f l ≡ accepting info l) × (Some f ≢ None))
-      by_taken (inl e) = inl e
-      by_taken (inr e) = inr (
-        e ∙ ap (λ s. taken (reply_with s f.cr l f.content) l) b.0 ∙ idle_accepts f.cr l z idle ro op info some f.content b.1 i,
-        λ h. cc,
-      )
+      some_not_none : (f : Frame) → Some f ≡ None → ⊥
+      some_not_none f h = cc
 
   pub open_arrives : l.endpoint.state ≡ Open → l.answer ≡ None → (role : Role) → l.endpoint.role ≡ role →
       (o : Option Frame) →
       Arrived role idle l.endpoint.sabm_info o → StaysOpen l (after_arriving o l)
-  open_arrives op none role ro None b = stays_as l l refl op none
-  open_arrives op none role ro (Some f) b = by_taken (frame_taken f l z)
-    where
-      by_taken : (after_frame f l ≡ l) ⊎ (after_frame f l ≡ taken (reply_with f.sapi f.cr l f.content) l) →
-          StaysOpen l (after_frame f l)
-      by_taken (inl e) = stays_as l (after_frame f l) e op none
-      by_taken (inr e) = rw (e ∙ ap (λ s. taken (reply_with s f.cr l f.content) l) b.0)
-          (open_keeps l op none f.cr z role ro idle f.content b.1)
+  open_arrives op none role ro o b = over_arrival o l z (StaysOpen l) (stays_as l l refl op none)
+      (λ f e. (let x : Arrived role idle l.endpoint.sabm_info (Some f) = rw e at b in
+      rw (ap (λ s. taken (reply_with s f.cr l f.content) l) x.0) (open_keeps l op none f.cr z role ro idle f.content x.1)))
 
 -- ---- the SABM and its UA
 

@@ -1,34 +1,36 @@
 -- The bounds from the start of a run, and why few losses close no link.
 use Rattle.{
+  std.proofs.lemmas.Bool.cases_Bool,
   std.specs.Prelude.{◌≡◌, ◌≢◌, ℕ, zero, suc, ◌+◌, ◌*◌, ◌≤◌, Bool, true, false, ◌⊎◌, nat_le, nat_lt, List},
-  std.{specs.Prelude.{[], ◌∷◌, Option, Some, None, All, ◌&&◌, ◌-◌}, proofs.Common.{inl, inr, arith, refl, ap, sym}},
-  std.proofs.{Common.◌∙◌, lemmas.List.Elements.{All-head, All-tail}, Math.Nat.{add-mul, mul-add, one-mul}},
-  lapdm_frame.specs.Content.{Content, I, Rr, Rej, Frame},
+  std.{specs.Prelude.{Option, Some, All, ◌-◌}, proofs.Common.{inl, inr, arith, refl, ap, sym}},
+  std.proofs.{Common.◌∙◌, Math.Nat.{add-mul, mul-add, one-mul}},
+  lapdm_frame.specs.Content.{Content, I, Frame},
   lapdm_end.specs.lapdm_window.{
-    declared.{State.TheVariants.{Idle, Opening, Open, Closed}, Sapi.TheVariants.Zero, Refused.Refused},
+    declared.{State.TheVariants.{Idle, Opening, Open, Closed}, Sapi.TheVariants.Zero},
     Ends.{Role, Mobile, Network, EndpointState, n200, awaits_ack},
-    Tables.{outcome_of_reply, Reply, Nothing, SendsDm, TakesIFrame, TakesRr, is_command},
-    Calls.{Call, Opens, Sends, refusal_of, is_idle, t200_expiry},
+    Tables.{outcome_of_reply, Reply, TakesIFrame, TakesRr, TakesRej},
+    Calls.{Call, is_idle, t200_expiry},
     segmenting.Segments.Segment,
     Rules.{takes_i_frame, takes_rr},
   },
   lapdm_link.specs.Events.other,
   lapdm_datalink.{
     specs.{
-      Links.{LinkState, slot_outcome, after_frame, is_due, keeps_back},
-      Channels.{Run, IsUse, after_arriving, after_calls, after_call_unless},
+      Links.{LinkState, SlotOutcome, slot_outcome, is_due},
+      Channels.{Run, IsUse, after_arriving, after_calls},
       Progress.{link_at, turn_at, arriving_at, ready_at, round_trip, lossy_slots, one_if, expires_in, frames_at, FromStart, answer_goes},
     },
     proofs.{
-      ProgressSteps.{acked, issued, taken, outcome_endpoint},
-      ProgressLink.{reply_with, frame_taken, kept_back},
+      ProgressSteps.{acked, issued, is_rej},
+      ProgressLink.{reply_with, not_rej, over_endpoint, over_calls},
+      Answering.{IsSlot, expiring, is_slot},
       ProgressRuns.{NeverReleases, sound, link_step},
-      ProgressStart.{is_young, i_reply, rr_reply},
+      ProgressStart.{is_young, over_i},
       ProgressPaid.{le_of, not_le_of},
       ProgressExpiries.{old_enough, waits_at, true-false},
       ProgressWaiting.{Stage, quiet, unsent, failed, going, pending},
       ProgressKnown.{Known, Unclosed, MobileSlot, NetworkSlot, known},
-      ProgressOpening.{times_one, idle_rests, W, E, B, Lo, expiry_step, Calling, Through, must_fail},
+      ProgressOpening.{times_one, idle_rests, W, E, B, Lo, expiry_step, Calling, calling_expires, must_fail},
       ProgressEarly.{Early, Alone, late_open, expires_not},
       ProgressWhole.{Work, Whole, whole, few, IsUnheard, mobile_work, lo_up},
       ProgressTotal.answers_total,
@@ -100,14 +102,6 @@ module _ (r : Run) (u : NeverReleases r) (long : round_trip r.delay ≤ r.t200) 
   network_idle : (n : ℕ) → (link_at r n Mobile).endpoint.state ≡ Idle → (link_at r n Network).endpoint.state ≡ Open → ⊥
   network_idle n i o = true-false (sym ((sound r u n).network_idle (ap is_idle i)) ∙ ap is_idle o)
 
-  calling_expires : (n : ℕ) (x : Calling r u long n) → E r u long n Mobile ≤ Lo r u long n
-  calling_expires n x = by_fate x.fate
-    where
-      by_fate : (Through r u long n x.v × (E r u long n Mobile ≤ Lo r u long n)) ⊎ (E r u long n Mobile + 1 ≤ Lo r u long n) →
-          E r u long n Mobile ≤ Lo r u long n
-      by_fate (inl (t, p)) = p
-      by_fate (inr p) = omega (arith, p)
-
   calling_waits : (n : ℕ) (x : Calling r u long n) → W r u long n Mobile
       ≤ round_trip r.delay * frames_at r n Mobile + r.t200 * Lo r u long n + B r u long n Mobile
   calling_waits n x = rw (asked_one n (ap is_idle x.state)) (work_bound Mobile 1 n n (mobile_work r u long n x))
@@ -132,13 +126,13 @@ module _ (r : Run) (u : NeverReleases r) (long : round_trip r.delay ≤ r.t200) 
   bounds n (Z.calling x b y) = record {
     mobile = calling_waits n x;
     network = omega (arith, (early_bound n x b y).0);
-    mobile_expires = calling_expires n x;
+    mobile_expires = calling_expires r u long n x;
     network_expires = (early_bound n x b y).1;
   }
   bounds n (Z.heard x v e t p late o w) = record {
     mobile = calling_waits n x;
     network = network_waits n (suc (suc v + (1 + 2 * r.delay))) w;
-    mobile_expires = calling_expires n x;
+    mobile_expires = calling_expires r u long n x;
     network_expires = work_expires Network 0 (suc (suc v + (1 + 2 * r.delay))) n w;
   }
   bounds n (Z.joined o n0 n1 a there w b here v) = record {
@@ -153,37 +147,17 @@ module _ (r : Run) (u : NeverReleases r) (long : round_trip r.delay ≤ r.t200) 
 
 -- ---- what a slot does to an endpoint
 
--- the endpoint changes only if T200 expires
-pub data SlotEnd (m : LinkState) : Type 0 where
-  same : (slot_outcome m).link.endpoint ≡ m.endpoint → SlotEnd m
-  expired : expires_in m ≡ true → (slot_outcome m).link.endpoint ≡ (t200_expiry m.endpoint).new_state → SlotEnd m
-
-module _ (l : LinkState) where
-  end_by : (a : Option Frame) → l.answer ≡ a → (b : Bool) → is_due l ≡ b → (c : Bool) → l.is_sent ≡ c → (k : Bool) →
-      ((f : Frame) → a ≡ Some f → keeps_back f l ≡ k) → SlotEnd l
-  end_by None n false e c g k kept = same (grind (arith, n, e))
-  end_by None n true e false g k kept = same (grind (arith, n, e, g))
-  end_by None n true e true g k kept = expired (rw (n, e, g) refl) (grind (arith, n, e, g))
-  end_by (Some f) n b e c g false kept = same (grind (arith, n, kept f refl))
-  end_by (Some f) n false e c g true kept = same (grind (arith, n, kept f refl, e))
-  end_by (Some f) n true e false g true kept = same (grind (arith, n, kept f refl, e, g))
-  end_by (Some f) n true e true g true kept = expired (grind (arith, n, kept f refl, e, g)) (grind (arith, n, kept f refl, e, g))
-
-  slot_end : SlotEnd l
-  slot_end = let k = kept_back l l.answer in end_by l.answer refl (is_due l) refl l.is_sent refl k.0 k.1
-
 not_less : (a b : ℕ) → nat_lt a b ≡ false → b ≤ a
 not_less a b h = grind (arith, h)
 
 expiry_closes : (e : EndpointState) → (t200_expiry e).new_state.state ≡ Closed → e.state ≢ Closed → 5 ≤ e.retries
-expiry_closes e h o = by_case (nat_lt e.retries (n200 e.channel e.state)) refl
+expiry_closes e h o = elim (cases_Bool (nat_lt e.retries (n200 e.channel e.state))) [
+  | inl k ↦ absurd (o (sym (grind (arith, k)) ∙ h))
+  | inr k ↦ omega (arith, five, not_less e.retries (n200 e.channel e.state) k)
+]
   where
     five : 5 ≤ n200 e.channel e.state
     five = grind arith
-
-    by_case : (b : Bool) → nat_lt e.retries (n200 e.channel e.state) ≡ b → 5 ≤ e.retries
-    by_case true k = absurd (o (sym (grind (arith, k)) ∙ h))
-    by_case false k = omega (arith, five, not_less e.retries (n200 e.channel e.state) k)
 
 expiry_counts : (e : EndpointState) → (t200_expiry e).new_state.retries ≤ e.retries + 1
 expiry_counts e = grind arith
@@ -191,18 +165,19 @@ expiry_counts e = grind arith
 -- a link that is given up in its slot had repeated its frame N200 times
 gives_up : (m : LinkState) → (slot_outcome m).link.endpoint.state ≡ Closed → m.endpoint.state ≢ Closed →
     (expires_in m ≡ true) × (5 ≤ m.endpoint.retries)
-gives_up m h o = by_end (slot_end m)
+gives_up m h o = by_slot (slot_outcome m) (is_slot m) h
   where
-    by_end : SlotEnd m → (expires_in m ≡ true) × (5 ≤ m.endpoint.retries)
-    by_end (same e) = absurd (o (ap (λ x. x.state) (sym e) ∙ h))
-    by_end (expired x e) = (x, expiry_closes m.endpoint (ap (λ y. y.state) (sym e) ∙ h) o)
+    by_slot : (s : SlotOutcome) → IsSlot m s → s.link.endpoint.state ≡ Closed →
+        (expires_in m ≡ true) × (5 ≤ m.endpoint.retries)
+    by_slot s (expiring awaits sent due over) h = (over, expiry_closes m.endpoint h o)
+    by_slot s other h = absurd (o h)
 
 slot_retries : (m : LinkState) → (slot_outcome m).link.endpoint.retries ≤ m.endpoint.retries + one_if (expires_in m)
-slot_retries m = by_end (slot_end m)
+slot_retries m = by_slot (slot_outcome m) (is_slot m)
   where
-    by_end : SlotEnd m → (slot_outcome m).link.endpoint.retries ≤ m.endpoint.retries + one_if (expires_in m)
-    by_end (same e) = omega (arith, ap (λ x. x.retries) e)
-    by_end (expired x e) = omega (arith, ap (λ y. y.retries) e, expiry_counts m.endpoint, ap one_if x)
+    by_slot : (s : SlotOutcome) → IsSlot m s → s.link.endpoint.retries ≤ m.endpoint.retries + one_if (expires_in m)
+    by_slot s (expiring awaits sent due over) = omega (arith, expiry_counts m.endpoint, ap one_if over)
+    by_slot s other = omega arith
 
 i_retries : (ns nr : ℕ) (p : Bool) (s : Segment) (e : EndpointState) → (takes_i_frame ns nr p s e).new_state.retries ≤ e.retries
 i_retries ns nr p s e = grind arith
@@ -210,37 +185,11 @@ i_retries ns nr p s e = grind arith
 rr_retries : (nr : ℕ) (p : Bool) (e : EndpointState) → (takes_rr nr p e).new_state.retries ≤ e.retries
 rr_retries nr p e = grind arith
 
-abbrev pub Fewer : LinkState → Reply → Type 0
-Fewer l q = (outcome_of_reply q l.endpoint).new_state.retries ≤ l.endpoint.retries
-
-module _ (s : ℕ) (cr : Bool) (l : LinkState) where
-  same_reply : (q t : Reply) → q ≡ t → Fewer l t → Fewer l q
-  same_reply q t e h = rw e h
-
-  rr_fewer : (nr : ℕ) (p : Bool) → Fewer l (reply_with s cr l (Rr nr p))
-  rr_fewer nr p = by_reply (rr_reply s cr l nr p)
-    where
-      by_reply : ((reply_with s cr l (Rr nr p) ≡
-          TakesRr nr (is_command l.endpoint (record { sapi = s; cr = cr; content = Rr nr p }) && p))
-          × (l.endpoint.state ≡ Open))
-          ⊎ (reply_with s cr l (Rr nr p) ≡ Nothing) ⊎ (reply_with s cr l (Rr nr p) ≡ SendsDm) →
-          Fewer l (reply_with s cr l (Rr nr p))
-      by_reply (inl (e, o)) = same_reply (reply_with s cr l (Rr nr p)) _ e (rr_retries nr _ l.endpoint)
-      by_reply (inr (inl e)) = same_reply (reply_with s cr l (Rr nr p)) Nothing e (omega arith)
-      by_reply (inr (inr e)) = same_reply (reply_with s cr l (Rr nr p)) SendsDm e (omega arith)
-
-  reply_retries : (c : Content) → Fewer l (reply_with s cr l c)
-  reply_retries (I ns nr p more info) = by_reply (i_reply s cr l ns nr p more info)
-    where
-      by_reply : ((reply_with s cr l (I ns nr p more info) ≡ TakesIFrame ns nr p (info, more)) × (l.endpoint.state ≡ Open))
-          ⊎ (reply_with s cr l (I ns nr p more info) ≡ Nothing) ⊎ (reply_with s cr l (I ns nr p more info) ≡ SendsDm) →
-          Fewer l (reply_with s cr l (I ns nr p more info))
-      by_reply (inl (e, o)) = same_reply (reply_with s cr l (I ns nr p more info)) _ e (i_retries ns nr p (info, more) l.endpoint)
-      by_reply (inr (inl e)) = same_reply (reply_with s cr l (I ns nr p more info)) Nothing e (omega arith)
-      by_reply (inr (inr e)) = same_reply (reply_with s cr l (I ns nr p more info)) SendsDm e (omega arith)
-  reply_retries (Rr nr p) = rr_fewer nr p
-  reply_retries (Rej nr p) = rr_fewer nr p
-  reply_retries other = grind arith
+reply_retries : (e : EndpointState) (r : Reply) → is_rej r ≡ false → (outcome_of_reply r e).new_state.retries ≤ e.retries
+reply_retries e (TakesIFrame ns nr p s) h = i_retries ns nr p s e
+reply_retries e (TakesRr nr p) h = rr_retries nr p e
+reply_retries e (TakesRej nr p) h = absurd cc
+reply_retries e other h = grind arith
 
 -- ---- Closed is never left
 
@@ -250,44 +199,18 @@ closed_open q = cc
 module _ (s : ℕ) (cr : Bool) (l : LinkState) where
   closed_reply : (c : Content) → l.endpoint.state ≡ Closed →
       (outcome_of_reply (reply_with s cr l c) l.endpoint).new_state.state ≡ Closed
-  closed_reply (I ns nr p more info) h = by_reply (i_reply s cr l ns nr p more info)
-    where
-      by_reply : ((reply_with s cr l (I ns nr p more info) ≡ TakesIFrame ns nr p (info, more)) × (l.endpoint.state ≡ Open))
-          ⊎ (reply_with s cr l (I ns nr p more info) ≡ Nothing) ⊎ (reply_with s cr l (I ns nr p more info) ≡ SendsDm) →
-          (outcome_of_reply (reply_with s cr l (I ns nr p more info)) l.endpoint).new_state.state ≡ Closed
-      by_reply (inl (e, o)) = absurd (closed_open (sym h ∙ o))
-      by_reply (inr (inl e)) = ap (λ q. (outcome_of_reply q l.endpoint).new_state.state) e ∙ h
-      by_reply (inr (inr e)) = ap (λ q. (outcome_of_reply q l.endpoint).new_state.state) e ∙ h
+  closed_reply (I ns nr p more info) h = over_i s cr l (λ q. (outcome_of_reply q l.endpoint).new_state.state ≡ Closed)
+      ns nr p more info (λ o. absurd (closed_open (sym h ∙ o))) h h
   closed_reply other h = grind (arith, h)
 
 closed_arriving : (o : Option Frame) (l : LinkState) → l.endpoint.sapi ≡ Zero → l.endpoint.state ≡ Closed →
     (after_arriving o l).endpoint.state ≡ Closed
-closed_arriving None l z h = h
-closed_arriving (Some f) l z h = by_taken (frame_taken f l z)
-  where
-    by_taken : (after_frame f l ≡ l) ⊎ (after_frame f l ≡ taken (reply_with f.sapi f.cr l f.content) l) →
-        (after_frame f l).endpoint.state ≡ Closed
-    by_taken (inl e) = ap (λ m. m.endpoint.state) e ∙ h
-    by_taken (inr e) = ap (λ m. m.endpoint.state) e
-        ∙ ap (λ x. x.state) (outcome_endpoint (outcome_of_reply (reply_with f.sapi f.cr l f.content) l.endpoint) l)
-        ∙ closed_reply f.sapi f.cr l f.content h
+closed_arriving o l z h = over_endpoint o l z (λ e. e.state ≡ Closed) h (λ f. closed_reply f.sapi f.cr l f.content h)
 
-closed_refuses : (role : Role) (c : Call) (l : LinkState) → IsUse role c → l.endpoint.state ≡ Closed →
-    refusal_of c l.endpoint ≡ None → ⊥
-closed_refuses role (Sends m) l u h e = grind (arith, h, e)
-closed_refuses role (Opens info) l u h e = grind (arith, h, e)
-closed_refuses role other l u h e = absurd u
-
-closed_calls : (role : Role) (cs : List Call) (l : LinkState) → All (IsUse role) cs → l.endpoint.state ≡ Closed →
+pub closed_calls : (role : Role) (cs : List Call) (l : LinkState) → All (IsUse role) cs → l.endpoint.state ≡ Closed →
     (after_calls cs l).endpoint.state ≡ Closed
-closed_calls role [] l u h = h
-closed_calls role (c ∷ cs) l u h =
-    closed_calls role cs (after_call_unless (refusal_of c l.endpoint) c l) (All-tail (IsUse role) c cs u)
-    (one (refusal_of c l.endpoint) refl)
-  where
-    one : (x : Option Refused) → refusal_of c l.endpoint ≡ x → (after_call_unless x c l).endpoint.state ≡ Closed
-    one (Some why) e = h
-    one None e = absurd (closed_refuses role c l (All-head (IsUse role) c cs u) h e)
+closed_calls role = over_calls role (λ l m. l.endpoint.state ≡ Closed → m.endpoint.state ≡ Closed) (λ l h. h)
+    (λ l m k a b h. b (a h)) (λ m l e h. absurd (grind (arith, h, e))) (λ info l q e h. absurd (grind (arith, h, e)))
 
 module _ (r : Run) (u : NeverReleases r) where
   closed_next : (n : ℕ) (role : Role) → (link_at r n role).endpoint.state ≡ Closed →
@@ -317,36 +240,13 @@ module _ (r : Run) (u : NeverReleases r) where
 
 arriving_retries : (o : Option Frame) (l : LinkState) → l.endpoint.sapi ≡ Zero →
     (after_arriving o l).endpoint.retries ≤ l.endpoint.retries
-arriving_retries None l z = omega arith
-arriving_retries (Some f) l z = by_taken (frame_taken f l z)
-  where
-    by_taken : (after_frame f l ≡ l) ⊎ (after_frame f l ≡ taken (reply_with f.sapi f.cr l f.content) l) →
-        (after_frame f l).endpoint.retries ≤ l.endpoint.retries
-    by_taken (inl e) = omega (arith, ap (λ m. m.endpoint.retries) e)
-    by_taken (inr e) = omega (
-      arith,
-      ap (λ m. m.endpoint.retries) e,
-      ap (λ x. x.retries) (outcome_endpoint (outcome_of_reply (reply_with f.sapi f.cr l f.content) l.endpoint) l),
-      reply_retries f.sapi f.cr l f.content,
-    )
-
-call_retries : (role : Role) (c : Call) (l : LinkState) → IsUse role c → (x : Option Refused) →
-    (after_call_unless x c l).endpoint.retries ≤ l.endpoint.retries
-call_retries role c l u (Some why) = omega arith
-call_retries role (Sends m) l u None = grind arith
-call_retries role (Opens info) l u None = grind arith
-call_retries role other l u None = absurd u
+arriving_retries o l z = over_endpoint o l z (λ e. e.retries ≤ l.endpoint.retries) (omega arith)
+    (λ f. reply_retries l.endpoint (reply_with f.sapi f.cr l f.content) (not_rej f.sapi f.cr l f.content))
 
 calls_retries : (role : Role) (cs : List Call) (l : LinkState) → All (IsUse role) cs →
     (after_calls cs l).endpoint.retries ≤ l.endpoint.retries
-calls_retries role [] l u = omega arith
-calls_retries role (c ∷ cs) l u =
-    let x = refusal_of c l.endpoint in
-    omega (
-      arith,
-      calls_retries role cs (after_call_unless x c l) (All-tail (IsUse role) c cs u),
-      call_retries role c l (All-head (IsUse role) c cs u) x,
-    )
+calls_retries role = over_calls role (λ l m. m.endpoint.retries ≤ l.endpoint.retries) (λ l. omega arith)
+    (λ l m k a b. omega (arith, a, b)) (λ m l ok. grind arith) (λ info l q ok. grind arith)
 
 module _ (r : Run) (u : NeverReleases r) (long : round_trip r.delay ≤ r.t200) where
   ready_retries : (n : ℕ) (role : Role) → (ready_at r n role).endpoint.retries ≤ (link_at r n role).endpoint.retries
@@ -495,29 +395,26 @@ module _ (r : Run) (u : NeverReleases r) (long : round_trip r.delay ≤ r.t200) 
 
   -- ---- no loss closes it, unless there are six
 
-  expiring : (k : ℕ) (role : Role) → E r u long k role ≤ Lo r u long k →
+  losses_pay : (k : ℕ) (role : Role) → E r u long k role ≤ Lo r u long k →
       (expires_in (ready_at r k role) ≡ true → E r u long k role + 1 ≤ Lo r u long k) → E r u long (suc k) role ≤ Lo r u long k
-  expiring k role p more = by_case (expires_in (ready_at r k role)) refl
-    where
-      by_case : (b : Bool) → expires_in (ready_at r k role) ≡ b → E r u long (suc k) role ≤ Lo r u long k
-      by_case true e = omega (arith, expiry_step r u long k role, ap one_if e, more e)
-      by_case false e = omega (arith, expiry_step r u long k role, ap one_if e, p)
+  losses_pay k role p more = elim (cases_Bool (expires_in (ready_at r k role))) [
+    | inl e ↦ omega (arith, expiry_step r u long k role, ap one_if e, more e)
+    | inr e ↦ omega (arith, expiry_step r u long k role, ap one_if e, p)
+  ]
 
   keeps_next : (n : ℕ) → Lo r u long (suc n) ≤ 5 → Unclosed r u n → Unclosed r u (suc n)
-  keeps_next n h before j a role e = by_last (nat_le j n) refl
-    where
-      by_last : (b : Bool) → nat_le j n ≡ b → ⊥
-      by_last true q = before j (le_of j n q) role e
-      by_last false q =
-          let same : j ≡ suc n = omega (arith, not_le_of j n q, a) in
-          omega (arith, closes n (known r u n before) (whole r u long n before) role (rw same at e), h, lo_up r u long n)
+  keeps_next n h before j a role e = elim (cases_Bool (nat_le j n)) [
+    | inl q ↦ before j (le_of j n q) role e
+    | inr q ↦
+        let same : j ≡ suc n = omega (arith, not_le_of j n q, a) in
+        omega (arith, closes n (known r u n before) (whole r u long n before) role (rw same at e), h, lo_up r u long n)
+  ]
 
   keeps_start : Unclosed r u 0
   keeps_start j a role e = start_closed role (let same : j ≡ 0 = omega (arith, a) in rw same at e)
     where
       start_closed : (role : Role) → (link_at r 0 role).endpoint.state ≡ Closed → ⊥
-      start_closed Mobile e = cc
-      start_closed Network e = cc
+      start_closed role e = grind arith
 
   pub keeps : (n : ℕ) → Lo r u long n ≤ 5 → Unclosed r u n
   keeps zero h = keeps_start
@@ -529,12 +426,12 @@ module _ (r : Run) (u : NeverReleases r) (long : round_trip r.delay ≤ r.t200) 
       let x = bounds r u long k w in
       record {
         waits = omega (arith, x.mobile, (answers_total r u long k c).0, x.network_expires, times_next r u long (lossy_slots r 0 k));
-        expires = expiring k Mobile x.mobile_expires (λ e. mobile_owes k (known r u k c) w e (K.mobile_slot r u k (known r u k c)));
+        expires = losses_pay k Mobile x.mobile_expires (λ e. mobile_owes k (known r u k c) w e (K.mobile_slot r u k (known r u k c)));
       }
   from_start k c Network =
       let w = whole r u long k c in
       let x = bounds r u long k w in
       record {
         waits = omega (arith, x.network, (answers_total r u long k c).1, x.mobile_expires, times_next r u long (lossy_slots r 0 k));
-        expires = expiring k Network x.network_expires (λ e. network_owes k (known r u k c) w e);
+        expires = losses_pay k Network x.network_expires (λ e. network_owes k (known r u k c) w e);
       }

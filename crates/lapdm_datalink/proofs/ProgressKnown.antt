@@ -10,13 +10,13 @@ use Rattle.{
   },
   lapdm_datalink.{
     proofs.{
-      ProgressStart.{is_young, ready_called, ready_role, ready_moves, idle_silent},
-      ProgressRuns.{NeverReleases, sound, slotted_in, link_step, sent_step},
+      ProgressStart.{is_young, idle_silent},
+      ProgressRuns.{NeverReleases, sound, slotted_in, link_step, sent_step, moved_in, called_in, role_in},
       ProgressFrames.{Brings, opened, accepting, StaysOpen, CalledTo, nothing, opens, sends, calls_to, slot_info, slot_state},
       ProgressFrames.{opening_brings, open_brings, opening_arrives, idle_arrives, open_arrives, still_brings, idle_opening, idle_open},
       ProgressFrames.opening_open,
     },
-    specs.{Links.{LinkState, slot_outcome, after_slot}, Channels.{Run, channel_at, side_at, after_calls, after_arriving, carried}},
+    specs.{Links.{LinkState, after_slot}, Channels.{Run, channel_at, side_at, after_calls, after_arriving, carried}},
     specs.Progress.{link_at, turn_at, arriving_at, ready_at, frame_at},
   },
 }
@@ -84,8 +84,7 @@ module _ (r : Run) (u : NeverReleases r) where
     calls_of role = calls_to role (turn_at r n role).calls (after role) (u n role)
 
     pub kept : (role : Role) → (M n role).answer ≡ (after role).answer
-    kept role = (ready_called role (arriving_at r n role) (turn_at r n role).calls (L n role) ((sound r u n).good role)
-        ((sound r u n).settled role).owes ((sound r u n).idle role) (u n role)).answer_same
+    kept role = (called_in r u n role).answer_same
 
     none : (role : Role) → (L n role).answer ≡ None
     none role = ((sound r u n).settled role).owes
@@ -125,12 +124,10 @@ module _ (r : Run) (u : NeverReleases r) where
             answers = kept Mobile ∙ ap (λ l. l.answer) e ∙ none Mobile
 
             there : (L n Network).endpoint.state ≡ Open
-            there = by_network h.network
-              where
-                by_network : ((L n Network).endpoint.state ≡ Idle) ⊎ ((L n Network).endpoint.state ≡ Open) →
-                    (L n Network).endpoint.state ≡ Open
-                by_network (inl x) = absurd (true_false (sym (ap is_young x) ∙ i))
-                by_network (inr x) = x
+            there = elim h.network [
+              | inl x ↦ absurd (true_false (sym (ap is_young x) ∙ i))
+              | inr x ↦ x
+            ]
 
             by_calls : CalledTo Mobile (after Mobile) (after_calls (turn_at r n Mobile).calls (after Mobile)) → MobileSlot n
             by_calls (nothing c) = joins o (ap (λ l. l.endpoint.state) c ∙ a_open)
@@ -201,36 +198,31 @@ module _ (r : Run) (u : NeverReleases r) where
             by_calls (sends a b c) = joins i b (c ∙ ap (λ l. l.endpoint.sabm_info) e) answers o
 
     pub network_slot : Known n → NetworkSlot n
-    network_slot h = by_state h.network
-      where
-        by_state : ((L n Network).endpoint.state ≡ Idle) ⊎ ((L n Network).endpoint.state ≡ Open) → NetworkSlot n
-        by_state (inl i) = network_idle h i
-        by_state (inr o) =
-            let x = open_slot Network o
-            (open_arrives (L n Network) ((sound r u n).good Network).sapi (young_at n Mobile) o (none Network) Network
-            (role_is Network) (arriving_at r n Network) (rw (← h.info o) at (h.frames Mobile r.delay))) in
-            stays o x.0 x.1 (rw (h.info o) at x.2)
+    network_slot h = elim h.network [
+      | inl i ↦ network_idle h i
+      | inr o ↦
+          let x = open_slot Network o
+          (open_arrives (L n Network) ((sound r u n).good Network).sapi (young_at n Mobile) o (none Network) Network
+          (role_is Network) (arriving_at r n Network) (rw (← h.info o) at (h.frames Mobile r.delay))) in
+          stays o x.0 x.1 (rw (h.info o) at x.2)
+    ]
 
   -- ---- the next slot
 
   pub state_next : (n : ℕ) → Unclosed (suc n) → (role : Role) → (L (suc n) role).endpoint.state ≡ (M n role).endpoint.state
-  state_next n c role = by_slot (slot_state (M n role))
-    where
-      by_slot : ((slot_outcome (M n role)).link.endpoint.state ≡ (M n role).endpoint.state)
-          ⊎ ((slot_outcome (M n role)).link.endpoint.state ≡ Closed) → (L (suc n) role).endpoint.state ≡ (M n role).endpoint.state
-      by_slot (inl e) = ap (λ l. l.endpoint.state) (link_step r n role) ∙ e
-      by_slot (inr e) = absurd (c (suc n) (omega arith) role (ap (λ l. l.endpoint.state) (link_step r n role) ∙ e))
+  state_next n c role = elim (slot_state (M n role)) [
+    | inl e ↦ ap (λ l. l.endpoint.state) (link_step r n role) ∙ e
+    | inr e ↦ absurd (c (suc n) (omega arith) role (ap (λ l. l.endpoint.state) (link_step r n role) ∙ e))
+  ]
 
   pub info_next : (n : ℕ) (role : Role) → (L (suc n) role).endpoint.sabm_info ≡ (M n role).endpoint.sabm_info
   info_next n role = ap (λ l. l.endpoint.sabm_info) (link_step r n role) ∙ slot_info (M n role)
 
   pub role_next : (n : ℕ) (role : Role) → (M n role).endpoint.role ≡ role
-  role_next n role = ready_role role (arriving_at r n role) (turn_at r n role).calls (L n role) ((sound r u n).good role)
-      ((sound r u n).settled role).owes ((sound r u n).idle role) (u n role) ∙ (sound r u n).roles role
+  role_next = role_in r u
 
   pub sapi_next : (n : ℕ) (role : Role) → (M n role).endpoint.sapi ≡ Zero
-  sapi_next n role = (ready_moves role (arriving_at r n role) (turn_at r n role).calls (L n role) ((sound r u n).good role)
-      ((sound r u n).settled role).owes ((sound r u n).idle role) (u n role)).sapi ∙ ((sound r u n).good role).sapi
+  sapi_next n role = (moved_in r u n role).sapi ∙ ((sound r u n).good role).sapi
 
   module _ (n : ℕ) (h : Known n) (c : Unclosed (suc n)) where
     mobile_next : MobileSlot n → ((L (suc n) Mobile).endpoint.state ≡ Idle) ⊎ ((L (suc n) Mobile).endpoint.state ≡ Opening)

@@ -1,20 +1,24 @@
 -- What a link of SAPI 0 does with what arrives, with the calls of layer 3, and in its slot: its counts, and what its frames say.
 use Rattle.{
+  std.proofs.lemmas.Bool.cases_Bool,
   std.specs.Prelude.{◌≡◌, ℕ, ◌+◌, ◌%◌, ◌≤◌, Bool, true, false, not, ◌&&◌, ◌⊎◌, List, Option, Some, None},
-  std.{specs.Prelude.{IfSome, ◌≢◌}, proofs.Common.{inl, inr, arith, refl, ap, sym, ◌∙◌}},
+  std.specs.Prelude.{IfSome, ◌≢◌, [], ◌∷◌, All},
+  std.proofs.{Common.{inl, inr, arith, refl, ap, sym, ◌∙◌, subst}, lemmas.List.Elements.{All-head, All-tail}},
   lapdm_frame.specs.Content.{Content, I, Rr, Frame},
   lapdm_end.specs.lapdm_window.{
-    declared.{Sapi.TheVariants.Zero, State.TheVariants.Open},
-    Ends.{EndpointState, vr, vs, va, command_cr},
-    Tables.{Reply, TakesIFrame, TakesRr, reply_to_frame, is_command},
-    Calls.{Opens, Sends, refusal_of, awaited_frame, t200_expiry, is_idle},
+    declared.{Sapi.TheVariants.Zero, State.TheVariants.Open, Refused.Refused},
+    Ends.{EndpointState, Role, Mobile, vr, vs, va, command_cr},
+    Tables.{Reply, TakesIFrame, TakesRr, reply_to_frame, outcome_of_reply, is_command},
+    Calls.{Call, Opens, Sends, refusal_of, awaited_frame, t200_expiry, is_idle},
   },
   lapdm_link.specs.Worlds.rej_replaced_by_rr,
   lapdm_datalink.{
-    specs.Links.{LinkState, SlotOutcome, after_frame, after_slot, after_call, slot_outcome, ignores, is_due, keeps_back, first_frame},
-    specs.{Links.is_awaiting_kind, Slots.{nr_in, nr_of, IsStepOfEndpoint}, Channels.after_arriving},
+    specs.Links.{LinkState, SlotOutcome, after_frame, after_slot, after_call, slot_outcome, ignores, is_due, first_frame},
+    specs.{Links.is_awaiting_kind, Progress.expires_in, Slots.{nr_in, nr_of}},
+    specs.Channels.{after_arriving, after_calls, after_call_unless, IsUse},
     proofs.ProgressSteps.{acked, issued, accepted, aired, IsAnswerOf, Good, Moves, Takes, nr_taken, ns_taken, is_rej, taken, takes},
-    proofs.Answering.step_of_endpoint,
+    proofs.ProgressSteps.outcome_endpoint,
+    proofs.Answering.{IsSlot, sabm_first, idles, answering, repeating, expiring, is_slot, slot_keeps},
   },
 }
 
@@ -59,12 +63,50 @@ module _ (s : ℕ) (cr : Bool) (l : LinkState) where
 
 pub frame_taken : (f : Frame) (l : LinkState) → l.endpoint.sapi ≡ Zero →
     (after_frame f l ≡ l) ⊎ (after_frame f l ≡ taken (reply_with f.sapi f.cr l f.content) l)
-frame_taken f l z = by_ignored (ignores f l) refl
+frame_taken f l z = elim (cases_Bool (ignores f l)) [
+  | inl h ↦ inl (grind (arith, h))
+  | inr h ↦ inr (grind (arith, h, z))
+]
+
+-- what holds of the link as it is and after each frame that it takes holds after what arrives
+module _ (o : Option Frame) (l : LinkState) (z : l.endpoint.sapi ≡ Zero) where
+  pub over_arrival : (P : LinkState → Type 0) → P l →
+      ((f : Frame) → o ≡ Some f → P (taken (reply_with f.sapi f.cr l f.content) l)) → P (after_arriving o l)
+  over_arrival P same takes = by_frame o refl
+    where
+      by_frame : (x : Option Frame) → o ≡ x → P (after_arriving x l)
+      by_frame None e = same
+      by_frame (Some f) e = elim (frame_taken f l z) [
+        | inl k ↦ subst P (sym k) same
+        | inr k ↦ subst P (sym k) (takes f e)
+      ]
+
+  -- the same of its endpoint
+  pub over_endpoint : (P : EndpointState → Type 0) → P l.endpoint →
+      ((f : Frame) → P (outcome_of_reply (reply_with f.sapi f.cr l f.content) l.endpoint).new_state) → P (after_arriving o l).endpoint
+  over_endpoint P same takes = over_arrival (λ m. P m.endpoint) same
+      (λ f e. subst P (sym (outcome_endpoint (outcome_of_reply (reply_with f.sapi f.cr l f.content) l.endpoint) l)) (takes f))
+
+-- what holds of no call, of a call that is not refused, and of two steps together, holds of all calls
+module _ (role : Role) (P : LinkState → LinkState → Type 0) (same : (l : LinkState) → P l l)
+    (next : (l m k : LinkState) → P l m → P m k → P l k)
+    (sends : (m : List ℕ) (l : LinkState) → refusal_of (Sends m) l.endpoint ≡ None → P l (after_call (Sends m) l))
+    (opens : (info : List ℕ) (l : LinkState) → role ≡ Mobile → refusal_of (Opens info) l.endpoint ≡ None →
+    P l (after_call (Opens info) l))
   where
-    by_ignored : (b : Bool) → ignores f l ≡ b →
-        (after_frame f l ≡ l) ⊎ (after_frame f l ≡ taken (reply_with f.sapi f.cr l f.content) l)
-    by_ignored true h = inl (grind (arith, h))
-    by_ignored false h = inr (grind (arith, h, z))
+    over_call : (c : Call) (l : LinkState) → IsUse role c → (r : Option Refused) → refusal_of c l.endpoint ≡ r →
+        P l (after_call_unless r c l)
+    over_call c l u (Some why) e = same l
+    over_call (Sends m) l u None e = sends m l e
+    over_call (Opens info) l u None e = opens info l u e
+    over_call other l u None e = absurd u
+
+    pub over_calls : (cs : List Call) (l : LinkState) → All (IsUse role) cs → P l (after_calls cs l)
+    over_calls [] l u = same l
+    over_calls (c ∷ cs) l u =
+        let m = after_call_unless (refusal_of c l.endpoint) c l in
+        next l m (after_calls cs m) (over_call c l (All-head (IsUse role) c cs u) _ refl)
+        (over_calls cs m (All-tail (IsUse role) c cs u))
 
 pub record Arrives (o : Option Frame) (l m : LinkState) : Type 0 where
   pub moves : Moves l m
@@ -72,6 +114,9 @@ pub record Arrives (o : Option Frame) (l m : LinkState) : Type 0 where
       ⊎ ((nr_of o ≡ Some (vs l.endpoint)) × (issued l ≡ acked l + 1) × (acked m ≡ issued l))
   pub by_ns : (accepted m ≡ accepted l) ⊎ ((ns_of o ≡ Some (vr l.endpoint)) × (accepted m ≡ accepted l + 1))
   pub owed : IfSome m.answer (IsAnswerOf m)
+
+pub good_next : {l m : LinkState} → Good l → Moves l m → Good m
+good_next g x = record { sapi = x.sapi ∙ g.sapi; low = x.low; window = x.window }
 
 stays : (l : LinkState) → Good l → Moves l l
 stays l g = record {
@@ -89,29 +134,22 @@ arrives_same : (o : Option Frame) (l : LinkState) → Good l → l.answer ≡ No
 arrives_same o l g n = record { moves = stays l g; by_nr = inl refl; by_ns = inl refl; owed = rw n tt }
 
 of_reply : (f : Frame) (l m : LinkState) → Takes (reply_with f.sapi f.cr l f.content) l m → Arrives (Some f) l m
-of_reply f l m t = record { moves = t.moves; by_nr = nr t.by_nr; by_ns = ns t.by_ns; owed = t.owed }
-  where
-    nr : (acked m ≡ acked l) ⊎ ((nr_taken (reply_with f.sapi f.cr l f.content) ≡ Some (vs l.endpoint))
-        × (issued l ≡ acked l + 1) × (acked m ≡ issued l)) →
-        (acked m ≡ acked l) ⊎ ((nr_in f.content ≡ Some (vs l.endpoint)) × (issued l ≡ acked l + 1) × (acked m ≡ issued l))
-    nr (inl e) = inl e
-    nr (inr (e, a, b)) = inr (nr_reply f.sapi f.cr l f.content _ e, a, b)
-
-    ns : (accepted m ≡ accepted l) ⊎ ((ns_taken (reply_with f.sapi f.cr l f.content) ≡ Some (vr l.endpoint))
-        × (accepted m ≡ accepted l + 1)) →
-        (accepted m ≡ accepted l) ⊎ ((ns_in f.content ≡ Some (vr l.endpoint)) × (accepted m ≡ accepted l + 1))
-    ns (inl e) = inl e
-    ns (inr (e, a)) = inr (ns_reply f.sapi f.cr l f.content _ e, a)
+of_reply f l m t = record {
+  moves = t.moves;
+  by_nr = elim t.by_nr [
+    | inl e ↦ inl e
+    | inr x ↦ inr (nr_reply f.sapi f.cr l f.content _ x.0, x.1, x.2)
+  ];
+  by_ns = elim t.by_ns [
+    | inl e ↦ inl e
+    | inr x ↦ inr (ns_reply f.sapi f.cr l f.content _ x.0, x.1)
+  ];
+  owed = t.owed;
+}
 
 pub arrives : (o : Option Frame) (l : LinkState) → Good l → l.answer ≡ None → Arrives o l (after_arriving o l)
-arrives None l g n = arrives_same None l g n
-arrives (Some f) l g n = by_taken (frame_taken f l g.sapi)
-  where
-    by_taken : (after_frame f l ≡ l) ⊎ (after_frame f l ≡ taken (reply_with f.sapi f.cr l f.content) l) →
-        Arrives (Some f) l (after_frame f l)
-    by_taken (inl e) = rw e (arrives_same (Some f) l g n)
-    by_taken (inr e) =
-        rw e (of_reply f l _ (takes l g n (reply_with f.sapi f.cr l f.content) (not_rej f.sapi f.cr l f.content)))
+arrives o l g n = over_arrival o l g.sapi (Arrives o l) (arrives_same o l g n) (λ f e. rw e
+    (of_reply f l _ (takes l g n (reply_with f.sapi f.cr l f.content) (not_rej f.sapi f.cr l f.content))))
 
 -- ---- calls of layer 3
 
@@ -141,67 +179,19 @@ then_called a b = record {
   answer_same = b.answer_same ∙ a.answer_same;
 }
 
-module _ (l : LinkState) (z : l.endpoint.sapi ≡ Zero) (low : acked l ≤ issued l) (window : issued l ≤ acked l + 1)
-    (idle : is_idle l.endpoint.state ≡ true → issued l ≡ acked l)
-  where
-    pub called_nothing : Called l l
-    called_nothing = record {
-      moves = stays l (record { sapi = z; low = low; window = window });
-      acked_same = refl;
-      accepted_same = refl;
-      answer_same = refl;
-    }
+module _ (l : LinkState) (g : Good l) where
+  pub called_nothing : Called l l
+  called_nothing = record { moves = stays l g; acked_same = refl; accepted_same = refl; answer_same = refl }
 
-    pub called_sends : (m : List ℕ) → refusal_of (Sends m) l.endpoint ≡ None → Called l (after_call (Sends m) l)
-    called_sends m ok = record {
-      moves = record {
-        role = grind arith;
-        sapi = grind arith;
-        t200 = grind arith;
-        acked_up = grind arith;
-        accepted_up = grind arith;
-        aired_up = grind arith;
-        low = grind arith;
-        window = grind arith;
-      };
-      acked_same = grind arith;
-      accepted_same = grind arith;
-      answer_same = grind arith;
-    }
+  pub called_sends : (m : List ℕ) → refusal_of (Sends m) l.endpoint ≡ None → Called l (after_call (Sends m) l)
+  called_sends m ok = grind (arith, g.low, g.window)
 
-    pub called_opens : (info : List ℕ) → refusal_of (Opens info) l.endpoint ≡ None → Called l (after_call (Opens info) l)
-    called_opens info ok = record {
-      moves = record {
-        role = grind arith;
-        sapi = grind arith;
-        t200 = grind arith;
-        acked_up = grind arith;
-        accepted_up = grind arith;
-        aired_up = grind (arith, ok, idle);
-        low = grind arith;
-        window = grind arith;
-      };
-      acked_same = grind arith;
-      accepted_same = grind arith;
-      answer_same = grind arith;
-    }
+  pub called_opens : (is_idle l.endpoint.state ≡ true → issued l ≡ acked l) → (info : List ℕ) →
+      refusal_of (Opens info) l.endpoint ≡ None → Called l (after_call (Opens info) l)
+  called_opens idle info ok = grind (arith, ok, idle, g.low, g.window)
 
-pub passes_slot : (l : LinkState) → acked l ≤ issued l → issued l ≤ acked l + 1 → Called l (after_slot l)
-passes_slot l low window = record {
-  moves = record {
-    role = refl;
-    sapi = refl;
-    t200 = refl;
-    acked_up = omega arith;
-    accepted_up = omega arith;
-    aired_up = omega arith;
-    low = low;
-    window = window;
-  };
-  acked_same = refl;
-  accepted_same = refl;
-  answer_same = refl;
-}
+pub passes_slot : (l : LinkState) → Good l → Called l (after_slot l)
+passes_slot l g = grind (arith, g.low, g.window)
 
 -- ---- the slot
 
@@ -212,41 +202,28 @@ pub data From (m : LinkState) (o : SlotOutcome) : Type 0 where
   first : o.frame ≡ Some (awaited_frame false m.endpoint.state m.endpoint) → is_due m ≡ true → m.is_sent ≡ false →
       o.link.is_sent ≡ true → From m o
   again : o.frame ≡ first_frame (t200_expiry m.endpoint).frames → is_due m ≡ true → m.is_sent ≡ true →
-      o.link.is_sent ≡ true →
-      From m o
+      o.link.is_sent ≡ true → expires_in m ≡ true → From m o
 
 module _ (l : LinkState) where
-  from : (a : Option Frame) → l.answer ≡ a → (b : Bool) → is_due l ≡ b → (c : Bool) → l.is_sent ≡ c → (k : Bool) →
-      ((f : Frame) → a ≡ Some f → keeps_back f l ≡ k) → From l (slot_outcome l)
-  from None n false e c g k kept = nowhere (grind (arith, n, e))
-  from None n true e false g k kept = first (grind (arith, n, e, g)) e g (grind (arith, n, e, g))
-  from None n true e true g k kept = again (grind (arith, n, e, g)) e g (grind (arith, n, e, g))
-  from (Some f) n b e c g false kept = owed (grind (arith, n, kept f refl))
-  from (Some f) n false e c g true kept = nowhere (grind (arith, n, kept f refl, e))
-  from (Some f) n true e false g true kept = first (grind (arith, n, kept f refl, e, g)) e g (grind (arith, n, kept f refl, e, g))
-  from (Some f) n true e true g true kept = again (grind (arith, n, kept f refl, e, g)) e g (grind (arith, n, kept f refl, e, g))
+  from_by : (o : SlotOutcome) → IsSlot l o → From l o
+  from_by o (sabm_first opening before due new) = first refl due new refl
+  from_by o (idles before none due) = nowhere refl
+  from_by o (answering f before owes back) = owed (sym owes)
+  from_by o (repeating awaits due new) = first refl due new refl
+  from_by o (expiring awaits sent due over) = again refl due sent sent over
 
-  -- a slot keeps all of the link but its answer, its clock and its retries, or sends the frame that is due
-  flags : (a : Option Frame) → l.answer ≡ a → (b : Bool) → is_due l ≡ b → (c : Bool) → l.is_sent ≡ c → (k : Bool) →
-      ((f : Frame) → a ≡ Some f → keeps_back f l ≡ k) →
-      ((slot_outcome l).link.is_sent ≡ l.is_sent) ⊎ ((slot_outcome l).link.is_sent ≡ true)
-  flags None n false e c g k kept = inl (grind (arith, n, e))
-  flags None n true e false g k kept = inr (grind (arith, n, e, g))
-  flags None n true e true g k kept = inr (grind (arith, n, e, g))
-  flags (Some f) n b e c g false kept = inl (grind (arith, n, kept f refl))
-  flags (Some f) n false e c g true kept = inl (grind (arith, n, kept f refl, e))
-  flags (Some f) n true e false g true kept = inr (grind (arith, n, kept f refl, e, g))
-  flags (Some f) n true e true g true kept = inr (grind (arith, n, kept f refl, e, g))
+  pub slot_from : From l (slot_outcome l)
+  slot_from = from_by (slot_outcome l) (is_slot l)
 
-  same_t200 : (a : Option Frame) → l.answer ≡ a → (b : Bool) → is_due l ≡ b → (c : Bool) → l.is_sent ≡ c → (k : Bool) →
-      ((f : Frame) → a ≡ Some f → keeps_back f l ≡ k) → (slot_outcome l).link.t200 ≡ l.t200
-  same_t200 None n false e c g k kept = grind (arith, n, e)
-  same_t200 None n true e false g k kept = grind (arith, n, e, g)
-  same_t200 None n true e true g k kept = grind (arith, n, e, g)
-  same_t200 (Some f) n b e c g false kept = grind (arith, n, kept f refl)
-  same_t200 (Some f) n false e c g true kept = grind (arith, n, kept f refl, e)
-  same_t200 (Some f) n true e false g true kept = grind (arith, n, kept f refl, e, g)
-  same_t200 (Some f) n true e true g true kept = grind (arith, n, kept f refl, e, g)
+  flags_by : (o : SlotOutcome) → IsSlot l o → (o.link.is_sent ≡ l.is_sent) ⊎ (o.link.is_sent ≡ true)
+  flags_by o (expiring awaits sent due over) = inl refl
+  flags_by o (idles before none due) = inl refl
+  flags_by o (answering f before owes back) = inl refl
+  flags_by o other = inr refl
+
+  t200_by : (o : SlotOutcome) → IsSlot l o → o.link.t200 ≡ l.t200
+  t200_by o (idles before none due) = refl
+  t200_by o other = refl
 
   pub slot_acked : acked (slot_outcome l).link ≡ acked l
   slot_acked = grind arith
@@ -257,58 +234,19 @@ module _ (l : LinkState) where
   pub slot_accepted : accepted (slot_outcome l).link ≡ accepted l
   slot_accepted = grind arith
 
-  pub kept_back : (a : Option Frame) → (k : Bool) × ((f : Frame) → a ≡ Some f → keeps_back f l ≡ k)
-  kept_back None = (false, λ f e. absurd cc)
-  kept_back (Some g) = (keeps_back g l, λ f e. same f e)
-    where
-      same : (f : Frame) → Some g ≡ Some f → keeps_back f l ≡ keeps_back g l
-      same f e = cc
-
-  pub slot_from : From l (slot_outcome l)
-  slot_from = let k = kept_back l.answer in from l.answer refl (is_due l) refl l.is_sent refl k.0 k.1
-
-  slot_flags : ((slot_outcome l).link.is_sent ≡ l.is_sent) ⊎ ((slot_outcome l).link.is_sent ≡ true)
-  slot_flags = let k = kept_back l.answer in flags l.answer refl (is_due l) refl l.is_sent refl k.0 k.1
-
-  slot_t200 : (slot_outcome l).link.t200 ≡ l.t200
-  slot_t200 = let k = kept_back l.answer in same_t200 l.answer refl (is_due l) refl l.is_sent refl k.0 k.1
-
 aired_on : (l m : LinkState) → acked m ≡ acked l → issued m ≡ issued l → acked l ≤ issued l →
     (m.is_sent ≡ l.is_sent) ⊎ (m.is_sent ≡ true) → aired l ≤ aired m
 aired_on l m a i low (inl e) = grind arith
 aired_on l m a i low (inr e) = grind arith
 
-expiry_role : (e : EndpointState) → (t200_expiry e).new_state.role ≡ e.role
-expiry_role e = grind arith
-
-expiry_sapi : (e : EndpointState) → (t200_expiry e).new_state.sapi ≡ e.sapi
-expiry_sapi e = grind arith
-
-module _ (l : LinkState) where
-  slot_role : (slot_outcome l).link.endpoint.role ≡ l.endpoint.role
-  slot_role = by_step (step_of_endpoint l)
-    where
-      by_step : IsStepOfEndpoint l (slot_outcome l) → (slot_outcome l).link.endpoint.role ≡ l.endpoint.role
-      by_step (inl x) = ap (λ e. e.role) x.endpoint
-      by_step (inr (inl x)) = ap (λ e. e.role) x.repeats
-      by_step (inr (inr x)) = ap (λ e. e.role) x.expires ∙ expiry_role l.endpoint
-
-  slot_sapi : (slot_outcome l).link.endpoint.sapi ≡ l.endpoint.sapi
-  slot_sapi = by_step (step_of_endpoint l)
-    where
-      by_step : IsStepOfEndpoint l (slot_outcome l) → (slot_outcome l).link.endpoint.sapi ≡ l.endpoint.sapi
-      by_step (inl x) = ap (λ e. e.sapi) x.endpoint
-      by_step (inr (inl x)) = ap (λ e. e.sapi) x.repeats
-      by_step (inr (inr x)) = ap (λ e. e.sapi) x.expires ∙ expiry_sapi l.endpoint
-
 slot_moves : (l : LinkState) → acked l ≤ issued l → issued l ≤ acked l + 1 → Moves l (slot_outcome l).link
 slot_moves l low window = record {
-  role = slot_role l;
-  sapi = slot_sapi l;
-  t200 = slot_t200 l;
+  role = slot_keeps l (λ e. e.role) (λ e. grind arith);
+  sapi = slot_keeps l (λ e. e.sapi) (λ e. grind arith);
+  t200 = t200_by l (slot_outcome l) (is_slot l);
   acked_up = omega (arith, slot_acked l);
   accepted_up = omega (arith, slot_accepted l);
-  aired_up = aired_on l (slot_outcome l).link (slot_acked l) (slot_issued l) low (slot_flags l);
+  aired_up = aired_on l (slot_outcome l).link (slot_acked l) (slot_issued l) low (flags_by l (slot_outcome l) (is_slot l));
   low = omega (arith, slot_acked l, slot_issued l, low);
   window = omega (arith, slot_acked l, slot_issued l, window);
 }
@@ -357,6 +295,10 @@ module _ (m : LinkState) (o : SlotOutcome) (z : m.endpoint.sapi ≡ Zero) (low :
 some_same : (g f : Frame) → Some g ≡ Some f → g ≡ f
 some_same g f e = cc
 
+pub answer_is : (m : LinkState) (a : Option Frame) (f : Frame) → a ≡ Some f → IfSome a (IsAnswerOf m) → IsAnswerOf m f
+answer_is m None f e h = absurd cc
+answer_is m (Some g) f e h = rw (some_same g f e) at h
+
 pub aired_sent : (l : LinkState) (n : ℕ) → l.is_sent ≡ true → n ≡ issued l → aired l ≡ n
 aired_sent l n s e = rw s (sym e)
 
@@ -368,15 +310,11 @@ sent : (m : LinkState) → m.endpoint.sapi ≡ Zero → acked m ≤ issued m →
     (f : Frame) → (slot_outcome m).frame ≡ Some f → IsSentBy m (slot_outcome m) f
 sent m z low window owes f h = by_from (slot_from m)
   where
-    by_owed : (a : Option Frame) → a ≡ Some f → IfSome a (IsAnswerOf m) → IsAnswerOf m f
-    by_owed None e x = absurd cc
-    by_owed (Some g) e x = rw (some_same g f e) at x
-
     by_from : From m (slot_outcome m) → IsSentBy m (slot_outcome m) f
     by_from (nowhere e) = absurd cc
-    by_from (owed e) = sent_owed m (slot_outcome m) z low window f (by_owed m.answer (sym e ∙ h) owes)
+    by_from (owed e) = sent_owed m (slot_outcome m) z low window f (answer_is m m.answer f (sym e ∙ h) owes)
     by_from (first e due new sent) = sent_first m (slot_outcome m) z low window f (sym e ∙ h) due new sent
-    by_from (again e due old sent) = sent_again m (slot_outcome m) z low window f (sym e ∙ h) due sent
+    by_from (again e due old sent over) = sent_again m (slot_outcome m) z low window f (sym e ∙ h) due sent
 
 -- ---- a whole slot: what arrives, the calls, and what is sent
 

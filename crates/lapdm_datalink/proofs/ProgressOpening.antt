@@ -1,5 +1,6 @@
 -- From the start of a run until the mobile opens: its SABM, and what a network that is open already sends, charged to losses.
 use Rattle.{
+  std.proofs.lemmas.Bool.cases_Bool,
   std.specs.Prelude.{◌≡◌, ℕ, suc, ◌+◌, ◌-◌, ◌*◌, ◌≤◌, Bool, true, false, ◌⊎◌, nat_eq, nat_le, List, Some},
   std.{specs.Prelude.None, proofs.{Common.{inl, inr, arith, refl, ap, sym, ◌∙◌}, Math.Nat.{mul-add, mul-one}}},
   lapdm_frame.specs.Content.{Content, I, Rr, Rej, Frame},
@@ -14,21 +15,18 @@ use Rattle.{
     specs.Progress.{turn_at, arriving_at, ready_at, frame_at, is_lossy, one_if, round_trip, waiting_slots, lossy_slots, expiries},
     specs.Progress.expires_in,
     proofs.{
-      ProgressStart.{ready_t200, idle_silent},
-      ProgressRuns.{NeverReleases, sound, link_step, arrived},
+      ProgressStart.idle_silent,
+      ProgressRuns.{NeverReleases, sound, link_step, arrived, t200_in},
       ProgressPaid.{le_of, not_le_of},
       ProgressExpiries.{loss_of, true-false},
       ProgressFrames.{Brings, sabm_of, ua_of, idle_open, opening_open, idle_opening},
       ProgressKnown.{Known, Unclosed, MobileSlot, NetworkSlot},
-      ProgressSlots.{answering_slots, answers_first, eq_of, lossy_by},
+      ProgressSlots.{answering_slots, answers_first, slots_next, eq_of, lossy_by},
     },
   },
 }
 use Rattle.lapdm_datalink.proofs.ProgressFrames as F
 use Rattle.lapdm_datalink.proofs.ProgressKnown as K
-
-zero_plus : (n : ℕ) → 0 + n ≡ n
-zero_plus n = omega arith
 
 pub times_zero : (t e : ℕ) → e ≡ 0 → t * e ≡ 0
 times_zero t e h = rw h (omega arith)
@@ -74,20 +72,16 @@ module _ (r : Run) (u : NeverReleases r) (long : round_trip r.delay ≤ r.t200) 
   info_at n = (link_at r n Mobile).endpoint.sabm_info
 
   pub waits_step : (n : ℕ) (role : Role) → W (suc n) role ≡ W n role + one_if (awaits_answer (M n role).endpoint)
-  waits_step n role = ap (λ j. W n role + one_if (awaits_answer (ready_at r j role).endpoint)) (zero_plus n)
+  waits_step n role = slots_next (λ j. awaits_answer (ready_at r j role).endpoint) n
 
   pub expiry_step : (n : ℕ) (role : Role) → E (suc n) role ≡ E n role + one_if (expires_in (M n role))
-  expiry_step n role = ap (λ j. E n role + one_if (expires_in (ready_at r j role))) (zero_plus n)
+  expiry_step n role = slots_next (λ j. expires_in (ready_at r j role)) n
 
   pub answer_step : (n : ℕ) (role : Role) → B (suc n) role ≡ B n role + one_if (answers_first r n role)
-  answer_step n role = ap (λ j. B n role + one_if (answers_first r j role)) (zero_plus n)
+  answer_step n role = slots_next (λ j. answers_first r j role) n
 
   pub loss_step : (n : ℕ) → Lo (suc n) ≡ Lo n + one_if (is_lossy r n)
-  loss_step n = ap (λ j. Lo n + one_if (is_lossy r j)) (zero_plus n)
-
-  m_t200 : (n : ℕ) (role : Role) → (M n role).t200 ≡ r.t200
-  m_t200 n role = ready_t200 role (arriving_at r n role) (turn_at r n role).calls (L n role) ((sound r u n).good role)
-      ((sound r u n).settled role).owes ((sound r u n).idle role) (u n role) ∙ (sound r u n).t200 role
+  loss_step = slots_next (is_lossy r)
 
   lost_at : (n : ℕ) (role : Role) (f : Frame) → frame_at r n role ≡ Some f → (turn_at r n role).is_lost ≡ true →
       one_if (is_lossy r n) ≡ 1
@@ -115,6 +109,12 @@ module _ (r : Run) (u : NeverReleases r) (long : round_trip r.delay ≤ r.t200) 
     pub before : (j : ℕ) → suc j ≤ v1 → frame_at r j Mobile ≡ None
     pub waits : W n Mobile + v ≡ r.t200 * E n Mobile + n
     pub fate : (Through n v × (E n Mobile ≤ Lo n)) ⊎ (E n Mobile + 1 ≤ Lo n)
+
+  pub calling_expires : (n : ℕ) (x : Calling n) → E n Mobile ≤ Lo n
+  calling_expires n x = elim x.fate [
+    | inl y ↦ y.1
+    | inr p ↦ omega (arith, p)
+  ]
 
   pub record Resting (n : ℕ) : Type 0 where
     pub state : (L n Mobile).endpoint.state ≡ Idle
@@ -177,11 +177,10 @@ module _ (r : Run) (u : NeverReleases r) (long : round_trip r.delay ≤ r.t200) 
       not_due_yet t k = not_confirmed t (omega (arith, k, x.time, x.early, long, t.early))
 
       pub must_fail : (L n Mobile).clock ≤ 1 → E n Mobile + 1 ≤ Lo n
-      must_fail k = by_case x.fate
-        where
-          by_case : (Through n x.v × (E n Mobile ≤ Lo n)) ⊎ (E n Mobile + 1 ≤ Lo n) → E n Mobile + 1 ≤ Lo n
-          by_case (inl (t, p)) = absurd (not_due_yet t k)
-          by_case (inr p) = p
+      must_fail k = elim x.fate [
+        | inl y ↦ absurd (not_due_yet y.0 k)
+        | inr p ↦ p
+      ]
 
   module _ (n : ℕ) (h : Known r u n) (c : Unclosed r u (suc n)) where
     pub rest_on : Resting n → M n Mobile ≡ after_slot (L n Mobile) → Resting (suc n)
@@ -220,7 +219,7 @@ module _ (r : Run) (u : NeverReleases r) (long : round_trip r.delay ≤ r.t200) 
       v1 = n;
       now = omega arith;
       state = K.state_next r u n c Mobile ∙ o;
-      time = omega (arith, ap (λ l. l.clock) (link_step r n Mobile), y.1, m_t200 n Mobile);
+      time = omega (arith, ap (λ l. l.clock) (link_step r n Mobile), y.1, t200_in r u n Mobile);
       early = omega (arith, long);
       sabm = sent;
       count = omega (arith, times_zero r.t200 (E (suc n) Mobile) none);
@@ -254,14 +253,12 @@ module _ (r : Run) (u : NeverReleases r) (long : round_trip r.delay ≤ r.t200) 
         comes = ap (λ k. arriving_at r k Network) e ∙ arrived r x.v Network ∙ rw (t.arrives, x.sabm) refl
 
         after : (after_arriving (Some (sabm_of (info_at n))) (L n Network)).answer ≡ Some (ua_of (info_at n))
-        after = by_state h.network
-          where
-            by_state : ((L n Network).endpoint.state ≡ Idle) ⊎ ((L n Network).endpoint.state ≡ Open) →
-                (after_arriving (Some (sabm_of (info_at n))) (L n Network)).answer ≡ Some (ua_of (info_at n))
-            by_state (inl i) = F.sabm_at_idle (L n Network) ((sound r u n).good Network).sapi ((sound r u n).roles Network) i (info_at n)
-                (h.some (λ q. idle_opening (sym q ∙ x.state)))
-            by_state (inr o) = F.sabm_at_open (L n Network) ((sound r u n).good Network).sapi ((sound r u n).roles Network) o (info_at n)
-                (h.info o)
+        after = elim h.network [
+          | inl i ↦ F.sabm_at_idle (L n Network) ((sound r u n).good Network).sapi ((sound r u n).roles Network) i (info_at n)
+              (h.some (λ q. idle_opening (sym q ∙ x.state)))
+          | inr o ↦ F.sabm_at_open (L n Network) ((sound r u n).good Network).sapi ((sound r u n).roles Network) o (info_at n)
+              (h.info o)
+        ]
 
         owes : (M n Network).answer ≡ Some (ua_of (info_at n))
         owes = K.kept r u n Network ∙ ap (λ o. (after_arriving o (L n Network)).answer) comes ∙ after
@@ -298,7 +295,7 @@ module _ (r : Run) (u : NeverReleases r) (long : round_trip r.delay ≤ r.t200) 
         v1 = x.v1;
         now = omega arith;
         state = K.state_next r u n c Mobile ∙ (m_opening n x e);
-        time = omega (arith, ap (λ l. l.clock) (link_step r n Mobile), y.1, m_t200 n Mobile);
+        time = omega (arith, ap (λ l. l.clock) (link_step r n Mobile), y.1, t200_in r u n Mobile);
         early = omega (arith, long);
         sabm = sent;
         count = omega (arith, x.count, more, times_one r.t200 (E n Mobile), product, x.time, x.early, k);
@@ -401,10 +398,8 @@ module _ (r : Run) (u : NeverReleases r) (long : round_trip r.delay ≤ r.t200) 
 
       -- it goes on waiting, or repeats its SABM
       pub call_next : (z : Calling (suc n)) × (((z.v ≡ x.v) × (E (suc n) Mobile ≡ E n Mobile)) ⊎ ((L n Mobile).clock ≤ 1))
-      call_next = by_clock (nat_le 2 (L n Mobile).clock) refl
-        where
-          by_clock : (b : Bool) → nat_le 2 (L n Mobile).clock ≡ b →
-              (z : Calling (suc n)) × (((z.v ≡ x.v) × (E (suc n) Mobile ≡ E n Mobile)) ⊎ ((L n Mobile).clock ≤ 1))
-          by_clock true k = let y = call_on (le_of 2 (L n Mobile).clock k) in (y.0, inl (y.1, y.2))
-          by_clock false k =
-              let low : (L n Mobile).clock ≤ 1 = omega (arith, not_le_of 2 (L n Mobile).clock k) in (call_again low, inr low)
+      call_next = elim (cases_Bool (nat_le 2 (L n Mobile).clock)) [
+        | inl k ↦ let y = call_on (le_of 2 (L n Mobile).clock k) in (y.0, inl (y.1, y.2))
+        | inr k ↦
+            let low : (L n Mobile).clock ≤ 1 = omega (arith, not_le_of 2 (L n Mobile).clock k) in (call_again low, inr low)
+      ]

@@ -1,5 +1,6 @@
 -- An I frame is acknowledged within a round trip if neither its slot nor that of its answer brings a loss.
 use Rattle.{
+  std.proofs.lemmas.Bool.cases_Bool,
   std.specs.Prelude.{◌≡◌, ◌≢◌, ℕ, suc, ◌+◌, ◌%◌, ◌≤◌, Bool, true, false, ◌||◌, ◌⊎◌, nat_eq, nat_le},
   std.{specs.Prelude.{List, Option, Some, None}, proofs.Common.{inl, inr, arith, refl, ap, sym, ◌∙◌}},
   lapdm_frame.specs.Content.{I, Frame},
@@ -8,9 +9,9 @@ use Rattle.{
   lapdm_datalink.{
     specs.{Links.{LinkState, slot_outcome, after_slot}, Slots.{nr_in, nr_of, took}, Channels.{Run, carried, after_calls, after_arriving}},
     specs.Progress.{link_at, turn_at, arriving_at, ready_at, frame_at},
-    proofs.{ProgressSteps.{acked, issued, accepted, aired, accepts_taken}, ProgressLink.{ns_in, poll_in}, ProgressStart.kept_counts},
+    proofs.{ProgressSteps.{acked, issued, accepted, aired, accepts_taken}, ProgressLink.{ns_in, poll_in, slot_acked, slot_accepted}},
     proofs.{ProgressAnswers.{gets_ack, i_arrives, answers}, ProgressRuns.{sound, slotted_in, link_step, arrived, counts, counted}},
-    proofs.ProgressRuns.NeverReleases,
+    proofs.ProgressRuns.{NeverReleases, called_in},
   },
 }
 use Rattle.lapdm_datalink.proofs.ProgressCounts as C
@@ -111,8 +112,7 @@ module _ (r : Run) (u : NeverReleases r) (s : ℕ) (role : Role) (f : Frame) (ns
     kept_there : accepted (link_at r (suc m) o) ≡ accepted (took ns nr p (info, more) before)
     kept_there =
         ap accepted (link_step r m o)
-        ∙ (kept_counts o (arriving_at r m o) (turn_at r m o).calls before ((sound r u m).good o) ((sound r u m).settled o).owes
-        ((sound r u m).idle o) (u m o)).1
+        ∙ slot_accepted (ready_at r m o) ∙ (called_in r u m o).accepted_same
         ∙ ap accepted taken_there
 
     in_sequence : (b : Bool) → nat_eq ns (vr before.endpoint) ≡ b →
@@ -192,8 +192,7 @@ module _ (r : Run) (u : NeverReleases r) (s : ℕ) (role : Role) (f : Frame) (ns
       acked_now : issued here ≡ acked here + 1 → acked here ≡ a → acked (link_at r (suc t) role) ≡ a + 1
       acked_now w same =
           ap acked (link_step r t role)
-          ∙ (kept_counts role (arriving_at r t role) (turn_at r t role).calls here ((sound r u t).good role)
-          ((sound r u t).settled role).owes ((sound r u t).idle role) (u t role)).0
+          ∙ slot_acked (ready_at r t role) ∙ (called_in r u t role).acked_same
           ∙ ap (λ x. acked (after_arriving x here)) gets
           ∙ gets_ack answered.0 here ((sound r u t).good role) ((sound r u t).settled role).owes open_here
           ((slotted_in r u m o).sapi answered.0 answered.1) right_way (awaits_one here w)
@@ -201,12 +200,11 @@ module _ (r : Run) (u : NeverReleases r) (s : ℕ) (role : Role) (f : Frame) (ns
           ∙ w ∙ ap (λ n. n + 1) same
 
       pub acked_in_time : a + 1 ≤ acked (link_at r (suc t) role)
-      acked_in_time = by_case (nat_le (a + 1) (acked here)) refl
-        where
-          by_case : (b : Bool) → nat_le (a + 1) (acked here) ≡ b → a + 1 ≤ acked (link_at r (suc t) role)
-          by_case true e = omega (arith, le_of (a + 1) (acked here) e, (slotted_in r u t role).moves.acked_up)
-          by_case false e =
-              let same : acked here ≡ a = omega (arith, not_le_of (a + 1) (acked here) e, acked_here) in
-              let one : issued here ≡ acked here + 1 =
-              omega (arith, same, aired_here, (counted r u).aired_issued role t, ((sound r u t).good role).window) in
-              omega (arith, acked_now one same)
+      acked_in_time = elim (cases_Bool (nat_le (a + 1) (acked here))) [
+        | inl e ↦ omega (arith, le_of (a + 1) (acked here) e, (slotted_in r u t role).moves.acked_up)
+        | inr e ↦
+            let same : acked here ≡ a = omega (arith, not_le_of (a + 1) (acked here) e, acked_here) in
+            let one : issued here ≡ acked here + 1 =
+            omega (arith, same, aired_here, (counted r u).aired_issued role t, ((sound r u t).good role).window) in
+            omega (arith, acked_now one same)
+      ]

@@ -1,15 +1,16 @@
 -- A link of SAPI 0 sends an answer before its own frame only for a poll of the other side, which repeats a frame then.
 use Rattle.{
+  std.proofs.lemmas.Bool.cases_Bool,
   std.{
     specs.Prelude.{◌≡◌, ◌≢◌, ℕ, zero, suc, ◌+◌, ◌-◌, ◌*◌, ◌≤◌, Bool, true, false, not, ◌&&◌, ◌||◌},
-    specs.Prelude.{◌⊎◌, nat_eq, nat_le, List, Option, Some, None, IfSome},
+    specs.Prelude.{◌⊎◌, nat_eq, List, Option, Some, None, IfSome},
     proofs.{Common.{inl, inr, arith, refl, ap, sym, ◌∙◌}, Math.Nat.{add-mul, one-mul}},
   },
   lapdm_frame.specs.Content.{Content, I, Rr, Rej, Frame},
   lapdm_end.specs.lapdm_window.{
     declared.State.TheVariants.{Open, Closed},
     segmenting.Segments.Segment,
-    Ends.{Role, Mobile, Network, EndpointState, vr, command_cr, first_unacked_segment, awaits_ack},
+    Ends.{Role, Mobile, Network, EndpointState, vr, command_cr, first_unacked_segment},
     Rules.nr_acknowledges_segment,
     Calls.{awaited_frame, t200_expiry},
   },
@@ -20,13 +21,13 @@ use Rattle.{
     specs.Progress.{is_i_content, is_repetition, is_repeated_content, lossy_slots, expiries, AreOpen, Progress, expires_in, answer_goes},
     proofs.{
       ProgressSteps.{IsAnswerOf, taken},
-      ProgressLink.{From, nowhere, owed, first, again, slot_from, reply_with, frame_taken},
-      ProgressStart.{ready_called, ready_role, slot_open},
-      ProgressRuns.{sound, link_step, NeverReleases},
-      ProgressPaid.{in_sequence_or_polls, taken_is, arrived_other, le_of, not_le_of},
-      ProgressExpiries.{true-false, owes_ready, i_parts, repeats, poll_is_i, answer_no_i},
+      ProgressLink.{answer_is, From, nowhere, owed, first, again, slot_from, reply_with, frame_taken},
+      ProgressStart.slot_open,
+      ProgressRuns.{sound, link_step, called_in, role_in, NeverReleases},
+      ProgressPaid.{in_sequence_or_polls, taken_is, arrived_other},
+      ProgressExpiries.{true-false, owes_ready, i_parts, repeats},
       ProgressWaiting.{waits_at_most, repeats_at_most},
-      ProgressSlots.{one_most, one_at_most, answering_slots, answers_first, open_closed},
+      ProgressSlots.{one_most, one_at_most, answering_slots, answers_first, slots_after, open_closed},
     },
   },
 }
@@ -63,13 +64,6 @@ again_i : (e : EndpointState) (f : Frame) → e.state ≡ Open → first_frame (
     is_i_content f.content ≡ true
 again_i e f o h = grind (arith, o, h)
 
-answer_is : (m : LinkState) (a : Option Frame) (f : Frame) → a ≡ Some f → IfSome a (IsAnswerOf m) → IsAnswerOf m f
-answer_is m None f e h = absurd cc
-answer_is m (Some g) f e h = rw (same g f e) at h
-  where
-    same : (g f : Frame) → Some g ≡ Some f → g ≡ f
-    same g f e = cc
-
 sends_answer : (m : LinkState) (f : Frame) → m.endpoint.state ≡ Open → IfSome m.answer (IsAnswerOf m) →
     (slot_outcome m).frame ≡ Some f → is_i_content f.content ≡ false → IsAnswerOf m f
 sends_answer m f o owes h i = by_from (slot_from m)
@@ -78,11 +72,10 @@ sends_answer m f o owes h i = by_from (slot_from m)
     by_from (nowhere e) = absurd cc
     by_from (owed e) = answer_is m m.answer f (sym e ∙ h) owes
     by_from (first e due new sent) = absurd (true-false (sym (first_i m.endpoint f o (sym e ∙ h)) ∙ i))
-    by_from (again e due old sent) = absurd (true-false (sym (again_i m.endpoint f o (sym e ∙ h)) ∙ i))
+    by_from (again e due old sent over) = absurd (true-false (sym (again_i m.endpoint f o (sym e ∙ h)) ∙ i))
 
 response_way : (role : Role) → not (command_cr role) ≡ command_cr (other role)
-response_way Mobile = refl
-response_way Network = refl
+response_way role = grind arith
 
 held_back : (f : Frame) (m : LinkState) → is_plain_rr f.content ≡ true → is_due m ≡ true → m.endpoint.state ≡ Open →
     keeps_back f m ≡ true
@@ -107,31 +100,12 @@ goes_first m h = let x = parts_of (is_due m) (answer_goes m.answer m) h in by_an
     by_answer None e due g = absurd cc
     by_answer (Some f) e due g = (f, e, due, not_false (keeps_back f m) g)
 
-repeats_expire : (m : LinkState) → IfSome m.answer (IsAnswerOf m) → is_repetition (slot_outcome m).frame ≡ true →
-    expires_in m ≡ true
-repeats_expire m owes h = by_answer m.answer refl (repeats m owes h)
-  where
-    by_answer : (a : Option Frame) → m.answer ≡ a →
-        (m.is_sent ≡ true) × (m.endpoint.state ≡ Open) × (m.clock ≡ 0) × (awaits_ack m.endpoint ≡ true) → expires_in m ≡ true
-    by_answer None n x = grind (arith, n, x.0, x.1, x.2, x.3)
-    by_answer (Some f) n x = by_kept (keeps_back f m) refl
-      where
-        by_kept : (b : Bool) → keeps_back f m ≡ b → expires_in m ≡ true
-        by_kept true k = grind (arith, n, x.0, x.1, x.2, x.3, k)
-        by_kept false k =
-            let e : (slot_outcome m).frame ≡ m.answer = grind (arith, n, k) in
-            absurd (true-false (sym (poll_is_i m.answer (ap is_repetition (sym e) ∙ h)) ∙ answer_no_i m m.answer owes))
-
 some_none : (f : Frame) → None ≡ Some f → ⊥
 some_none f h = cc
 
 in_order : (b p : Bool) → (b || p) ≡ true → p ≡ false → b ≡ true
 in_order true p h e = refl
 in_order false p h e = absurd (true-false (sym h ∙ e))
-
-sender_role : (r : Run) (u : NeverReleases r) (q : ℕ) (role : Role) → (ready_at r q role).endpoint.role ≡ role
-sender_role r u q role = ready_role role (arriving_at r q role) (turn_at r q role).calls (link_at r q role) ((sound r u q).good role)
-    ((sound r u q).settled role).owes ((sound r u q).idle role) (u q role) ∙ (sound r u q).roles role
 
 -- ---- the slot in which an answer goes first is one delay after a repetition of the other side
 
@@ -162,8 +136,7 @@ module _ (r : Run) (u : NeverReleases r) (q : ℕ) (role : Role) where
 
       -- the calls keep what is owed
       kept : m.answer ≡ (after_arriving (arriving_at r n x) l).answer
-      kept = (ready_called x (arriving_at r n x) (turn_at r n x).calls l ((sound r u n).good x) owes_none ((sound r u n).idle x)
-          (u n x)).answer_same
+      kept = (called_in r u n x).answer_same
 
       still_open : (link_at r (suc n) x).endpoint.state ≢ Closed
       still_open e = open_closed (sym open_next ∙ e)
@@ -202,7 +175,7 @@ module _ (r : Run) (u : NeverReleases r) (q : ℕ) (role : Role) where
               comes = arrived_other r q role ∙ rw (lost, e) refl
 
               way_of : IsAnswerOf (ready_at r q role) g → g.cr ≡ command_cr l.endpoint.role
-              way_of w = w.way ∙ ap (λ k. not (command_cr k)) (sender_role r u q role) ∙ response_way role
+              way_of w = w.way ∙ ap (λ k. not (command_cr k)) (role_in r u q role) ∙ response_way role
                   ∙ ap command_cr (sym ((sound r u n).roles x))
 
               by_taken : IsAnswerOf (ready_at r q role) g →
@@ -220,14 +193,13 @@ module _ (r : Run) (u : NeverReleases r) (q : ℕ) (role : Role) where
           by_sent false lost (Some g) e = by_kind g e lost (is_i_content g.content) refl
 
       pub is_for_poll : answers_first r n x ≡ true → expires_in (ready_at r q role) ≡ true
-      is_for_poll h = by_frame (is_repetition (frame_at r q role)) refl
+      is_for_poll h = elim (cases_Bool (is_repetition (frame_at r q role))) [
+        | inl e ↦ (repeats (ready_at r q role) (owes_ready r u role q) e).4
+        | inr e ↦ absurd (true-false (sym (held_back y.0 m (owes_plain y.0 y.1 e) y.2 m_open) ∙ y.3))
+      ]
         where
           y : (f : Frame) × (m.answer ≡ Some f) × (is_due m ≡ true) × (keeps_back f m ≡ false)
           y = goes_first m h
-
-          by_frame : (b : Bool) → is_repetition (frame_at r q role) ≡ b → expires_in (ready_at r q role) ≡ true
-          by_frame true e = repeats_expire (ready_at r q role) (owes_ready r u role q) e
-          by_frame false e = absurd (true-false (sym (held_back y.0 m (owes_plain y.0 y.1 e) y.2 m_open) ∙ y.3))
 
 -- ---- all slots
 
@@ -235,10 +207,6 @@ module _ (r : Run) (u : NeverReleases r) (n0 : ℕ) (role : Role) where
   few : (k : ℕ) → answering_slots r n0 k (other role) ≤ k
   few zero = omega arith
   few (suc k) = omega (arith, few k, one_most (answers_first r (n0 + k) (other role)))
-
-  grows : (k j : ℕ) → expiries r n0 k role ≤ expiries r n0 (k + j) role
-  grows k zero = let e : k + 0 ≡ k = omega arith in rw e (omega arith)
-  grows k (suc j) = let e : k + suc j ≡ suc (k + j) = omega arith in rw e (omega (arith, grows k j))
 
   open_in : (k j : ℕ) → n0 ≤ j → j ≤ n0 + k → AreOpen r n0 k → (p : Role) → (link_at r j p).endpoint.state ≡ Open
   open_in k j a b o p = let e : n0 + (j - n0) ≡ j = omega (arith, a) in rw e at (o (j - n0) (omega (arith, b)) p)
@@ -253,28 +221,13 @@ module _ (r : Run) (u : NeverReleases r) (n0 : ℕ) (role : Role) where
       (open_in (suc (suc r.delay + j)) (suc (n0 + j) + r.delay) (omega arith) (omega arith) o (other role))
       (open_in (suc (suc r.delay + j)) (suc (suc (n0 + j) + r.delay)) (omega arith) (omega arith) o (other role))))
 
-  late : (j : ℕ) → AreOpen r n0 (suc r.delay + j) →
-      answering_slots r n0 (suc r.delay + j) (other role) ≤ expiries r n0 j role + suc r.delay
-  late zero o = let e : suc r.delay + 0 ≡ suc r.delay = omega arith in rw e (omega (arith, few (suc r.delay)))
-  late (suc j) o =
-      let e : suc r.delay + suc j ≡ suc (suc r.delay + j) = omega arith in
-      let o' : AreOpen r n0 (suc (suc r.delay + j)) = rw e at o in
-      rw e (omega (arith, late j (λ i h p. o i (omega (arith, h)) p), polled j o'))
-
   pub answers_at_most : (k : ℕ) → AreOpen r n0 k → answering_slots r n0 k (other role) ≤ expiries r n0 k role + suc r.delay
-  answers_at_most k o = by_length (nat_le (suc r.delay) k) refl
-    where
-      by_length : (b : Bool) → nat_le (suc r.delay) k ≡ b → answering_slots r n0 k (other role) ≤ expiries r n0 k role + suc r.delay
-      by_length true e =
-          let h : suc r.delay ≤ k = le_of (suc r.delay) k e in
-          let f : suc r.delay + (k - suc r.delay) ≡ k = omega (arith, h) in
-          let g : (k - suc r.delay) + suc r.delay ≡ k = omega (arith, h) in
-          let o' : AreOpen r n0 (suc r.delay + (k - suc r.delay)) = rw f o in
-          let a : answering_slots r n0 k (other role) ≤ expiries r n0 (k - suc r.delay) role + suc r.delay =
-          rw f at (late (k - suc r.delay) o') in
-          let b : expiries r n0 (k - suc r.delay) role ≤ expiries r n0 k role = rw g at (grows (k - suc r.delay) (suc r.delay)) in
-          omega (arith, a, b)
-      by_length false e = omega (arith, few k, not_le_of (suc r.delay) k e)
+  answers_at_most k o = omega (
+    arith,
+    slots_after (λ j. answers_first r j (other role)) (λ j. expires_in (ready_at r j role)) n0
+        (suc r.delay) k (suc r.delay) 0 (λ j. 0) (λ j. omega arith) (few (suc r.delay))
+        (λ j a. omega (arith, polled j (λ i h p. o i (omega (arith, h, a)) p))),
+  )
 
 bound : (t l : ℕ) → (t + 1) * l ≡ t * l + l
 bound t l = add-mul t 1 l ∙ ap (λ x. t * l + x) (one-mul l)

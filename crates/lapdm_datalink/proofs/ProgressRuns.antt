@@ -3,15 +3,16 @@ use Rattle.{
   std.specs.Prelude.{◌≡◌, ℕ, zero, suc, ◌+◌, ◌%◌, ◌≤◌, Bool, true, false, ◌⊎◌, ◌∷◌, length, get_or},
   std.{specs.Prelude.{Option, Some, None, All}, proofs.{Common.{inl, inr, arith, refl, ap, sym, ◌∙◌}, lemmas.List.get_or_past}},
   lapdm_frame.specs.Content.Frame,
-  lapdm_end.specs.lapdm_window.{Ends.{Role, Mobile, Network, vr, vs}, Calls.is_idle},
+  lapdm_end.specs.lapdm_window.{Ends.{Role, Mobile, Network}, Calls.is_idle},
   lapdm_link.specs.Events.other,
   lapdm_datalink.{
-    specs.{Links.{LinkState, slot_outcome, after_slot}, Slots.{nr_in, nr_of}, Channels.{Run, channel_at, side_at, side_after, carried}},
+    specs.{Links.{LinkState, slot_outcome, after_slot}, Slots.nr_of, Channels.{Run, channel_at, side_at, side_after, carried}},
     specs.{Channels.{after_calls, after_arriving, IsUse}, Progress.{link_at, turn_at, arriving_at, ready_at, frame_at}},
     proofs.{
-      ProgressSteps.{acked, issued, accepted, aired, Good},
-      ProgressLink.{Slotted, ns_in, ns_of},
-      ProgressStart.{Settled, settled, slotted_link, idle_from, idle_sends_nothing, idle_network, idle_stays, idle_silent},
+      ProgressSteps.{acked, issued, accepted, aired, Good, Moves},
+      ProgressLink.{Slotted, Called, good_next, ns_of},
+      ProgressStart.{Settled, settled, slotted_link, ready_moves, ready_called, ready_due, UnsentIsDue},
+      ProgressStart.{idle_from, idle_sends_nothing, idle_network, idle_stays, idle_silent},
     },
   },
 }
@@ -24,17 +25,14 @@ NeverReleases r = (n : ℕ) (role : Role) → All (IsUse role) (turn_at r n role
 module _ (r : Run) where
   side_step : (n : ℕ) (role : Role) → side_at role (channel_at r (suc n)) ≡
       side_after (turn_at r n role) (arriving_at r n role) (side_at role (channel_at r n))
-  side_step n Mobile = refl
-  side_step n Network = refl
+  side_step n role = grind arith
 
   pub link_step : (n : ℕ) (role : Role) → link_at r (suc n) role ≡ (slot_outcome (ready_at r n role)).link
-  link_step n Mobile = refl
-  link_step n Network = refl
+  link_step n role = grind arith
 
   pub sent_step : (n : ℕ) (role : Role) → (side_at role (channel_at r (suc n))).sent ≡
       carried (turn_at r n role).is_lost (frame_at r n role) ∷ (side_at role (channel_at r n)).sent
-  sent_step n Mobile = refl
-  sent_step n Network = refl
+  sent_step n role = grind arith
 
   sent_after : (n k : ℕ) (role : Role) → get_or (side_at role (channel_at r (suc n + k))).sent k None ≡
       carried (turn_at r n role).is_lost (frame_at r n role)
@@ -73,45 +71,10 @@ module _ (r : Run) where
         get_or (side_at role (channel_at r n)).sent k None ≡ None
 
   start : Sound 0
-  start = record {
-    good = start_good;
-    idle = start_idle;
-    settled = start_settled;
-    roles = start_roles;
-    t200 = start_t200;
-    network_idle = λ h. refl;
-    silent = start_silent;
-  }
-    where
-      start_good : (role : Role) → Good (link_at r 0 role)
-      start_good Mobile = record { sapi = refl; low = omega arith; window = omega arith }
-      start_good Network = record { sapi = refl; low = omega arith; window = omega arith }
-
-      start_idle : (role : Role) → is_idle (link_at r 0 role).endpoint.state ≡ true →
-          issued (link_at r 0 role) ≡ acked (link_at r 0 role)
-      start_idle Mobile h = refl
-      start_idle Network h = refl
-
-      start_settled : (role : Role) → Settled role (link_at r 0 role)
-      start_settled Mobile = record { owes = refl; unsent = λ s. refl; opening = λ h. absurd cc }
-      start_settled Network = record { owes = refl; unsent = λ s. refl; opening = λ h. absurd cc }
-
-      start_roles : (role : Role) → (link_at r 0 role).endpoint.role ≡ role
-      start_roles Mobile = refl
-      start_roles Network = refl
-
-      start_t200 : (role : Role) → (link_at r 0 role).t200 ≡ r.t200
-      start_t200 Mobile = refl
-      start_t200 Network = refl
-
-      start_silent : is_idle (link_at r 0 Mobile).endpoint.state ≡ true → (role : Role) (k : ℕ) →
-          get_or (side_at role (channel_at r 0)).sent k None ≡ None
-      start_silent h Mobile k = refl
-      start_silent h Network k = refl
+  start = grind arith
 
   pub carried_none : (lost : Bool) → carried lost None ≡ None
-  carried_none true = refl
-  carried_none false = refl
+  carried_none b = grind arith
 
   module _ (u : NeverReleases r) where
     -- the slot of each link
@@ -162,7 +125,7 @@ module _ (r : Run) where
 
     step : (n : ℕ) → Sound n → Sound (suc n)
     step n h = record {
-      good = λ role. good_after role;
+      good = λ role. good_next (h.good role) (slotted_at n h role).moves;
       idle = λ role i. (let e = idle_before n h role i in
           ap (λ x. x.sent_segments) e ∙ h.idle role (ap (λ x. is_idle x.state) (sym e) ∙ i) ∙ sym (ap (λ x. x.acked_segments) e));
       settled = λ role. rw (link_step n role)
@@ -174,11 +137,6 @@ module _ (r : Run) where
       silent = λ i role. silent_after i role;
     }
       where
-        good_after : (role : Role) → Good (link_at r (suc n) role)
-        good_after role =
-            let x = slotted_at n h role in
-            record { sapi = x.moves.sapi ∙ (h.good role).sapi; low = x.moves.low; window = x.moves.window }
-
         quiet : (role : Role) → is_idle (link_at r n role).endpoint.state ≡ true → role ≡ Mobile → arriving_at r n role ≡ None
         quiet Mobile i e = nothing_comes n h i Mobile
         quiet Network i e = absurd cc
@@ -203,6 +161,26 @@ module _ (r : Run) where
         Slotted (arriving_at r n role) (link_at r n role) (link_at r (suc n) role) (frame_at r n role)
     slotted_in n role = slotted_at n (sound n) role
 
+    -- ---- the link before it sends
+
+    pub moved_in : (n : ℕ) (role : Role) → Moves (link_at r n role) (ready_at r n role)
+    moved_in n role = ready_moves role (arriving_at r n role) (turn_at r n role).calls (link_at r n role) ((sound n).good role)
+        ((sound n).settled role).owes ((sound n).idle role) (u n role)
+
+    pub called_in : (n : ℕ) (role : Role) → Called (after_arriving (arriving_at r n role) (link_at r n role)) (ready_at r n role)
+    called_in n role = ready_called role (arriving_at r n role) (turn_at r n role).calls (link_at r n role) ((sound n).good role)
+        ((sound n).settled role).owes ((sound n).idle role) (u n role)
+
+    pub due_in : (n : ℕ) (role : Role) → UnsentIsDue (ready_at r n role)
+    due_in n role = ready_due role (arriving_at r n role) (turn_at r n role).calls (link_at r n role) ((sound n).good role).sapi
+        (u n role) ((sound n).settled role)
+
+    pub t200_in : (n : ℕ) (role : Role) → (ready_at r n role).t200 ≡ r.t200
+    t200_in n role = (moved_in n role).t200 ∙ (sound n).t200 role
+
+    pub role_in : (n : ℕ) (role : Role) → (ready_at r n role).endpoint.role ≡ role
+    role_in n role = (moved_in n role).role ∙ (sound n).roles role
+
     -- ---- the counts
 
     abbrev pub counts : C.Counts
@@ -213,29 +191,32 @@ module _ (r : Run) where
       aired = λ role n. aired (link_at r n role);
     }
 
-    carried_number : (lost : Bool) (x : Option Frame) (k : ℕ) → nr_of (carried lost x) ≡ Some k →
-        (f : Frame) × (x ≡ Some f) × (nr_in f.content ≡ Some k)
-    carried_number true x k h = absurd cc
-    carried_number false None k h = absurd cc
-    carried_number false (Some f) k h = (f, refl, h)
+    no_number : (k : ℕ) → None ≡ Some k → ⊥
+    no_number k h = cc
 
-    carried_segment : (lost : Bool) (x : Option Frame) (k : ℕ) → ns_of (carried lost x) ≡ Some k →
-        (f : Frame) × (x ≡ Some f) × (ns_in f.content ≡ Some k)
-    carried_segment true x k h = absurd cc
-    carried_segment false None k h = absurd cc
-    carried_segment false (Some f) k h = (f, refl, h)
+    -- a number of what arrives was in the frame that was sent
+    arrived_with : (of : Option Frame → Option ℕ) → of None ≡ None → (n : ℕ) (role : Role) (k : ℕ) →
+        of (arriving_at r (suc n + r.delay) role) ≡ Some k →
+        (f : Frame) × (frame_at r n (other role) ≡ Some f) × (of (Some f) ≡ Some k)
+    arrived_with of none n role k h =
+        by_frame (turn_at r n (other role)).is_lost (frame_at r n (other role)) (ap of (sym (arrived n role)) ∙ h)
+      where
+        by_frame : (lost : Bool) (x : Option Frame) → of (carried lost x) ≡ Some k →
+            (f : Frame) × (x ≡ Some f) × (of (Some f) ≡ Some k)
+        by_frame true x h = absurd (no_number k (sym none ∙ h))
+        by_frame false None h = absurd (no_number k (sym none ∙ h))
+        by_frame false (Some f) h = (f, refl, h)
 
     number_arrived : (n : ℕ) (role : Role) (k : ℕ) → nr_of (arriving_at r (suc n + r.delay) role) ≡ Some k →
         k ≡ accepted (link_at r (suc n) (other role)) % 8
     number_arrived n role k h =
-        let x = carried_number (turn_at r n (other role)).is_lost (frame_at r n (other role)) k (ap nr_of (sym (arrived n role)) ∙ h) in
-        (slotted_in n (other role)).number x.0 x.1 k x.2
+        let x = arrived_with nr_of refl n role k h in (slotted_in n (other role)).number x.0 x.1 k x.2
 
     segment_arrived : (n : ℕ) (role : Role) (k : ℕ) → ns_of (arriving_at r (suc n + r.delay) role) ≡ Some k →
         (k ≡ acked (link_at r (suc n) (other role)) % 8)
         × (aired (link_at r (suc n) (other role)) ≡ acked (link_at r (suc n) (other role)) + 1)
     segment_arrived n role k h =
-        let x = carried_segment (turn_at r n (other role)).is_lost (frame_at r n (other role)) k (ap ns_of (sym (arrived n role)) ∙ h) in
+        let x = arrived_with ns_of refl n role k h in
         let y = (slotted_in n (other role)).segment x.0 x.1 k x.2 in
         (y.0, y.1)
 
@@ -249,66 +230,37 @@ module _ (r : Run) where
         (acked (link_at r (suc m) role) ≡ acked (link_at r m role))
         ⊎ ((acked (link_at r (suc m) role) ≡ issued (link_at r m role)) × (issued (link_at r m role) ≡ acked (link_at r m role) + 1)
         × (issued (link_at r m role) % 8 ≡ accepted (link_at r (suc n) (other role)) % 8))
-    by_nr_at n role = by_case (slotted_in (suc n + r.delay) role).by_nr
-      where
-        by_case : let m = suc n + r.delay in
-            (acked (link_at r (suc m) role) ≡ acked (link_at r m role))
-            ⊎ ((nr_of (arriving_at r m role) ≡ Some (vs (link_at r m role).endpoint))
-            × (issued (link_at r m role) ≡ acked (link_at r m role) + 1)
-            × (acked (link_at r (suc m) role) ≡ issued (link_at r m role))) →
-            (acked (link_at r (suc m) role) ≡ acked (link_at r m role))
-            ⊎ ((acked (link_at r (suc m) role) ≡ issued (link_at r m role))
-            × (issued (link_at r m role) ≡ acked (link_at r m role) + 1)
-            × (issued (link_at r m role) % 8 ≡ accepted (link_at r (suc n) (other role)) % 8))
-        by_case (inl e) = inl e
-        by_case (inr (e, one, got)) = inr (got, one, number_arrived n role _ e)
+    by_nr_at n role = elim (slotted_in (suc n + r.delay) role).by_nr [
+      | inl e ↦ inl e
+      | inr x ↦ inr (x.2, x.1, number_arrived n role _ x.0)
+    ]
 
     by_ns_at : (n : ℕ) (role : Role) → let m = suc n + r.delay in
         (accepted (link_at r (suc m) role) ≡ accepted (link_at r m role))
         ⊎ ((accepted (link_at r (suc m) role) ≡ accepted (link_at r m role) + 1)
         × (accepted (link_at r m role) % 8 ≡ acked (link_at r (suc n) (other role)) % 8)
         × (aired (link_at r (suc n) (other role)) ≡ acked (link_at r (suc n) (other role)) + 1))
-    by_ns_at n role = by_case (slotted_in (suc n + r.delay) role).by_ns
-      where
-        by_case : let m = suc n + r.delay in
-            (accepted (link_at r (suc m) role) ≡ accepted (link_at r m role))
-            ⊎ ((ns_of (arriving_at r m role) ≡ Some (vr (link_at r m role).endpoint))
-            × (accepted (link_at r (suc m) role) ≡ accepted (link_at r m role) + 1)) →
-            (accepted (link_at r (suc m) role) ≡ accepted (link_at r m role))
-            ⊎ ((accepted (link_at r (suc m) role) ≡ accepted (link_at r m role) + 1)
-            × (accepted (link_at r m role) % 8 ≡ acked (link_at r (suc n) (other role)) % 8)
-            × (aired (link_at r (suc n) (other role)) ≡ acked (link_at r (suc n) (other role)) + 1))
-        by_case (inl e) = inl e
-        by_case (inr (e, got)) = let x = segment_arrived n role _ e in inr (got, x.0, x.1)
-
-    no_number : (k : ℕ) → None ≡ Some k → ⊥
-    no_number k h = cc
+    by_ns_at n role = elim (slotted_in (suc n + r.delay) role).by_ns [
+      | inl e ↦ inl e
+      | inr x ↦ let y = segment_arrived n role _ x.0 in inr (x.1, y.0, y.1)
+    ]
 
     -- nothing is acknowledged or accepted before anything arrives
     early_acked : (role : Role) (k : ℕ) → k ≤ r.delay + 1 → acked (link_at r k role) ≡ 0
     early_acked Mobile zero h = refl
     early_acked Network zero h = refl
-    early_acked role (suc k) h = by_case (slotted_in k role).by_nr (early_acked role k (omega (arith, h)))
-      where
-        by_case : (acked (link_at r (suc k) role) ≡ acked (link_at r k role))
-            ⊎ ((nr_of (arriving_at r k role) ≡ Some (vs (link_at r k role).endpoint))
-            × (issued (link_at r k role) ≡ acked (link_at r k role) + 1)
-            × (acked (link_at r (suc k) role) ≡ issued (link_at r k role))) →
-            acked (link_at r k role) ≡ 0 → acked (link_at r (suc k) role) ≡ 0
-        by_case (inl e) before = e ∙ before
-        by_case (inr x) before = absurd (no_number _ (ap nr_of (sym (nothing_arrives k role (omega (arith, h)))) ∙ x.0))
+    early_acked role (suc k) h = elim (slotted_in k role).by_nr [
+      | inl e ↦ e ∙ early_acked role k (omega (arith, h))
+      | inr x ↦ absurd (no_number _ (ap nr_of (sym (nothing_arrives k role (omega (arith, h)))) ∙ x.0))
+    ]
 
     early_accepted : (role : Role) (k : ℕ) → k ≤ r.delay + 1 → accepted (link_at r k role) ≡ 0
     early_accepted Mobile zero h = refl
     early_accepted Network zero h = refl
-    early_accepted role (suc k) h = by_case (slotted_in k role).by_ns (early_accepted role k (omega (arith, h)))
-      where
-        by_case : (accepted (link_at r (suc k) role) ≡ accepted (link_at r k role))
-            ⊎ ((ns_of (arriving_at r k role) ≡ Some (vr (link_at r k role).endpoint))
-            × (accepted (link_at r (suc k) role) ≡ accepted (link_at r k role) + 1)) →
-            accepted (link_at r k role) ≡ 0 → accepted (link_at r (suc k) role) ≡ 0
-        by_case (inl e) before = e ∙ before
-        by_case (inr (e, x)) before = absurd (no_number _ (ap ns_of (sym (nothing_arrives k role (omega (arith, h)))) ∙ e))
+    early_accepted role (suc k) h = elim (slotted_in k role).by_ns [
+      | inl e ↦ e ∙ early_accepted role k (omega (arith, h))
+      | inr x ↦ absurd (no_number _ (ap ns_of (sym (nothing_arrives k role (omega (arith, h)))) ∙ x.0))
+    ]
 
     pub counted : C.Run r.delay counts
     counted = record {

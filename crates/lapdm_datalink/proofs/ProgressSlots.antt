@@ -1,7 +1,8 @@
 -- What is counted in a slot: a frame that is due, an answer that goes first, an expiry of T200, and a loss.
 use Rattle.{
+  std.proofs.lemmas.Bool.cases_Bool,
   std.specs.Prelude.{◌≡◌, ℕ, zero, suc, ◌+◌, ◌-◌, ◌*◌, ◌≤◌, Bool, true, false, ◌&&◌, ◌||◌, ◌⊎◌},
-  std.{specs.Prelude.{nat_eq, Some}, proofs.{Common.{inl, inr, arith, refl, ap, sym, ◌∙◌}, Math.Nat.{mul-add, mul-one}}},
+  std.{specs.Prelude.{nat_eq, nat_le, Some}, proofs.{Common.{inl, inr, arith, refl, ap, sym, ◌∙◌}, Math.Nat.{mul-add, mul-one}}},
   lapdm_frame.specs.Content.Frame,
   lapdm_end.specs.lapdm_window.{
     declared.State.TheVariants.{Open, Closed},
@@ -9,8 +10,9 @@ use Rattle.{
   },
   lapdm_datalink.{
     specs.{Links.{LinkState, slot_outcome, is_due, keeps_back}, Channels.Run, Progress.{link_at, turn_at, arriving_at, ready_at}},
-    specs.Progress.{is_loss_at, is_lossy, one_if, expires_in, answer_goes},
-    proofs.{ProgressSteps.{acked, issued}, ProgressStart.{ready_t200, clock_after}, ProgressRuns.{sound, link_step, NeverReleases}},
+    specs.Progress.{is_loss_at, is_lossy, one_if, slots_with, expires_in, answer_goes},
+    proofs.{ProgressSteps.{acked, issued}, ProgressStart.clock_after, ProgressRuns.{sound, link_step, t200_in, NeverReleases}},
+    proofs.ProgressPaid.{le_of, not_le_of},
   },
 }
 
@@ -19,8 +21,45 @@ abbrev pub answers_first : (run : Run) (slot : ℕ) (role : Role) → Bool
 answers_first r n role = is_due (ready_at r n role) && answer_goes (ready_at r n role).answer (ready_at r n role)
 
 abbrev pub answering_slots : (run : Run) (first slots : ℕ) (role : Role) → ℕ
-answering_slots r n zero role = 0
-answering_slots r n (suc k) role = answering_slots r n k role + one_if (answers_first r (n + k) role)
+answering_slots r n k role = slots_with (λ m. answers_first r m role) n k
+
+-- ---- how often something is so
+
+pub slots_same : (f g : ℕ → Bool) (n k : ℕ) → ((m : ℕ) → suc m ≤ n + k → f m ≡ g m) →
+    slots_with f n k ≡ slots_with g n k
+slots_same f g n zero h = refl
+slots_same f g n (suc k) h = rw (slots_same f g n k (λ m a. h m (omega (arith, a))), h (n + k) (omega arith)) refl
+
+pub slots_up : (f : ℕ → Bool) (n k j : ℕ) → slots_with f n k ≤ slots_with f n (k + j)
+slots_up f n k zero = let e : k + 0 ≡ k = omega arith in rw e (omega arith)
+slots_up f n k (suc j) = let e : k + suc j ≡ suc (k + j) = omega arith in rw e (omega (arith, slots_up f n k j))
+
+pub slots_next : (f : ℕ → Bool) (n : ℕ) → slots_with f 0 (suc n) ≡ slots_with f 0 n + one_if (f n)
+slots_next f n = let e : 0 + n ≡ n = omega arith in ap (λ j. slots_with f 0 n + one_if (f j)) e
+
+-- what is so only some slots after something else is so no more often than that
+module _ (f g : ℕ → Bool) (n d k c m : ℕ) (more : ℕ → ℕ) (most : (j : ℕ) → more j ≤ m) (early : slots_with f n d ≤ c)
+    (step : (j : ℕ) → suc (d + j) ≤ k → one_if (f (n + (d + j))) + more j ≤ one_if (g (n + j)) + more (suc j))
+  where
+    later : (j : ℕ) → d + j ≤ k → slots_with f n (d + j) ≤ slots_with g n j + more j + c
+    later zero a = let e : d + 0 ≡ d = omega arith in rw e (omega (arith, early))
+    later (suc j) a =
+        let e : d + suc j ≡ suc (d + j) = omega arith in
+        let b : suc (d + j) ≤ k = omega (arith, a) in
+        rw e (omega (arith, later j (omega (arith, a)), step j b))
+
+    pub slots_after : slots_with f n k ≤ slots_with g n k + m + c
+    slots_after = elim (cases_Bool (nat_le d k)) [
+      | inl e ↦
+          let h : d + (k - d) ≡ k = omega (arith, le_of d k e) in
+          let i : (k - d) + d ≡ k = omega (arith, h) in
+          let a : slots_with f n k ≤ slots_with g n (k - d) + more (k - d) + c = rw h at (later (k - d) (omega (arith, h))) in
+          let b : slots_with g n (k - d) ≤ slots_with g n k = rw i at (slots_up g n (k - d) d) in
+          omega (arith, a, b, most (k - d))
+      | inr e ↦
+          let h : k + (d - k) ≡ d = omega (arith, not_le_of d k e) in
+          let a : slots_with f n k ≤ slots_with f n d = rw h at (slots_up f n k (d - k)) in omega (arith, a, early)
+    ]
 
 pub open_awaits : (e : EndpointState) → e.state ≡ Open → awaits_answer e ≡ awaits_ack e
 open_awaits e o = grind (arith, o)
@@ -30,9 +69,6 @@ due_clock m h = (grind (arith, h), grind (arith, h))
 
 pub not_due : (m : LinkState) → is_due m ≡ false → awaits_answer m.endpoint ≡ true → 1 ≤ m.clock
 not_due m h w = grind (arith, h, w)
-
-pub ack_none : (l : LinkState) → awaits_ack l.endpoint ≡ false → issued l ≡ acked l
-ack_none l w = grind (arith, w)
 
 pub ack_one : (l : LinkState) → awaits_ack l.endpoint ≡ true → acked l ≤ issued l → issued l ≤ acked l + 1 →
     issued l ≡ acked l + 1
@@ -103,15 +139,16 @@ clock_within r u role (suc n) = by_slot (clock_after role (arriving_at r n role)
       arith,
       ap (λ l. l.clock) (link_step r n role),
       e,
-      ready_t200 role (arriving_at r n role) (turn_at r n role).calls (link_at r n role) ((sound r u n).good role)
-          ((sound r u n).settled role).owes ((sound r u n).idle role) (u n role),
-      (sound r u n).t200 role,
+      t200_in r u n role,
     )
 
 pub one_at_most : (b c : Bool) → (b ≡ true → c ≡ true) → one_if b ≤ one_if c
 one_at_most true c h = omega (arith, ap one_if (h refl))
 one_at_most false c h = omega arith
 
+pub not_if : (b : Bool) → (b ≡ true → ⊥) → b ≡ false
+not_if true h = absurd (h refl)
+not_if false h = refl
+
 pub one_most : (b : Bool) → one_if b ≤ 1
-one_most true = omega arith
-one_most false = omega arith
+one_most b = grind arith

@@ -1,16 +1,17 @@
 -- What one link of SAPI 0 does when a frame arrives, when layer 3 makes a call, and in its slot: its counts, and what its frames say.
 use Rattle.{
   std.specs.Prelude.{◌≡◌, ℕ, ◌+◌, ◌≤◌, Bool, true, false, not, ◌⊎◌, if◌then◌else◌, nat_eq, length, Option},
-  std.{specs.Prelude.{Some, None, IfSome, List, [], ◌∷◌}, proofs.Common.{inl, inr, arith, refl, ap, ◌∙◌, length-append}},
+  std.{specs.Prelude.{Some, None, IfSome}, proofs.Common.{inl, inr, arith, refl, ap, ◌∙◌, length-append}},
   lapdm_frame.specs.Content.Frame,
   lapdm_end.specs.lapdm_window.{
     declared.Sapi.TheVariants.Zero,
     segmenting.Segments.Segment,
     Ends.{EndpointState, Outcome, vr, vs, awaits_ack, command_cr},
     Rules.takes_i_frame,
-    Tables.{Reply, AcceptsSabm, TakesIFrame, TakesRr, TakesRej, outcome_of_reply},
+    Tables.{Reply, TakesIFrame, TakesRr, TakesRej, outcome_of_reply},
   },
-  lapdm_datalink.specs.{Links.{LinkState, with_outcome, with_frame, with_frames, is_awaiting_kind}, Slots.nr_in},
+  lapdm_datalink.specs.{Links.{LinkState, with_outcome, is_awaiting_kind}, Slots.nr_in},
+  lapdm_datalink.proofs.Lemmas.{endpoint_with_frames, t200_with_frames},
 }
 
 -- ---- counts
@@ -77,7 +78,7 @@ abbrev pub is_rej : Reply → Bool
 is_rej (TakesRej nr p) = true
 is_rej other = false
 
-awaits_none : (l : LinkState) → awaits_ack l.endpoint ≡ false → issued l ≡ acked l
+pub awaits_none : (l : LinkState) → awaits_ack l.endpoint ≡ false → issued l ≡ acked l
 awaits_none l w = grind (arith, w)
 
 aired_low : (l m : LinkState) → issued l ≡ acked l → acked m ≤ issued m → acked l ≤ acked m → aired l ≤ aired m
@@ -92,22 +93,14 @@ aired_waits l m a b c d = grind arith
 
 -- ---- the frames that an endpoint returns change only what the link owes and its clock
 
-frames_t200 : (fs : List Frame) (l : LinkState) → (with_frames fs l).t200 ≡ l.t200
-frames_t200 [] l = refl
-frames_t200 (f ∷ fs) l = frames_t200 fs (with_frame f l) ∙ grind arith
-
-frames_endpoint : (fs : List Frame) (l : LinkState) → (with_frames fs l).endpoint ≡ l.endpoint
-frames_endpoint [] l = refl
-frames_endpoint (f ∷ fs) l = frames_endpoint fs (with_frame f l) ∙ grind arith
-
 outcome_t200 : (o : Outcome) (l : LinkState) → (with_outcome o l).t200 ≡ l.t200
-outcome_t200 o l = frames_t200 o.frames (record l { endpoint = o.new_state })
+outcome_t200 o l = t200_with_frames o.frames (record l { endpoint = o.new_state })
 
 pub outcome_endpoint : (o : Outcome) (l : LinkState) → (with_outcome o l).endpoint ≡ o.new_state
-outcome_endpoint o l = frames_endpoint o.frames (record l { endpoint = o.new_state })
+outcome_endpoint o l = endpoint_with_frames o.frames (record l { endpoint = o.new_state })
 
 outcome_accepted : (o : Outcome) (l : LinkState) → accepted (with_outcome o l) ≡ length o.new_state.accepted_segments
-outcome_accepted o l = ap (λ e. length e.accepted_segments) (frames_endpoint o.frames (record l { endpoint = o.new_state }))
+outcome_accepted o l = ap (λ e. length e.accepted_segments) (endpoint_with_frames o.frames (record l { endpoint = o.new_state }))
 
 module _ (e : EndpointState) (ns nr : ℕ) (p : Bool) (s : Segment) where
   end_accepts : nat_eq ns (vr e) ≡ true →
@@ -123,23 +116,23 @@ pub accepts_taken : (l : LinkState) (ns nr : ℕ) (p : Bool) (s : Segment) → n
 accepts_taken l ns nr p s h =
     outcome_accepted (outcome_of_reply (TakesIFrame ns nr p s) l.endpoint) l ∙ end_accepts l.endpoint ns nr p s h
 
+-- a link that awaits an acknowledgement and does not get it goes on waiting
+pub record GoesOn (l m : LinkState) : Type 0 where
+  pub sent : m.is_sent ≡ l.is_sent
+  pub clock : m.clock ≡ l.clock
+  pub acked : m.endpoint.acked_segments ≡ l.endpoint.acked_segments
+  pub issued : m.endpoint.sent_segments ≡ l.endpoint.sent_segments
+
 module _ (l : LinkState) (g : Good l) (none : l.answer ≡ None) where
-  -- a link that awaits an acknowledgement and does not get it goes on waiting
-  pub waits_i : (ns nr : ℕ) (p : Bool) (s : Segment) → awaits_ack l.endpoint ≡ true → nat_eq nr (vs l.endpoint) ≡ false →
-      (taken (TakesIFrame ns nr p s) l).is_sent ≡ l.is_sent
-  waits_i ns nr p s w h = grind (arith, w, h)
+  pub goes_on_i : (ns nr : ℕ) (p : Bool) (s : Segment) → awaits_ack l.endpoint ≡ true → nat_eq nr (vs l.endpoint) ≡ false →
+      GoesOn l (taken (TakesIFrame ns nr p s) l)
+  goes_on_i ns nr p s w h =
+      record { sent = grind (arith, w, h); clock = grind (arith, w, h); acked = grind (arith, w, h); issued = grind (arith, w, h) }
 
-  pub waits_i_clock : (ns nr : ℕ) (p : Bool) (s : Segment) → awaits_ack l.endpoint ≡ true → nat_eq nr (vs l.endpoint) ≡ false →
-      (taken (TakesIFrame ns nr p s) l).clock ≡ l.clock
-  waits_i_clock ns nr p s w h = grind (arith, w, h)
-
-  pub waits_rr : (nr : ℕ) (p : Bool) → awaits_ack l.endpoint ≡ true → nat_eq nr (vs l.endpoint) ≡ false →
-      (taken (TakesRr nr p) l).is_sent ≡ l.is_sent
-  waits_rr nr p w h = grind (arith, w, h)
-
-  pub waits_rr_clock : (nr : ℕ) (p : Bool) → awaits_ack l.endpoint ≡ true → nat_eq nr (vs l.endpoint) ≡ false →
-      (taken (TakesRr nr p) l).clock ≡ l.clock
-  waits_rr_clock nr p w h = grind (arith, w, h)
+  pub goes_on_rr : (nr : ℕ) (p : Bool) → awaits_ack l.endpoint ≡ true → nat_eq nr (vs l.endpoint) ≡ false →
+      GoesOn l (taken (TakesRr nr p) l)
+  goes_on_rr nr p w h =
+      record { sent = grind (arith, w, h); clock = grind (arith, w, h); acked = grind (arith, w, h); issued = grind (arith, w, h) }
 
   acked_i : (ns nr : ℕ) (p : Bool) (s : Segment) → acked l ≤ acked (taken (TakesIFrame ns nr p s) l)
   acked_i ns nr p s = grind (arith, length-append)
@@ -156,10 +149,6 @@ module _ (l : LinkState) (g : Good l) (none : l.answer ≡ None) where
       acked (taken (TakesRr nr p) l) ≡ issued l
   by_nr_rr nr p h w = grind (arith, h, w)
 
-  pub issued_i : (ns nr : ℕ) (p : Bool) (s : Segment) → awaits_ack l.endpoint ≡ true → nat_eq nr (vs l.endpoint) ≡ false →
-      issued (taken (TakesIFrame ns nr p s) l) ≡ issued l
-  issued_i ns nr p s w h = grind (arith, w, h)
-
   -- three cases: nothing outstanding, acknowledged, not acknowledged
   aired_i : (ns nr : ℕ) (p : Bool) (s : Segment) → aired l ≤ aired (taken (TakesIFrame ns nr p s) l)
   aired_i ns nr p s = by_wait (awaits_ack l.endpoint) refl (nat_eq nr (vs l.endpoint)) refl
@@ -170,7 +159,8 @@ module _ (l : LinkState) (g : Good l) (none : l.answer ≡ None) where
       by_wait : (w : Bool) → awaits_ack l.endpoint ≡ w → (k : Bool) → nat_eq nr (vs l.endpoint) ≡ k → aired l ≤ aired m
       by_wait false w k h = aired_low l m (awaits_none l w) (low_i ns nr p s) (acked_i ns nr p s)
       by_wait true w true h = aired_acked l m (by_nr_i ns nr p s h w) (low_i ns nr p s) g.low
-      by_wait true w false h = aired_waits l m (waits_i ns nr p s w h) (issued_i ns nr p s w h) (acked_i ns nr p s) (low_i ns nr p s)
+      by_wait true w false h = aired_waits l m (goes_on_i ns nr p s w h).sent (goes_on_i ns nr p s w h).issued
+          (acked_i ns nr p s) (low_i ns nr p s)
 
   takes_i : (ns nr : ℕ) (p : Bool) (s : Segment) → Takes (TakesIFrame ns nr p s) l (taken (TakesIFrame ns nr p s) l)
   takes_i ns nr p s = record {
@@ -220,26 +210,8 @@ module _ (l : LinkState) (g : Good l) (none : l.answer ≡ None) where
     owed = grind (arith, length-append);
   }
 
-  takes_sabm : (info : List ℕ) → Takes (AcceptsSabm info) l (taken (AcceptsSabm info) l)
-  takes_sabm info = record {
-    moves = record {
-      role = grind (arith, length-append);
-      sapi = grind (arith, length-append);
-      t200 = grind (arith, length-append);
-      acked_up = grind (arith, length-append);
-      accepted_up = grind (arith, length-append);
-      aired_up = grind (arith, length-append);
-      low = grind (arith, length-append);
-      window = grind (arith, length-append);
-    };
-    by_nr = grind (arith, length-append);
-    by_ns = grind (arith, length-append);
-    owed = grind (arith, length-append);
-  }
-
   pub takes : (r : Reply) → is_rej r ≡ false → Takes r l (taken r l)
   takes (TakesIFrame ns nr p s) h = takes_i ns nr p s
   takes (TakesRr nr p) h = takes_rr nr p
   takes (TakesRej nr p) h = absurd cc
-  takes (AcceptsSabm info) h = takes_sabm info
-  takes other h = grind arith
+  takes other h = grind (arith, length-append)

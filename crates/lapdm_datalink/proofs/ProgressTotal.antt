@@ -1,6 +1,6 @@
 -- A link lets an answer go before its own frame only after T200 of the other side expired, the network also after the first SABM.
 use Rattle.{
-  std.specs.Prelude.{◌≡◌, ℕ, zero, suc, ◌+◌, ◌-◌, ◌≤◌, Bool, true, false, not, ◌⊎◌, nat_le, None},
+  std.specs.Prelude.{◌≡◌, ℕ, zero, suc, ◌+◌, ◌≤◌, Bool, true, false, not, ◌⊎◌, nat_le, None},
   std.proofs.Common.{inl, inr, arith, refl, ap, sym, ◌∙◌},
   lapdm_end.specs.lapdm_window.{declared.State.TheVariants.{Idle, Opening, Open}, Ends.{Role, Mobile, Network}, Calls.is_idle},
   lapdm_link.specs.Events.other,
@@ -13,8 +13,8 @@ use Rattle.{
       ProgressPaid.{le_of, not_le_of, arrived_other},
       ProgressPolls.{goes_first, is_for_poll},
       ProgressKnown.{Known, Unclosed, MobileSlot, NetworkSlot, known},
-      ProgressOpening.{some_none, E, B, expiry_step, answer_step},
-      ProgressSlots.{one_most, one_at_most, answers_first},
+      ProgressOpening.{some_none, E, B, answer_step},
+      ProgressSlots.{not_if, one_most, one_at_most, answers_first, slots_after},
     },
   },
 }
@@ -131,10 +131,6 @@ module _ (r : Run) (u : NeverReleases r) where
 
 -- ---- how often
 
-not_true : (b : Bool) → (b ≡ true → ⊥) → one_if b ≡ 0
-not_true true h = absurd (h refl)
-not_true false h = refl
-
 module _ (r : Run) (u : NeverReleases r) (long : round_trip r.delay ≤ r.t200) (k : ℕ) (c : Unclosed r u k) where
   abbrev pub asked : ℕ → ℕ
   asked n = one_if (not (is_idle (link_at r n Mobile).endpoint.state))
@@ -158,30 +154,14 @@ module _ (r : Run) (u : NeverReleases r) (long : round_trip r.delay ≤ r.t200) 
       by_slot (K.joins o p i x t) = more true (ap is_idle (next ∙ p))
       by_slot (K.stays o p i x) = more true (ap is_idle (next ∙ p))
 
-  e_up : (n : ℕ) (role : Role) → E r u long n role ≤ E r u long (suc n) role
-  e_up n role = omega (arith, expiry_step r u long n role)
-
   none_early : (n : ℕ) (role : Role) → n ≤ suc r.delay → B r u long n role ≡ 0
   none_early zero role a = refl
   none_early (suc n) role a = omega (
     arith,
     answer_step r u long n role,
     none_early n role (omega (arith, a)),
-    not_true (answers_first r n role) (owes_for r u n role (nothing_arrives r n role (omega (arith, a)))),
+    ap one_if (not_if (answers_first r n role) (owes_for r u n role (nothing_arrives r n role (omega (arith, a))))),
   )
-
-  mobile_late : (j : ℕ) → suc j + r.delay ≤ k → B r u long (suc j + r.delay) Mobile ≤ E r u long j Network
-  mobile_late zero a = omega (arith, none_early (suc 0 + r.delay) Mobile (omega arith))
-  mobile_late (suc j) a =
-      let e : suc (suc j) + r.delay ≡ suc (suc j + r.delay) = omega arith in
-      rw e (omega (
-        arith,
-        answer_step r u long (suc j + r.delay) Mobile,
-        mobile_late j (omega (arith, a)),
-        expiry_step r u long j Network,
-        one_at_most (answers_first r (suc j + r.delay) Mobile) (expires_in (ready_at r j Network))
-            (mobile_answers r u j (until (suc (suc j + r.delay)) (omega (arith, a)))),
-      ))
 
   network_one : (j : ℕ) → suc (suc j + r.delay) ≤ k → one_if (answers_first r (suc j + r.delay) Network) + asked j
       ≤ one_if (expires_in (ready_at r j Mobile)) + asked (suc j)
@@ -204,37 +184,30 @@ module _ (r : Run) (u : NeverReleases r) (long : round_trip r.delay ≤ r.t200) 
             ap (λ x. one_if (not (is_idle x))) o,
           )
 
-  network_late : (j : ℕ) → suc j + r.delay ≤ k → B r u long (suc j + r.delay) Network ≤ E r u long j Mobile + asked j
-  network_late zero a = omega (arith, none_early (suc 0 + r.delay) Network (omega arith))
-  network_late (suc j) a =
-      let e : suc (suc j) + r.delay ≡ suc (suc j + r.delay) = omega arith in
-      rw e (omega (
-        arith,
-        answer_step r u long (suc j + r.delay) Network,
-        network_late j (omega (arith, a)),
-        expiry_step r u long j Mobile,
-        network_one j (omega (arith, a)),
-      ))
+  -- the slot in which an answer comes to a frame
+  answer_slot : (j : ℕ) → 0 + (suc r.delay + j) ≡ suc j + r.delay
+  answer_slot j = omega arith
 
-  e_to : (j i : ℕ) (role : Role) → E r u long j role ≤ E r u long (j + i) role
-  e_to j zero role = let e : j + 0 ≡ j = omega arith in rw e (omega arith)
-  e_to j (suc i) role = let e : j + suc i ≡ suc (j + i) = omega arith in rw e (omega (arith, e_to j i role, e_up (j + i) role))
+  none_plus : (j : ℕ) → 0 + j ≡ j
+  none_plus j = omega arith
 
   pub answers_total : (B r u long k Mobile ≤ E r u long k Network) × (B r u long k Network ≤ E r u long k Mobile + 1)
-  answers_total = by_length (nat_le (suc r.delay) k) refl
-    where
-      by_length : (b : Bool) → nat_le (suc r.delay) k ≡ b →
-          (B r u long k Mobile ≤ E r u long k Network) × (B r u long k Network ≤ E r u long k Mobile + 1)
-      by_length false e = (
-        omega (arith, none_early k Mobile (omega (arith, not_le_of (suc r.delay) k e))),
-        omega (arith, none_early k Network (omega (arith, not_le_of (suc r.delay) k e))),
-      )
-      by_length true e =
-          let j : ℕ = k - suc r.delay in
-          let f : suc j + r.delay ≡ k = omega (arith, le_of (suc r.delay) k e) in
-          let g : j + suc r.delay ≡ k = omega (arith, le_of (suc r.delay) k e) in
-          let a : B r u long k Mobile ≤ E r u long j Network = rw f at (mobile_late j (omega (arith, f))) in
-          let b : B r u long k Network ≤ E r u long j Mobile + asked j = rw f at (network_late j (omega (arith, f))) in
-          let s : E r u long j Network ≤ E r u long k Network = rw g at (e_to j (suc r.delay) Network) in
-          let t : E r u long j Mobile ≤ E r u long k Mobile = rw g at (e_to j (suc r.delay) Mobile) in
-          (omega (arith, a, s), omega (arith, b, t, one_most (not (is_idle (link_at r j Mobile).endpoint.state))))
+  answers_total = (
+    omega (
+      arith,
+      slots_after (λ j. answers_first r j Mobile) (λ j. expires_in (ready_at r j Network)) 0 (suc r.delay) k 0 0 (λ j. 0)
+          (λ j. omega arith) (omega (arith, none_early (suc r.delay) Mobile (omega arith)))
+          (λ j a. rw (answer_slot j, none_plus j) (omega (
+            arith,
+            one_at_most (answers_first r (suc j + r.delay) Mobile) (expires_in (ready_at r j Network))
+                (mobile_answers r u j (until (suc (suc j + r.delay)) (omega (arith, a)))),
+          ))),
+    ),
+    omega (
+      arith,
+      slots_after (λ j. answers_first r j Network) (λ j. expires_in (ready_at r j Mobile)) 0 (suc r.delay) k 0 1 asked
+          (λ j. one_most (not (is_idle (link_at r j Mobile).endpoint.state)))
+          (omega (arith, none_early (suc r.delay) Network (omega arith)))
+          (λ j a. rw (answer_slot j, none_plus j) (network_one j (omega (arith, a)))),
+    ),
+  )

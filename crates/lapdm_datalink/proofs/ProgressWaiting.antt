@@ -1,22 +1,23 @@
 -- How long a link of SAPI 0 waits while both are open: each slot of waiting is charged to a segment, to a loss, or to an answer.
 use Rattle.{
+  std.proofs.lemmas.Bool.cases_Bool,
   std.specs.Prelude.{◌≡◌, ◌≢◌, ℕ, zero, suc, ◌+◌, ◌-◌, ◌*◌, ◌≤◌, Bool, true, false, nat_le, nat_eq, List},
-  std.{specs.Prelude.Some, proofs.{Common.{arith, refl, ap, sym, ◌∙◌}, Math.Nat.{mul-add, mul-one}}},
+  std.{specs.Prelude.Some, proofs.{Common.{inl, inr, arith, refl, ap, sym, ◌∙◌}, Math.Nat.{mul-add, mul-one}}},
   lapdm_frame.specs.Content.{I, Frame},
   lapdm_end.specs.lapdm_window.{declared.State.TheVariants.{Open, Closed}, Ends.{Role, awaits_answer, awaits_ack}},
   lapdm_link.specs.Events.other,
   lapdm_datalink.{
-    specs.{Links.{LinkState, slot_outcome, is_due}, Channels.Run, Progress.{link_at, turn_at, arriving_at, ready_at, frame_at, round_trip}},
+    specs.{Links.{LinkState, slot_outcome, is_due}, Channels.Run, Progress.{link_at, turn_at, ready_at, frame_at, round_trip}},
     specs.Progress.{is_i_frame, is_lossy, one_if, waiting_slots, lossy_slots, expiries, AreOpen, acked_at, expires_in, answer_goes},
     proofs.{
-      ProgressSteps.{acked, issued, aired, Moves},
+      ProgressSteps.{awaits_none, acked, issued, aired, Moves},
       ProgressLink.{slot_acked, slot_issued, aired_unsent, aired_sent},
-      ProgressStart.{ready_t200, ready_moves, ready_due, slot_open},
+      ProgressStart.slot_open,
       ProgressWaits.{SlotWay, sends, blocked, counts, slot_way},
-      ProgressRuns.{sound, slotted_in, link_step, counted, NeverReleases},
+      ProgressRuns.{sound, slotted_in, link_step, counted, moved_in, due_in, t200_in, NeverReleases},
       ProgressPaid.{acked_in_time, answered_frame, le_of, not_le_of},
       ProgressExpiries.{i_parts, loss_of, true-false, waits_at, awaits_same},
-      ProgressSlots.{answers_first, answering_slots, open_awaits, due_clock, not_due, ack_none, ack_one, expires_due, both, goes_it},
+      ProgressSlots.{not_if, answers_first, answering_slots, open_awaits, due_clock, not_due, ack_one, expires_due, both, goes_it},
       ProgressSlots.{open_closed, eq_of, above, no_ack, times_next, times_le, cost, apart, lossy_by, clock_within},
     },
   },
@@ -79,16 +80,13 @@ module _ (r : Run) (u : NeverReleases r) (long : round_trip r.delay ≤ r.t200) 
       m_issued = ap issued (link_step r n role) ∙ slot_issued (M n)
 
       m_moves : Moves (L n) (M n)
-      m_moves = ready_moves role (arriving_at r n role) (turn_at r n role).calls (L n) ((sound r u n).good role)
-          ((sound r u n).settled role).owes ((sound r u n).idle role) (u n role)
+      m_moves = moved_in r u n role
 
       m_t200 : (M n).t200 ≡ r.t200
-      m_t200 = ready_t200 role (arriving_at r n role) (turn_at r n role).calls (L n) ((sound r u n).good role)
-          ((sound r u n).settled role).owes ((sound r u n).idle role) (u n role) ∙ (sound r u n).t200 role
+      m_t200 = t200_in r u n role
 
       m_due : (M n).is_sent ≡ false → (M n).clock ≡ 0
-      m_due = ready_due role (arriving_at r n role) (turn_at r n role).calls (L n) ((sound r u n).good role).sapi (u n role)
-          ((sound r u n).settled role)
+      m_due = due_in r u n role
 
       up : acked (L n) ≤ acked (L (suc n))
       up = (slotted_in r u n role).moves.acked_up
@@ -129,20 +127,19 @@ module _ (r : Run) (u : NeverReleases r) (long : round_trip r.delay ≤ r.t200) 
 
       -- it is not due while it goes on
       not_yet : (g : Going n) → is_due (M n) ≡ true → acked (L (suc n)) ≡ acked (L n) → ⊥
-      not_yet g due stays = by_sent (M n).is_sent refl
+      not_yet g due stays = elim (cases_Bool (M n).is_sent) [
+        | inl s ↦
+            let x = waits_at r u role n w s in
+            omega (arith, x.3, (due_clock (M n) due).0, g.time, in_time g stays, long)
+        | inr s ↦
+            let one : aired (L n) ≡ issued (L n) = aired_sent (L n) (issued (L n)) g.is_sent refl in
+            let two : issued (L n) ≡ acked (L n) + 1 =
+            ack_one (L n) g.awaits ((sound r u n).good role).low ((sound r u n).good role).window in
+            omega (arith, one, two, m_moves.aired_up, aired_unsent (M n) s, m_acked, stays)
+      ]
         where
           w : awaits_ack (M n).endpoint ≡ true
           w = sym (open_awaits (M n).endpoint m_open) ∙ (due_clock (M n) due).1
-
-          by_sent : (b : Bool) → (M n).is_sent ≡ b → ⊥
-          by_sent true s =
-              let x = waits_at r u role n w s in
-              omega (arith, x.3, (due_clock (M n) due).0, g.time, in_time g stays, long)
-          by_sent false s =
-              let one : aired (L n) ≡ issued (L n) = aired_sent (L n) (issued (L n)) g.is_sent refl in
-              let two : issued (L n) ≡ acked (L n) + 1 =
-              ack_one (L n) g.awaits ((sound r u n).good role).low ((sound r u n).good role).window in
-              omega (arith, one, two, m_moves.aired_up, aired_unsent (M n) s, m_acked, stays)
 
       -- what was used is paid by a segment, unless the sending goes on
       product : round_trip r.delay * acked (L n) ≤ round_trip r.delay * acked (L (suc n))
@@ -153,25 +150,19 @@ module _ (r : Run) (u : NeverReleases r) (long : round_trip r.delay ≤ r.t200) 
       settle paid used (quiet p q w) ends = omega (arith, q, product)
       settle paid used (unsent p q w) ends = omega (arith, q, product)
       settle paid used (failed p q) ends = omega (arith, q, product)
-      settle paid used (going g p q) ends = by_acked (nat_eq (acked (L (suc n))) (acked (L n))) refl
-        where
-          by_acked : (b : Bool) → nat_eq (acked (L (suc n))) (acked (L n)) ≡ b →
-              round_trip r.delay * acked (L n) + used ≤ round_trip r.delay * acked (L (suc n))
-          by_acked true e = absurd (ends g (eq_of (acked (L (suc n))) (acked (L n)) e))
-          by_acked false e =
-              let more : acked (L n) + 1 ≤ acked (L (suc n)) = above (acked (L (suc n))) (acked (L n)) up e in
-              let next : round_trip r.delay * acked (L n) + round_trip r.delay ≤ round_trip r.delay * acked (L (suc n)) =
-              times_next (round_trip r.delay) (acked (L n)) (acked (L (suc n))) more in
-              omega (arith, next, q, g.early)
+      settle paid used (going g p q) ends = elim (cases_Bool (nat_eq (acked (L (suc n))) (acked (L n)))) [
+        | inl e ↦ absurd (ends g (eq_of (acked (L (suc n))) (acked (L n)) e))
+        | inr e ↦
+            let more : acked (L n) + 1 ≤ acked (L (suc n)) = above (acked (L (suc n))) (acked (L n)) up e in
+            let next : round_trip r.delay * acked (L n) + round_trip r.delay ≤ round_trip r.delay * acked (L (suc n)) =
+            times_next (round_trip r.delay) (acked (L n)) (acked (L (suc n))) more in
+            omega (arith, next, q, g.early)
+      ]
 
       -- ---- a repetition
 
       no_expiry : (expires_in (M n) ≡ true → ⊥) → one_if (expires_in (M n)) ≡ 0
-      no_expiry ends = by_frame (expires_in (M n)) refl
-        where
-          by_frame : (b : Bool) → expires_in (M n) ≡ b → one_if (expires_in (M n)) ≡ 0
-          by_frame true e = absurd (ends e)
-          by_frame false e = ap one_if e
+      no_expiry ends = ap one_if (not_if (expires_in (M n)) ends)
 
       -- the link whose T200 expires had sent its I frame, and its clock is over
       expiring : expires_in (M n) ≡ true →
@@ -194,11 +185,10 @@ module _ (r : Run) (u : NeverReleases r) (long : round_trip r.delay ≤ r.t200) 
 
       repeats_failed : (paid used : ℕ) (s : Stage n paid used) → is_due (M n) ≡ true →
           one_if (expires_in (M n)) ≤ pending s
-      repeats_failed paid used s due = by_frame (expires_in (M n)) refl
-        where
-          by_frame : (b : Bool) → expires_in (M n) ≡ b → one_if (expires_in (M n)) ≤ pending s
-          by_frame true e = omega (arith, ap one_if e, was_failed paid used s due (expiring e).0)
-          by_frame false e = omega (arith, ap one_if e)
+      repeats_failed paid used s due = elim (cases_Bool (expires_in (M n))) [
+        | inl e ↦ omega (arith, ap one_if e, was_failed paid used s due (expiring e).0)
+        | inr e ↦ omega (arith, ap one_if e)
+      ]
 
       -- ---- the ways of a slot
 
@@ -219,7 +209,7 @@ module _ (r : Run) (u : NeverReleases r) (long : round_trip r.delay ≤ r.t200) 
           }
             where
               none : issued (M n) ≡ acked (M n)
-              none = ack_none (M n) (sym (open_awaits (M n).endpoint m_open) ∙ w)
+              none = awaits_none (M n) (sym (open_awaits (M n).endpoint m_open) ∙ w)
 
               later : awaits_ack (L (suc n)).endpoint ≡ false
               later = no_ack (L (suc n)) (m_issued ∙ none ∙ sym m_acked)
@@ -443,9 +433,12 @@ module _ (r : Run) (u : NeverReleases r) (long : round_trip r.delay ≤ r.t200) 
 
           -- the slot
           pub next : (paid used : ℕ) (s : Stage n paid used) → Next n paid used (pending s)
-          next paid used s = by_awaits (awaits_answer (M n).endpoint) refl
+          next paid used s = elim (cases_Bool (awaits_answer (M n).endpoint)) [
+            | inl w ↦ by_way w (slot_way (M n) m_open out_open)
+            | inr w ↦ rests paid used s w
+          ]
             where
-              by_way : awaits_answer (M n).endpoint ≡ true → SlotWay (M n) → Next n paid used (pending s)
+              by_way : awaits_answer (M n).endpoint ≡ true → SlotWay (M n) (slot_outcome (M n)) → Next n paid used (pending s)
               by_way w (sends d i t c) = starts paid used s d i (ap (λ l. l.is_sent) (link_step r n role) ∙ t)
                   (ap (λ l. l.clock) (link_step r n role) ∙ c ∙ m_t200) (turn_at r n role).is_lost refl
               by_way w (blocked x a k d f t c) =
@@ -453,10 +446,6 @@ module _ (r : Run) (u : NeverReleases r) (long : round_trip r.delay ≤ r.t200) 
                   (ap (λ l. l.is_sent) (link_step r n role) ∙ t) (ap (λ l. l.clock) (link_step r n role) ∙ c) (M n).is_sent refl
               by_way w (counts d t c) = ticking w d (ap (λ l. l.is_sent) (link_step r n role) ∙ t)
                   (ap (λ l. l.clock) (link_step r n role) ∙ c) paid used s
-
-              by_awaits : (b : Bool) → awaits_answer (M n).endpoint ≡ b → Next n paid used (pending s)
-              by_awaits true w = by_way w (slot_way (M n) m_open out_open)
-              by_awaits false w = rests paid used s w
 
   -- ---- all slots
 

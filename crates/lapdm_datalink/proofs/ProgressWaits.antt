@@ -1,23 +1,26 @@
 -- A link of SAPI 0 whose I frame was sent and is not acknowledged: what of that stays from one slot to the next.
 use Rattle.{
+  std.proofs.lemmas.Bool.cases_Bool,
   std.{
-    specs.Prelude.{◌≡◌, ℕ, ◌-◌, ◌≤◌, Bool, true, false, ◌⊎◌, nat_eq, List, [], ◌∷◌, Option, Some, None, All},
-    proofs.{Common.{inl, inr, arith, refl, sym, ◌∙◌}, lemmas.List.Elements.{All-head, All-tail}},
+    specs.Prelude.{◌≡◌, ℕ, ◌-◌, ◌≤◌, Bool, true, false, ◌⊎◌, nat_eq, List, Option, Some, None, All},
+    proofs.Common.{inl, inr, arith, refl, sym, ◌∙◌},
   },
   lapdm_frame.specs.Content.Frame,
   lapdm_end.specs.lapdm_window.{
-    declared.{State.TheVariants.Open, Refused.Refused},
+    declared.State.TheVariants.Open,
     segmenting.Segments.Segment,
-    Ends.{Role, vr, vs, awaits_ack, first_unacked_segment},
+    Ends.{Role, vr, vs, awaits_ack},
     Tables.{Reply, TakesIFrame, TakesRr, TakesRej},
-    Calls.{Call, Opens, Sends, refusal_of},
+    Calls.{Call, awaited_frame, t200_expiry},
   },
   lapdm_datalink.{
-    specs.{Links.{LinkState, after_frame, after_slot, after_call, slot_outcome, is_due, keeps_back}, Channels.after_calls},
-    specs.{Channels.{after_call_unless, after_arriving, IsUse}, Progress.is_i_frame},
+    specs.{Links.{LinkState, SlotOutcome, after_slot, slot_outcome, is_due, keeps_back}, Channels.after_calls},
+    specs.Links.{is_opening, first_frame},
+    specs.{Channels.{after_arriving, IsUse}, Progress.is_i_frame},
     proofs.{
-      ProgressSteps.{acked, issued, Good, taken, is_rej, waits_i, waits_i_clock, waits_rr, waits_rr_clock},
-      ProgressLink.{reply_with, frame_taken, not_rej, arrives, kept_back},
+      ProgressSteps.{acked, issued, Good, taken, is_rej, GoesOn, goes_on_i, goes_on_rr},
+      ProgressLink.{reply_with, over_arrival, over_calls, not_rej, arrives},
+      Answering.{IsSlot, sabm_first, idles, answering, repeating, expiring, is_slot},
     },
   },
 }
@@ -37,22 +40,10 @@ module _ (l : LinkState) (g : Good l) (none : l.answer ≡ None) where
 
   next_i : (ns nr : ℕ) (p : Bool) (s : Segment) → awaits_ack l.endpoint ≡ true → nat_eq nr (vs l.endpoint) ≡ true →
       awaits_ack (taken (TakesIFrame ns nr p s) l).endpoint ≡ true → (taken (TakesIFrame ns nr p s) l).is_sent ≡ true → ⊥
-  next_i ns nr p s w h a b = by_match (nat_eq ns (vr l.endpoint)) refl p refl (first_unacked_segment l.endpoint).1 refl
-    where
-      by_match : (q : Bool) → nat_eq ns (vr l.endpoint) ≡ q → (t : Bool) → p ≡ t → (more : Bool) →
-          (first_unacked_segment l.endpoint).1 ≡ more → ⊥
-      by_match true e true f true k = grind (arith, w, h, a, b, e, f, k)
-      by_match true e true f false k = grind (arith, w, h, a, b, e, f, k)
-      by_match true e false f true k = grind (arith, w, h, a, b, e, f, k)
-      by_match true e false f false k = grind (arith, w, h, a, b, e, f, k)
-      by_match false e true f true k = grind (arith, w, h, a, b, e, f, k)
-      by_match false e true f false k = grind (arith, w, h, a, b, e, f, k)
-      by_match false e false f true k = grind (arith, w, h, a, b, e, f, k)
-      by_match false e false f false k = grind (arith, w, h, a, b, e, f, k)
-
-  still_i : (ns nr : ℕ) (p : Bool) (s : Segment) → awaits_ack l.endpoint ≡ true → nat_eq nr (vs l.endpoint) ≡ false →
-      acked (taken (TakesIFrame ns nr p s) l) ≡ acked l
-  still_i ns nr p s w h = grind (arith, w, h)
+  next_i ns nr p s w h a b = elim (cases_Bool (nat_eq ns (vr l.endpoint))) [
+    | inl e ↦ grind (arith, w, h, a, b, e)
+    | inr e ↦ grind (arith, w, h, a, b, e)
+  ]
 
   fresh_rr : (nr : ℕ) (p : Bool) → awaits_ack l.endpoint ≡ false →
       awaits_ack (taken (TakesRr nr p) l).endpoint ≡ true → (taken (TakesRr nr p) l).is_sent ≡ true → ⊥
@@ -62,31 +53,21 @@ module _ (l : LinkState) (g : Good l) (none : l.answer ≡ None) where
       awaits_ack (taken (TakesRr nr p) l).endpoint ≡ true → (taken (TakesRr nr p) l).is_sent ≡ true → ⊥
   next_rr nr p w h a b = grind (arith, w, h, a, b)
 
-  still_rr : (nr : ℕ) (p : Bool) → awaits_ack l.endpoint ≡ true → nat_eq nr (vs l.endpoint) ≡ false →
-      acked (taken (TakesRr nr p) l) ≡ acked l
-  still_rr nr p w h = grind (arith, w, h)
+  on : (m : LinkState) → GoesOn l m → awaits_ack l.endpoint ≡ true → m.is_sent ≡ true →
+      (awaits_ack l.endpoint ≡ true) × (l.is_sent ≡ true) × (acked m ≡ acked l) × (m.clock ≡ l.clock - 0)
+  on m x w b = (w, sym x.sent ∙ b, x.acked, omega (arith, x.clock))
 
   waits_for_i : (ns nr : ℕ) (p : Bool) (s : Segment) (w : Bool) → awaits_ack l.endpoint ≡ w → (k : Bool) →
       nat_eq nr (vs l.endpoint) ≡ k → WaitsFrom 0 l (taken (TakesIFrame ns nr p s) l)
   waits_for_i ns nr p s false w k h a b = absurd (fresh_i ns nr p s w a b)
   waits_for_i ns nr p s true w true h a b = absurd (next_i ns nr p s w h a b)
-  waits_for_i ns nr p s true w false h a b = (
-    w,
-    sym (waits_i l g none ns nr p s w h) ∙ b,
-    still_i ns nr p s w h,
-    omega (arith, waits_i_clock l g none ns nr p s w h),
-  )
+  waits_for_i ns nr p s true w false h a b = on (taken (TakesIFrame ns nr p s) l) (goes_on_i l g none ns nr p s w h) w b
 
   waits_for_rr : (nr : ℕ) (p : Bool) (w : Bool) → awaits_ack l.endpoint ≡ w → (k : Bool) →
       nat_eq nr (vs l.endpoint) ≡ k → WaitsFrom 0 l (taken (TakesRr nr p) l)
   waits_for_rr nr p false w k h a b = absurd (fresh_rr nr p w a b)
   waits_for_rr nr p true w true h a b = absurd (next_rr nr p w h a b)
-  waits_for_rr nr p true w false h a b = (
-    w,
-    sym (waits_rr l g none nr p w h) ∙ b,
-    still_rr nr p w h,
-    omega (arith, waits_rr_clock l g none nr p w h),
-  )
+  waits_for_rr nr p true w false h a b = on (taken (TakesRr nr p) l) (goes_on_rr l g none nr p w h) w b
 
   waits_reply : (r : Reply) → is_rej r ≡ false → WaitsFrom 0 l (taken r l)
   waits_reply (TakesIFrame ns nr p s) h = waits_for_i ns nr p s _ refl _ refl
@@ -95,13 +76,8 @@ module _ (l : LinkState) (g : Good l) (none : l.answer ≡ None) where
   waits_reply other h = λ a b. (a, b, refl, omega arith)
 
   pub waits_arriving : (o : Option Frame) → WaitsFrom 0 l (after_arriving o l)
-  waits_arriving None = waits_same l
-  waits_arriving (Some f) = by_taken (frame_taken f l g.sapi)
-    where
-      by_taken : (after_frame f l ≡ l) ⊎ (after_frame f l ≡ taken (reply_with f.sapi f.cr l f.content) l) →
-          WaitsFrom 0 l (after_frame f l)
-      by_taken (inl e) = rw e (waits_same l)
-      by_taken (inr e) = rw e (waits_reply (reply_with f.sapi f.cr l f.content) (not_rej f.sapi f.cr l f.content))
+  waits_arriving o = over_arrival o l g.sapi (WaitsFrom 0 l) (waits_same l)
+      (λ f e. waits_reply (reply_with f.sapi f.cr l f.content) (not_rej f.sapi f.cr l f.content))
 
 waits_then : (k : ℕ) (l m n : LinkState) → WaitsFrom 0 l m → WaitsFrom k m n → WaitsFrom k l n
 waits_then k l m n f h a s =
@@ -109,38 +85,12 @@ waits_then k l m n f h a s =
     let y = f x.0 x.1 in
     (y.0, y.1, x.2 ∙ y.2, omega (arith, x.3, y.3))
 
-sends_waits : (m : List ℕ) (l : LinkState) → refusal_of (Sends m) l.endpoint ≡ None → acked l ≤ issued l →
-    WaitsFrom 0 l (after_call (Sends m) l)
-sends_waits m l ok low a s = grind (arith, ok, a, s)
-
-opens_waits : (info : List ℕ) (l : LinkState) → WaitsFrom 0 l (after_call (Opens info) l)
-opens_waits info l a s = absurd (grind (arith, a, s))
-
-waits_call : (role : Role) (c : Call) (l : LinkState) → acked l ≤ issued l → IsUse role c → (r : Option Refused) →
-    refusal_of c l.endpoint ≡ r → WaitsFrom 0 l (after_call_unless r c l)
-waits_call role c l low u (Some why) e = waits_same l
-waits_call role (Sends m) l low u None e = sends_waits m l e low
-waits_call role (Opens info) l low u None e = opens_waits info l
-waits_call role other l low u None e = absurd u
-
-low_sends : (m : List ℕ) (l : LinkState) → acked l ≤ issued l → acked (after_call (Sends m) l) ≤ issued (after_call (Sends m) l)
-low_sends m l low = grind arith
-
-low_call : (role : Role) (c : Call) (l : LinkState) → acked l ≤ issued l → IsUse role c → (r : Option Refused) →
-    acked (after_call_unless r c l) ≤ issued (after_call_unless r c l)
-low_call role c l low u (Some why) = low
-low_call role (Sends m) l low u None = low_sends m l low
-low_call role (Opens info) l low u None = grind arith
-low_call role other l low u None = absurd u
-
-pub waits_calls : (role : Role) (cs : List Call) (l : LinkState) → acked l ≤ issued l → All (IsUse role) cs →
-    WaitsFrom 0 l (after_calls cs l)
-waits_calls role [] l low u = waits_same l
-waits_calls role (c ∷ cs) l low u =
-    let r = refusal_of c l.endpoint in
-    let first = All-head (IsUse role) c cs u in
-    waits_then 0 l (after_call_unless r c l) (after_calls cs (after_call_unless r c l)) (waits_call role c l low first r refl)
-    (waits_calls role cs (after_call_unless r c l) (low_call role c l low first r) (All-tail (IsUse role) c cs u))
+waits_calls : (role : Role) (cs : List Call) (l : LinkState) → All (IsUse role) cs → acked l ≤ issued l →
+    WaitsFrom 0 l (after_calls cs l) × (acked (after_calls cs l) ≤ issued (after_calls cs l))
+waits_calls role = over_calls role (λ l m. acked l ≤ issued l → WaitsFrom 0 l m × (acked m ≤ issued m))
+    (λ l low. (waits_same l, low)) (λ l m k a b low. (let x = a low in let y = b x.1 in (waits_then 0 l m k x.0 y.0, y.1)))
+    (λ m l ok low. (λ a s. grind (arith, ok, a, s), grind arith))
+    (λ info l q ok low. (λ a s. absurd (grind (arith, a, s)), grind arith))
 
 waits_slot_passes : (l : LinkState) → WaitsFrom 1 l (after_slot l)
 waits_slot_passes l a s = (a, s, refl, omega arith)
@@ -151,62 +101,56 @@ waits_ready role o cs l g none u =
     let a = after_arriving o l in
     let b = after_calls cs a in
     waits_then 1 l b (after_slot b)
-    (waits_then 0 l a b (waits_arriving l g none o) (waits_calls role cs a (arrives o l g none).moves.low u))
+    (waits_then 0 l a b (waits_arriving l g none o) (waits_calls role cs a u (arrives o l g none).moves.low).0)
     (waits_slot_passes b)
 
 -- ---- the slot
 
 -- an open link that waits after its slot sent an I frame in it and its clock starts, or waited before with the same clock
-pub data WaitsOver (m : LinkState) : Type 0 where
-  starts : is_i_frame (slot_outcome m).frame ≡ true → (slot_outcome m).link.clock ≡ m.t200 → WaitsOver m
-  goes_on : m.is_sent ≡ true → (slot_outcome m).link.clock ≡ m.clock →
-      ((slot_outcome m).frame ≡ None) ⊎ ((slot_outcome m).frame ≡ m.answer) → WaitsOver m
+pub data WaitsOver (m : LinkState) (o : SlotOutcome) : Type 0 where
+  starts : is_i_frame o.frame ≡ true → o.link.clock ≡ m.t200 → WaitsOver m o
+  goes_on : m.is_sent ≡ true → o.link.clock ≡ m.clock → (o.frame ≡ None) ⊎ (o.frame ≡ m.answer) → WaitsOver m o
 
-module _ (l : LinkState) (o : l.endpoint.state ≡ Open) (after : (slot_outcome l).link.is_sent ≡ true)
-    (open_ : (slot_outcome l).link.endpoint.state ≡ Open)
-  where
-    over : (a : Option Frame) → l.answer ≡ a → (b : Bool) → is_due l ≡ b → (c : Bool) → l.is_sent ≡ c → (k : Bool) →
-        ((f : Frame) → a ≡ Some f → keeps_back f l ≡ k) → WaitsOver l
-    over None n false e c g k kept = goes_on (grind (arith, n, e, after)) (grind (arith, n, e)) (inl (grind (arith, n, e)))
-    over None n true e false g k kept = starts (grind (arith, n, e, g, o)) (grind (arith, n, e, g))
-    over None n true e true g k kept = starts (grind (arith, n, e, g, o, open_)) (grind (arith, n, e, g))
-    over (Some f) n b e c g false kept = goes_on (grind (arith, n, kept f refl, after)) (grind (arith, n, kept f refl))
-        (inr (grind (arith, n, kept f refl)))
-    over (Some f) n false e c g true kept =
-        goes_on (grind (arith, n, kept f refl, e, after)) (grind (arith, n, kept f refl, e)) (inl (grind (arith, n, kept f refl, e)))
-    over (Some f) n true e false g true kept = starts (grind (arith, n, kept f refl, e, g, o)) (grind (arith, n, kept f refl, e, g))
-    over (Some f) n true e true g true kept =
-        starts (grind (arith, n, kept f refl, e, g, o, open_)) (grind (arith, n, kept f refl, e, g))
+open_first : (l : LinkState) → l.endpoint.state ≡ Open → is_opening l.endpoint.state ≡ true → ⊥
+open_first l o h = grind (arith, o, h)
 
-    pub waits_over : WaitsOver l
-    waits_over = let k = kept_back l l.answer in over l.answer refl (is_due l) refl l.is_sent refl k.0 k.1
+first_i : (l : LinkState) → l.endpoint.state ≡ Open → is_i_frame (Some (awaited_frame false l.endpoint.state l.endpoint)) ≡ true
+first_i l o = rw o refl
+
+again_i : (l : LinkState) → l.endpoint.state ≡ Open → (t200_expiry l.endpoint).new_state.state ≡ Open →
+    is_i_frame (first_frame (t200_expiry l.endpoint).frames) ≡ true
+again_i l o h = grind (arith, o, h)
+
+module _ (l : LinkState) (open_ : l.endpoint.state ≡ Open) where
+  over : (o : SlotOutcome) → IsSlot l o → o.link.is_sent ≡ true → o.link.endpoint.state ≡ Open → WaitsOver l o
+  over o (sabm_first opening first due new) sent h = absurd (open_first l open_ opening)
+  over o (idles first none due) sent h = goes_on sent refl (inl refl)
+  over o (answering f first owes back) sent h = goes_on sent refl (inr (sym owes))
+  over o (repeating awaits due new) sent h = starts (first_i l open_) refl
+  over o (expiring awaits before due expires) sent h = starts (again_i l open_ h) refl
+
+  pub waits_over : (slot_outcome l).link.is_sent ≡ true → (slot_outcome l).link.endpoint.state ≡ Open → WaitsOver l (slot_outcome l)
+  waits_over = over (slot_outcome l) (is_slot l)
 
 -- ---- what an open link does in its slot
 
 -- it sends its I frame; or it sends an answer though the frame is due; or it counts
-pub data SlotWay (m : LinkState) : Type 0 where
-  sends : is_due m ≡ true → is_i_frame (slot_outcome m).frame ≡ true → (slot_outcome m).link.is_sent ≡ true →
-      (slot_outcome m).link.clock ≡ m.t200 → SlotWay m
-  blocked : (f : Frame) → m.answer ≡ Some f → keeps_back f m ≡ false → is_due m ≡ true →
-      (slot_outcome m).frame ≡ m.answer → (slot_outcome m).link.is_sent ≡ m.is_sent →
-      (slot_outcome m).link.clock ≡ m.clock → SlotWay m
-  counts : is_due m ≡ false → (slot_outcome m).link.is_sent ≡ m.is_sent → (slot_outcome m).link.clock ≡ m.clock → SlotWay m
+pub data SlotWay (m : LinkState) (o : SlotOutcome) : Type 0 where
+  sends : is_due m ≡ true → is_i_frame o.frame ≡ true → o.link.is_sent ≡ true → o.link.clock ≡ m.t200 → SlotWay m o
+  blocked : (f : Frame) → m.answer ≡ Some f → keeps_back f m ≡ false → is_due m ≡ true → o.frame ≡ m.answer →
+      o.link.is_sent ≡ m.is_sent → o.link.clock ≡ m.clock → SlotWay m o
+  counts : is_due m ≡ false → o.link.is_sent ≡ m.is_sent → o.link.clock ≡ m.clock → SlotWay m o
 
-module _ (l : LinkState) (o : l.endpoint.state ≡ Open) (open_ : (slot_outcome l).link.endpoint.state ≡ Open) where
-  way : (a : Option Frame) → l.answer ≡ a → (b : Bool) → is_due l ≡ b → (c : Bool) → l.is_sent ≡ c → (k : Bool) →
-      ((f : Frame) → a ≡ Some f → keeps_back f l ≡ k) → SlotWay l
-  way None n false e c g k kept = counts e (grind (arith, n, e)) (grind (arith, n, e))
-  way None n true e false g k kept = sends e (grind (arith, n, e, g, o)) (grind (arith, n, e, g)) (grind (arith, n, e, g))
-  way None n true e true g k kept =
-      sends e (grind (arith, n, e, g, o, open_)) (grind (arith, n, e, g)) (grind (arith, n, e, g))
-  way (Some f) n false e c g false kept = counts e (grind (arith, n, kept f refl)) (grind (arith, n, kept f refl))
-  way (Some f) n true e c g false kept =
-      blocked f n (kept f refl) e (grind (arith, n, kept f refl)) (grind (arith, n, kept f refl)) (grind (arith, n, kept f refl))
-  way (Some f) n false e c g true kept = counts e (grind (arith, n, kept f refl, e)) (grind (arith, n, kept f refl, e))
-  way (Some f) n true e false g true kept =
-      sends e (grind (arith, n, kept f refl, e, g, o)) (grind (arith, n, kept f refl, e, g)) (grind (arith, n, kept f refl, e, g))
-  way (Some f) n true e true g true kept = sends e (grind (arith, n, kept f refl, e, g, o, open_))
-      (grind (arith, n, kept f refl, e, g)) (grind (arith, n, kept f refl, e, g))
+module _ (l : LinkState) (open_ : l.endpoint.state ≡ Open) where
+  way : (o : SlotOutcome) → IsSlot l o → o.link.endpoint.state ≡ Open → SlotWay l o
+  way o (sabm_first opening first due new) h = absurd (open_first l open_ opening)
+  way o (idles first none due) h = counts due refl refl
+  way o (answering f first owes back) h = elim (cases_Bool (is_due l)) [
+    | inl due ↦ blocked f owes back due (sym owes) refl refl
+    | inr due ↦ counts due refl refl
+  ]
+  way o (repeating awaits due new) h = sends due (first_i l open_) refl refl
+  way o (expiring awaits sent due expires) h = sends due (again_i l open_ h) sent refl
 
-  pub slot_way : SlotWay l
-  slot_way = let k = kept_back l l.answer in way l.answer refl (is_due l) refl l.is_sent refl k.0 k.1
+  pub slot_way : (slot_outcome l).link.endpoint.state ≡ Open → SlotWay l (slot_outcome l)
+  slot_way = way (slot_outcome l) (is_slot l)

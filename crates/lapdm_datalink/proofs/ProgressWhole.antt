@@ -1,5 +1,6 @@
 -- A run from its start, slot by slot: each side's waiting is paid by its frames and by lossy slots.
 use Rattle.{
+  std.proofs.lemmas.Bool.cases_Bool,
   std.specs.Prelude.{◌≡◌, ℕ, zero, suc, ◌+◌, ◌-◌, ◌*◌, ◌≤◌, Bool, true, false, ◌⊎◌, nat_le},
   std.proofs.{Common.{inl, inr, arith, refl, ap, sym, ◌∙◌}, Math.Nat.{mul-add, mul-one}},
   lapdm_end.specs.lapdm_window.{declared.State.TheVariants.Open, Ends.{Role, Mobile, Network, awaits_ack}},
@@ -15,7 +16,7 @@ use Rattle.{
       ProgressWaiting.{Stage, Next, pending, quiet, unsent, failed, going},
       ProgressKnown.{Known, Unclosed, MobileSlot, NetworkSlot, known},
       ProgressOpening.{times_one, W, E, B, Lo, waits_step, expiry_step, answer_step, loss_step, Calling, Through, Resting, rest_on, begin},
-      ProgressOpening.{call_next, confirmed, not_due_yet, through_next, some_none},
+      ProgressOpening.{calling_expires, call_next, confirmed, not_due_yet, through_next, some_none},
       ProgressEarly.{Early, Alone, early_next, late_open, times_less},
       ProgressFrames.{idle_open, opening_open, idle_opening},
       ProgressSlots.{clock_within, no_ack, times_le},
@@ -70,16 +71,11 @@ module _ (r : Run) (u : NeverReleases r) (long : round_trip r.delay ≤ r.t200) 
     used = 0;
     stage = quiet refl refl (no_ack (link_at r n Mobile) (old_enough r u Mobile n (ap is_young x.state)));
     bound = by_fate x.fate;
-    repays = by_paid x.fate;
+    repays = omega (arith, calling_expires r u long n x);
   }
     where
       R : ℕ
       R = round_trip r.delay
-
-      by_paid : (Through r u long n x.v × (E r u long n Mobile ≤ Lo r u long n)) ⊎ (E r u long n Mobile + 1 ≤ Lo r u long n) →
-          E r u long n Mobile + 0 ≤ Lo r u long n
-      by_paid (inl (t, p)) = omega (arith, p)
-      by_paid (inr p) = omega (arith, p)
 
       by_fate : (Through r u long n x.v × (E r u long n Mobile ≤ Lo r u long n)) ⊎ (E r u long n Mobile + 1 ≤ Lo r u long n) →
           W r u long n Mobile + 0 ≤ round_trip r.delay * acked (link_at r n Mobile) + round_trip r.delay * 1
@@ -111,16 +107,11 @@ module _ (r : Run) (u : NeverReleases r) (long : round_trip r.delay ≤ r.t200) 
   -- its attempts are at most those of the mobile that failed
   pub few : (n : ℕ) (x : Calling r u long n) (q a : ℕ) → IsUnheard n x → x.v1 + r.delay + 1 ≤ q →
       q + 2 + r.t200 * a ≤ suc n + r.t200 → a ≤ Lo r u long n
-  few n x q a (inl k) late f = by_paid x.fate
+  few n x q a (inl k) late f = omega (arith, less, calling_expires r u long n x)
     where
       less : a ≤ E r u long n Mobile
       less = times_less r.t200 a (E r u long n Mobile)
           (omega (arith, k, late, f, x.count, times_one r.t200 (E r u long n Mobile)))
-
-      by_paid : (Through r u long n x.v × (E r u long n Mobile ≤ Lo r u long n)) ⊎ (E r u long n Mobile + 1 ≤ Lo r u long n) →
-          a ≤ Lo r u long n
-      by_paid (inl (t, p)) = omega (arith, less, p)
-      by_paid (inr p) = omega (arith, less, p)
   few n x q a (inr p) late f = omega (arith, less, p)
     where
       less : a ≤ E r u long n Mobile + 1
@@ -195,11 +186,10 @@ module _ (r : Run) (u : NeverReleases r) (long : round_trip r.delay ≤ r.t200) 
 
     at_last : (k n0 : ℕ) (role : Role) → ((k : ℕ) → n0 ≤ k → k ≤ n → (link_at r k role).endpoint.state ≡ Open) →
         (link_at r (suc n) role).endpoint.state ≡ Open → n0 ≤ k → k ≤ suc n → (link_at r k role).endpoint.state ≡ Open
-    at_last k n0 role before now a b = by_case (nat_le k n) refl
-      where
-        by_case : (q : Bool) → nat_le k n ≡ q → (link_at r k role).endpoint.state ≡ Open
-        by_case true e = before k a (le_of k n e)
-        by_case false e = let same : k ≡ suc n = omega (arith, not_le_of k n e, b) in rw same now
+    at_last k n0 role before now a b = elim (cases_Bool (nat_le k n)) [
+      | inl e ↦ before k a (le_of k n e)
+      | inr e ↦ let same : k ≡ suc n = omega (arith, not_le_of k n e, b) in rw same now
+    ]
 
     -- the slot in which the mobile opens
     joins_mobile : Calling r u long n → (ready_at r n Mobile).endpoint.state ≡ Open →
@@ -219,11 +209,10 @@ module _ (r : Run) (u : NeverReleases r) (long : round_trip r.delay ≤ r.t200) 
         let z = begin r u long n h c x o s k a in calling z (inl (now z)) (early_next r u long n h c (ap is_young i) y)
       where
         now : (z : Calling r u long (suc n)) → suc n ≤ suc z.v + r.delay
-        now z = by_case (nat_le (suc z.v) n) refl
-          where
-            by_case : (b : Bool) → nat_le (suc z.v) n ≡ b → suc n ≤ suc z.v + r.delay
-            by_case true e = absurd (some_none (sym (x.before z.v (le_of (suc z.v) n e)) ∙ z.sabm))
-            by_case false e = omega (arith, not_le_of (suc z.v) n e)
+        now z = elim (cases_Bool (nat_le (suc z.v) n)) [
+          | inl e ↦ absurd (some_none (sym (x.before z.v (le_of (suc z.v) n e)) ∙ z.sabm))
+          | inr e ↦ omega (arith, not_le_of (suc z.v) n e)
+        ]
     resting_next x y (K.tries o e) = absurd (idle_opening (sym x.state ∙ o))
     resting_next x y (K.joins o p i a t) = absurd (idle_opening (sym x.state ∙ o))
     resting_next x y (K.stays o p i a) = absurd (idle_open (sym x.state ∙ o))

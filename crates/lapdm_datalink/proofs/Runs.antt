@@ -1,5 +1,7 @@
 -- Each event of a run is, for each SAPI, a list of events of a session of `lapdm_link`, so the claims hold of the log of a run.
+use Rattle.std.proofs.lemmas.Bool.{cases_Bool}
 use Rattle.lapdm_link.proofs.Lemmas.{◌≡◌, refl, sym, ap, ◌∙◌, arith, ◌++◌, Bool, true, false, List, [], ◌∷◌, ℕ}
+use Rattle.lapdm_link.proofs.Lemmas.{inl, inr}
 use Rattle.lapdm_link.proofs.Lemmas.{map, append_assoc, append-nil, filter_map, filter_map-append, if◌then◌else◌, Option, Some, None}
 use Rattle.lapdm_link.proofs.Lemmas.{cons_option, Frame, Message, Role, Mobile, Network, Sapi, Zero, Three, Call, SendsUi, other}
 use Rattle.lapdm_link.proofs.Lemmas.{World, LogLine, Asked, Notified, Notice, is_same_sapi, is_on, each_way, Claims, AckedAtMostDelivered}
@@ -17,13 +19,14 @@ use Rattle.lapdm_datalink.specs.Runs.{RunState, RunEvent, Calls, Slot, UnitSlot,
 use Rattle.lapdm_datalink.specs.Runs.{initial_run, data_link_of, with_data_link, link_at, after_event, event_lines, slot_lines}
 use Rattle.lapdm_datalink.specs.Runs.{arrival_lines}
 use Rattle.lapdm_datalink.specs.Runs.{after_slot_of, taking_lines, OpensNoClosedLink}
+use Rattle.lapdm_datalink.proofs.Answering.{is_slot}
 use Rattle.lapdm_datalink.proofs.Lemmas.{passed}
 use Rattle.lapdm_datalink.proofs.RunsClaims.{seen, claims-seen, counts-seen, order-seen}
 use Rattle.lapdm_datalink.proofs.RunsWorlds.{Reaches, at_start, start}
 use Rattle.lapdm_link.proofs.Lemmas.{claims_of as session_claims, counts_of as session_counts, order_of as session_order}
 use Rattle.lapdm_link.proofs.Subsequences.{empty}
 use Rattle.lapdm_datalink.proofs.RunsQueues.{pending}
-use Rattle.lapdm_datalink.proofs.RunsLinks.{LinkAt, Fits, call_step, passes_slot, slot_step, slot-on, is_slot, unit_step, free-waits}
+use Rattle.lapdm_datalink.proofs.RunsLinks.{LinkAt, Fits, call_step, passes_slot, slot_step, slot-on, unit_step, free-waits}
 use Rattle.lapdm_datalink.proofs.RunsLinks.{IsSound, lose_step, take_step, own_sapi, on_own}
 
 -- ---- the frames and lines of one SAPI
@@ -264,16 +267,14 @@ module _ {c : RunState} {log : List LogLine} (r : Role) (all : IsAt c log) where
 
       sent-link : (r : Role) (s : Sapi) (fs : List Frame) →
           link_at r s (after_slot_of r fs c) ≡ link_with_sapi s (data_link_outcome (data_link_of r c)).new_state
-      sent-link Mobile s fs = refl
-      sent-link Network s fs = refl
+      sent-link role s fs = grind arith
 
       sent-other : (r : Role) (s : Sapi) (fs : List Frame) → air_of (other r) s (after_slot_of r fs c) ≡ air_of (other r) s c
       sent-other Mobile s fs = refl
       sent-other Network s fs = refl
 
       sent-peer : (r : Role) (s : Sapi) (fs : List Frame) → link_at (other r) s (after_slot_of r fs c) ≡ link_at (other r) s c
-      sent-peer Mobile s fs = refl
-      sent-peer Network s fs = refl
+      sent-peer role s fs = grind arith
 
   slot_at : IsAt (after_event (Slot r) c) (log ++ slot_lines r c)
   slot_at s = sent_at (cons_option slot.frame []) (slot_lines r c) (slot_link s) refl
@@ -369,20 +370,19 @@ module _ {c : RunState} {log : List LogLine} (r : Role) (all : IsAt c log) where
         unchanged (all s) r (arrived_at r d c) lines (sym (arrived-air r d s c))
         (same ∙ sym (ap (link_with_sapi s) (arrived-own r d s c)))
         (ap (on s) e ∙ left [] (ap (λ xs. drop 1 xs) e)) (sym (ap (link_with_sapi s) (arrived-peer r d s c))) silent
-    gone same (f ∷ fs) e lines silent = by_on (is_on s f) refl
-      where
-        by_on : (b : Bool) → is_on s f ≡ b → At s (arrived_at r d c) (log ++ lines)
-        by_on true on_f =
-            let k = of_side r (all s) in
-            let front : air_of (other r) s c ≡ f ∷ on s fs = ap (on s) e ∙ on-here s f fs on_f in
-            goes_to (all s) r (arrived_at r d c) lines [] (rw append-nil (lose_step (rw front at k))) (sym (arrived-air r d s c))
-            (same ∙ sym (ap (link_with_sapi s) (arrived-own r d s c))) (left fs (ap (λ xs. drop 1 xs) e))
-            (sym (ap (link_with_sapi s) (arrived-peer r d s c))) silent
-        by_on false on_f =
-            unchanged (all s) r (arrived_at r d c) lines (sym (arrived-air r d s c))
-            (same ∙ sym (ap (link_with_sapi s) (arrived-own r d s c)))
-            (ap (on s) e ∙ on-there s f fs on_f ∙ left fs (ap (λ xs. drop 1 xs) e))
-            (sym (ap (link_with_sapi s) (arrived-peer r d s c))) silent
+    gone same (f ∷ fs) e lines silent = elim (cases_Bool (is_on s f)) [
+      | inl on_f ↦
+          let k = of_side r (all s) in
+          let front : air_of (other r) s c ≡ f ∷ on s fs = ap (on s) e ∙ on-here s f fs on_f in
+          goes_to (all s) r (arrived_at r d c) lines [] (rw append-nil (lose_step (rw front at k))) (sym (arrived-air r d s c))
+          (same ∙ sym (ap (link_with_sapi s) (arrived-own r d s c))) (left fs (ap (λ xs. drop 1 xs) e))
+          (sym (ap (link_with_sapi s) (arrived-peer r d s c))) silent
+      | inr on_f ↦
+          unchanged (all s) r (arrived_at r d c) lines (sym (arrived-air r d s c))
+          (same ∙ sym (ap (link_with_sapi s) (arrived-own r d s c)))
+          (ap (on s) e ∙ on-there s f fs on_f ∙ left fs (ap (λ xs. drop 1 xs) e))
+          (sym (ap (link_with_sapi s) (arrived-peer r d s c))) silent
+    ]
 
     -- the link takes the frame
     takes_own : (f : Frame) (fs : List Frame) → q ≡ f ∷ fs → is_on s f ≡ true →
@@ -432,8 +432,7 @@ module _ {c : RunState} {log : List LogLine} (all : IsAt c log) where
       (air-kept (other r) r s d c) (peer-kept r s d c) refl
     where
       main-link : (s : Sapi) → link_at r s c ≡ link_with_sapi s (having_main established (data_link_of r c))
-      main-link Zero = refl
-      main-link Three = refl
+      main-link sapi = grind arith
 
   step_at : (event : RunEvent) → IsPossible event c → IsAt (after_event event c) (log ++ event_lines event c)
   step_at (Calls r t call) may = call_at r call t all may

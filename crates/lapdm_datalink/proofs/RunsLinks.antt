@@ -1,7 +1,7 @@
 -- The steps of one link in a run, each as events of a session of `lapdm_link`.
 use Rattle.lapdm_link.proofs.Lemmas.{◌≡◌, refl, sym, ap, ◌∙◌, arith, subst, ◌++◌, Bool, true, false, List, [], ◌∷◌}
 use Rattle.lapdm_link.proofs.Lemmas.{◌&&◌, ◌⊎◌, inl, inr, ℕ, ◌+◌, map, nat_lt, append_assoc, append-nil, filter_map-append}
-use Rattle.lapdm_link.proofs.Lemmas.{if◌then◌else◌, Option, Some, None, cons_option, drop, Frame, Content, Ui, Channel, Role, Mobile}
+use Rattle.lapdm_link.proofs.Lemmas.{if◌then◌else◌, Option, Some, None, cons_option, drop, Frame, Content, Ui, Role, Mobile}
 use Rattle.lapdm_link.proofs.Lemmas.{Network, Sapi, EndpointState, Outcome, Call, Opens, OpensWithoutInfo, Sends}
 use Rattle.lapdm_link.proofs.Lemmas.{SendsUi, Closes, T200Expires, Repeats, SendsFillFrame}
 use Rattle.lapdm_link.proofs.Lemmas.{call_outcome, refusal_of, frame_outcome, sends_frame, awaited_frame, sapi_number, other, World, end_of}
@@ -15,18 +15,17 @@ use Rattle.lapdm_link.proofs.Lemmas.{closes_and_reports, may_send_next_segment, 
 use Rattle.lapdm_link.proofs.Lemmas.{is_idle-is, not_false, passes, single_frame_refusal_checks}
 use Rattle.lapdm_datalink.specs.Links.{is_closed, is_opening_call, afresh}
 use Rattle.lapdm_end.specs.lapdm_window.declared.Reason.TheVariants as R
-use Rattle.lapdm_end.specs.lapdm_window.Ends.{awaits_answer}
 use Rattle.lapdm_end.specs.lapdm_window.Tables.{Reply, reply_to_frame, outcome_of_reply, Nothing, SendsDm, SendsUa}
 use Rattle.lapdm_end.specs.lapdm_window.Tables.{ReportsUiInformation, TakesIFrame, TakesRr}
 use Rattle.lapdm_end.specs.lapdm_window.Tables.{TakesRej}
 use Rattle.lapdm_end.specs.lapdm_window.declared.State.TheVariants.{Open, Opening}
 use Rattle.lapdm_end.specs.lapdm_window.Calls.{sabm, t200_expiry}
 use Rattle.lapdm_datalink.specs.Links.{IsLinkCall}
-use Rattle.lapdm_datalink.specs.Links.{LinkState, SlotOutcome, sabm_goes_first, is_opening, is_awaiting_kind, with_frame, with_frames}
+use Rattle.lapdm_datalink.specs.Links.{LinkState, SlotOutcome, is_opening, is_awaiting_kind, with_frame, with_frames}
 use Rattle.lapdm_datalink.specs.Links.{with_outcome, first_frame, after_call, after_frame, frame_notices, received_outcome}
-use Rattle.lapdm_datalink.specs.Links.{is_reopened_by_call, is_reopened_by_frame, ignores, after_slot, slot_outcome, slot_outcome_owing}
-use Rattle.lapdm_datalink.specs.Links.{is_due, keeps_back, sends_due_frame, sends_nothing, sends_answer, sends_awaited, expires, ui_frame}
-use Rattle.lapdm_datalink.proofs.Lemmas.{endpoint_with_frames}
+use Rattle.lapdm_datalink.specs.Links.{is_reopened_by_call, is_reopened_by_frame, ignores, after_slot, slot_outcome, ui_frame}
+use Rattle.lapdm_datalink.proofs.Lemmas.{endpoint_with_frame, endpoint_with_frames}
+use Rattle.lapdm_datalink.proofs.Answering.{IsSlot, sabm_first, idles, answering, repeating, expiring, is_slot}
 use Rattle.lapdm_datalink.proofs.RunsClaims.{seen}
 use Rattle.lapdm_datalink.proofs.RunsWorlds.{Reaches, calls, takes, loses, silent}
 use Rattle.lapdm_link.proofs.Subsequences.{IsSub, all, append, dropped, empty, kept, none}
@@ -78,14 +77,11 @@ module _ (call : Option Call) (x z : EndpointState) (s : Sapi) (not_ui : (info :
     frames-on [] h = tt
     frames-on (f ∷ fs) h = (frame-on f h.0 h.1, frames-on fs h.2)
 
-endpoint-kept : (f : Frame) (l : LinkState) → (with_frame f l).endpoint ≡ l.endpoint
-endpoint-kept f l = grind arith
-
 sound-frames : (s : Sapi) (fs : List Frame) (l : LinkState) → AllOn s fs → (l.endpoint.state ≡ Idle → fs ≡ []) → IsSound s l →
     IsSound s (with_frames fs l)
 sound-frames s [] l g idle h = h
 sound-frames s (f ∷ fs) l g idle h =
-    sound-frames s fs (with_frame f l) g.1 (λ e. absurd (never (rw (endpoint-kept f l) at e))) (by_kind (is_awaiting_kind f.content))
+    sound-frames s fs (with_frame f l) g.1 (λ e. absurd (never (rw (endpoint_with_frame f l) at e))) (by_kind (is_awaiting_kind f.content))
   where
     never : l.endpoint.state ≡ Idle → ⊥
     never e = let none_sent : f ∷ fs ≡ [] = idle e in cc
@@ -190,69 +186,16 @@ module _ {s : Sapi} {r : Role} {air air' : List Frame} {l l' : LinkState} {log :
         (rw (unsent-sent l2 sent, owes_none, append-nil) (append (on_air air (pending l) k.here.queue) sub))
         (record { clock = λ n. absurd cc; answer = rw owes_none tt; idle = λ n. owes_none })
 
--- what a link does in a slot
-pub data IsSlot (l : LinkState) : SlotOutcome → Type 0 where
-  sabm_first : is_opening l.endpoint.state ≡ true → sabm_goes_first l ≡ true → IsSlot l (sends_awaited l)
-  idles : sabm_goes_first l ≡ false → l.answer ≡ None → IsSlot l (sends_nothing l)
-  answering : (f : Frame) → sabm_goes_first l ≡ false → l.answer ≡ Some f → IsSlot l (sends_answer f l)
-  repeating : awaits_answer l.endpoint ≡ true → IsSlot l (sends_awaited (record l { answer = None }))
-  expiring : awaits_answer l.endpoint ≡ true → l.is_sent ≡ true → IsSlot l (expires (record l { answer = None }))
-
 module _ (l : LinkState) where
-  due-awaits : is_due l ≡ true → awaits_answer l.endpoint ≡ true
-  due-awaits h = grind arith
-
-  first-due : sabm_goes_first l ≡ true → is_due l ≡ true
-  first-due h = grind arith
-
-  first-unsent : sabm_goes_first l ≡ true → l.is_sent ≡ false
-  first-unsent h = grind arith
-
-  first-opening : sabm_goes_first l ≡ true → is_opening l.endpoint.state ≡ true
-  first-opening h = grind arith
-
-  kept-due : (f : Frame) → keeps_back f l ≡ true → is_due l ≡ true
-  kept-due f h = grind arith
-
-  first-keeps : (f : Frame) → sabm_goes_first l ≡ true → keeps_back f l ≡ true
-  first-keeps f h = grind arith
-
-  due_by : (due first sent : Bool) → is_due l ≡ due → sabm_goes_first l ≡ first → l.is_sent ≡ sent →
-      (first ≡ false → due ≡ false → l.answer ≡ None) →
-      IsSlot l (if due then (let m = if first then l else record l { answer = None } in if sent then expires m else sends_awaited m)
-      else sends_nothing l)
-  due_by true true true due first sent owes_none = let e = first-unsent first in absurd cc
-  due_by true true false due first sent owes_none = sabm_first (first-opening first) first
-  due_by true false true due first sent owes_none = expiring (due-awaits due) sent
-  due_by true false false due first sent owes_none = repeating (due-awaits due)
-  due_by false true sent due first is owes_none = let e = first-due first in absurd cc
-  due_by false false sent due first is owes_none = idles first (owes_none refl refl)
-
-  due_frame : (sabm_goes_first l ≡ false → is_due l ≡ false → l.answer ≡ None) → IsSlot l (sends_due_frame l)
-  due_frame owes_none = due_by (is_due l) (sabm_goes_first l) l.is_sent refl refl refl owes_none
-
-  slot_owing : (a : Option Frame) → l.answer ≡ a → IsSlot l (slot_outcome_owing a l)
-  slot_owing None n = due_frame (λ first due. n)
-  slot_owing (Some f) n = by_kept (keeps_back f l) refl (sabm_goes_first l) refl
-    where
-      by_kept : (b : Bool) → keeps_back f l ≡ b → (first : Bool) → sabm_goes_first l ≡ first →
-          IsSlot l (if b then sends_due_frame l else sends_answer f l)
-      by_kept true back first e = due_frame (λ none_first due. (let g = kept-due f back in absurd cc))
-      by_kept false back true e = let g = first-keeps f e in absurd cc
-      by_kept false back false e = answering f e n
-
-  pub is_slot : IsSlot l (slot_outcome l)
-  is_slot = slot_owing l.answer refl
-
   -- a link that leaves a slot free has nothing that waits
   pub free-waits : (o : SlotOutcome) → IsSlot l o → o.frame ≡ None → pending o.link ≡ []
-  free-waits o (sabm_first opening first) h = absurd cc
-  free-waits o (idles first owes_none) h = rw (first, owes_none) refl
-  free-waits o (answering f first owes) h = absurd cc
-  free-waits o (repeating awaits) h = absurd cc
-  free-waits o (expiring awaits sent) h = rw (unsent-sent o.link sent) refl
+  free-waits o (sabm_first opening first due new) h = absurd cc
+  free-waits o (idles first owes_none due) h = rw (first, owes_none) refl
+  free-waits o (answering f first owes back) h = absurd cc
+  free-waits o (repeating awaits due new) h = absurd cc
+  free-waits o (expiring awaits sent due over) h = rw (unsent-sent o.link sent) refl
 
-awaited-own : (p : Bool) (st : State) (e : EndpointState) → (awaited_frame p st e).sapi ≡ sapi_number e.sapi
+pub awaited-own : (p : Bool) (st : State) (e : EndpointState) → (awaited_frame p st e).sapi ≡ sapi_number e.sapi
 awaited-own p st e = grind arith
 
 awaited-on : (s : Sapi) (l : LinkState) → l.endpoint.sapi ≡ s → (p : Bool) →
@@ -271,11 +214,11 @@ first-some (f ∷ fs) = kept (none fs)
 -- the frame that a link sends in a slot has its SAPI
 pub slot-on : (s : Sapi) (l : LinkState) (o : SlotOutcome) → l.endpoint.sapi ≡ s → IsSound s l → IsSlot l o →
     IfSome o.frame (λ f. is_on s f ≡ true)
-slot-on s l o same h (sabm_first opening first) = awaited-on s l same false
-slot-on s l o same h (idles first owes_none) = tt
-slot-on s l o same h (answering f first owes) = rw owes at h.answer
-slot-on s l o same h (repeating awaits) = awaited-on s l same false
-slot-on s l o same h (expiring awaits sent) = by_count (nat_lt l.endpoint.retries (n200 l.endpoint.channel l.endpoint.state))
+slot-on s l o same h (sabm_first opening first due new) = awaited-on s l same false
+slot-on s l o same h (idles first owes_none due) = tt
+slot-on s l o same h (answering f first owes back) = rw owes at h.answer
+slot-on s l o same h (repeating awaits due new) = awaited-on s l same false
+slot-on s l o same h (expiring awaits sent due over) = by_count (nat_lt l.endpoint.retries (n200 l.endpoint.channel l.endpoint.state))
   where
     by_count : (b : Bool) → IfSome (first_frame (if b then sends_frame (awaited_frame true l.endpoint.state l.endpoint)
         (record l.endpoint { retries = l.endpoint.retries + 1 }) else closes_and_reports R.Failed l.endpoint).frames)
@@ -288,17 +231,17 @@ module _ {s : Sapi} {r : Role} {air air' : List Frame} {l l' : LinkState} {log :
   where
     slot_of : (o : SlotOutcome) → IsSlot l o →
         LinkAt s r (air ++ cons_option o.frame []) o.link air' l' (log ++ map (Notified r s) o.notices)
-    slot_of o (sabm_first opening first) = rw (append-nil log) (stays k refl
+    slot_of o (sabm_first opening first due new) = rw (append-nil log) (stays k refl
         (rw (awaited-sabm false l.endpoint.state l.endpoint opening, unsent-sent o.link refl, append_assoc)
         (rw first at k.here.queue))
         (record { clock = λ n. absurd cc; answer = k.here.sound.answer; idle = k.here.sound.idle }))
-    slot_of o (idles first owes_none) = rw (append-nil air, append-nil log) k
-    slot_of o (answering f first owes) = rw (append-nil log) (stays k refl
+    slot_of o (idles first owes_none due) = rw (append-nil air, append-nil log) k
+    slot_of o (answering f first owes back) = rw (append-nil log) (stays k refl
         (rw (first, append-nil) (rw (first, owes) at k.here.queue))
         (record { clock = k.here.sound.clock; answer = tt; idle = λ n. refl }))
-    slot_of o (repeating awaits) =
+    slot_of o (repeating awaits due new) =
         sends_now k Repeats (awaited_frame false l.endpoint.state l.endpoint ∷ []) [] tt (rw awaits refl) refl refl refl refl (all _)
-    slot_of o (expiring awaits sent) =
+    slot_of o (expiring awaits sent due over) =
         sends_now k T200Expires (cons_option (first_frame (t200_expiry l.endpoint).frames) [])
         (map (Notified r s) (t200_expiry l.endpoint).notices) tt
         (rw awaits refl) (notices-seen r s (t200_expiry l.endpoint).notices) refl sent refl (first-some (t200_expiry l.endpoint).frames)
@@ -335,8 +278,7 @@ module _ (l : LinkState) where
     where
       by_may : (b : Bool) → (if b then sends_segment (with_queued_message m l.endpoint)
           else no_effect (with_queued_message m l.endpoint)).notices ≡ []
-      by_may true = refl
-      by_may false = refl
+      by_may b = grind arith
   call-silent Closes own = refl
   call-silent call own = absurd own
 
@@ -396,8 +338,7 @@ module _ (l : LinkState) where
 -- ---- the frames in front of the one that arrives are lost
 
 way-lost : (q : Role) (w : World) → way q (without_oldest_item q w) ≡ drop 1 (way q w)
-way-lost Mobile w = refl
-way-lost Network w = refl
+way-lost role w = grind arith
 
 way-lost_other : (r : Role) (w : World) → way r (without_oldest_item (other r) w) ≡ way r w
 way-lost_other Mobile w = refl

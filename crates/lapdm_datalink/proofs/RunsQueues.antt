@@ -31,8 +31,7 @@ abbrev pub pending : LinkState → List Frame
 pending l = unsent l ++ owed l
 
 and_false : (b : Bool) → (b && false) ≡ false
-and_false true = refl
-and_false false = refl
+and_false b = grind arith
 
 pub unsent-not : (l : LinkState) → sabm_goes_first l ≡ false → unsent l ≡ []
 unsent-not l e = rw e refl

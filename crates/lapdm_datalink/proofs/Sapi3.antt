@@ -1,8 +1,8 @@
 -- Two links of SAPI 3 that one side opens, while SAPI 0 does not hold them up: they are a run of two links of SAPI 0 alone, so they make
 -- progress.
 use Rattle.{
-  std.specs.Prelude.{◌≡◌, ◌≤◌, ℕ, zero, suc, ◌+◌, ◌-◌, Bool, true, false, ◌||◌, nat_eq, List, [], ◌∷◌, map},
-  std.{specs.{Prelude.{All, get_or, Option, Some, None, IfSome}, List.filter_map}, proofs.Common.{arith, refl, sym, ap, ◌∙◌, subst}},
+  std.specs.Prelude.{◌≡◌, ◌≤◌, ℕ, zero, suc, Bool, true, false, ◌||◌, nat_eq, List, [], ◌∷◌, map},
+  std.{specs.{Prelude.{All, get_or, Option, None, IfSome}, List.filter_map}, proofs.Common.{arith, refl, sym, ap, ◌∙◌, subst}},
   std.proofs.lemmas.List.Elements.{All-head, All-tail, All-cons, All-nil},
   lapdm_frame.specs.Content.Frame,
   lapdm_end.specs.lapdm_window.{
@@ -12,15 +12,16 @@ use Rattle.{
   },
   lapdm_link.specs.Events.other,
   lapdm_datalink.{
-    specs.{Links.{LinkState, link_with, slot_outcome, is_closed}, DataLinks.DataLinkOutcome, Channels.carried, Progress.{one_if, is_loss}},
-    specs.Lockstep.{Part, Run, side_at, arriving_at, ready_at, outcome_at, before_at, taken_at, frame_or_unit, HasCalls, slots_with},
+    specs.{Links.{LinkState, link_with, slot_outcome, is_closed}, DataLinks.DataLinkOutcome, Channels.carried},
+    specs.Progress.{is_loss, slots_with, frames_of},
+    specs.Lockstep.{Part, Run, side_at, arriving_at, ready_at, outcome_at, before_at, taken_at, frame_or_unit, HasCalls},
     specs.Sapi3.{link3_at, link3_ready_at, frame_of_link3, awaits, expires, is_loss_at, is_lossy, IsUse, IsUsed, IsUsedBefore, NoneGaveUp},
-    specs.Sapi3.{place, frames_of, HasT200, Progresses, KeepsLinks},
+    specs.Sapi3.{place, HasT200, Progresses, KeepsLinks},
     proofs.{
       Lockstep.owned_at,
       Sapi3Links.{maybe_as, link_as, LinkLike, FitsAs, like_expires},
       ProgressCut.{progress_from_start, few_losses_keep_links, ready_unclosed},
-      ProgressSlots.eq_of,
+      ProgressSlots.{eq_of, slots_same},
       Sapi3Slots.{call_as, turn_as, arrives-link3, arrived-three, arrived-regular, calls-regular, stays-closed, was-unclosed, unit-lets},
       Sapi3Slots.{carries-link3, carries-as, slot_of_3, IsSlotOf3, like_arriving, like_calls, like_passes},
     },
@@ -55,31 +56,20 @@ coming o r n role = get_or (alone o r n (other role)).sent r.delay None
 
 alone_step : (o : Role) (r : Run) (n : ℕ) (role : Role) →
     alone o r (suc n) role ≡ C.side_after (turn_as (r.part n role)) (coming o r n role) (alone o r n role)
-alone_step Mobile r n Mobile = refl
-alone_step Mobile r n Network = refl
-alone_step Network r n Mobile = refl
-alone_step Network r n Network = refl
+alone_step o r n role = grind arith
 
 alone_ready : (o : Role) (r : Run) (n : ℕ) (role : Role) → P.ready_at (run_as o r) n (place o role)
     ≡ C.before_sending (coming o r n role) (turn_as (r.part n role)).calls (alone o r n role).link
-alone_ready Mobile r n Mobile = refl
-alone_ready Mobile r n Network = refl
-alone_ready Network r n Mobile = refl
-alone_ready Network r n Network = refl
+alone_ready o r n role = grind arith
 
 alone_turn : (o : Role) (r : Run) (n : ℕ) (role : Role) → P.turn_at (run_as o r) n (place o role) ≡ turn_as (r.part n role)
-alone_turn Mobile r n Mobile = refl
-alone_turn Mobile r n Network = refl
-alone_turn Network r n Mobile = refl
-alone_turn Network r n Network = refl
+alone_turn o r n role = grind arith
 
 apart : (n k : ℕ) → n ≤ k → nat_eq n k ≡ false → suc n ≤ k
 apart n k h e = grind (arith, e)
 
 place-place : (o role : Role) → place o (place o role) ≡ role
-place-place Mobile role = refl
-place-place Network Mobile = refl
-place-place Network Network = refl
+place-place o role = grind arith
 
 opener-place : (o role : Role) → role ≡ o → place o role ≡ Mobile
 opener-place o role e = grind (arith, e)
@@ -195,12 +185,10 @@ module _ (o : Role) (r : Run) where
 
   first-link : (p : Role) (role : Role) → (C.side_at p (C.initial_channel (r.t200_sapi3 Mobile) r.channel)).link
       ≡ link_with (initial_endpoint p Zero r.channel) (r.t200_sapi3 Mobile)
-  first-link Mobile role = refl
-  first-link Network role = refl
+  first-link p role = grind arith
 
   first-sent : (p : Role) → (C.side_at p (C.initial_channel (r.t200_sapi3 Mobile) r.channel)).sent ≡ []
-  first-sent Mobile = refl
-  first-sent Network = refl
+  first-sent role = grind arith
 
   joined_start : HasT200 r → (role : Role) → IsJoined 0 role
   joined_start t role = record {
@@ -225,33 +213,14 @@ module _ (o : Role) (r : Run) where
 
 -- ---- progress
 
-until : (f g : ℕ → Bool) (k : ℕ) (count : (k : ℕ) → ℕ) → ((m : ℕ) → suc m ≤ k → f m ≡ g m) → count 0 ≡ 0 →
-    ((k : ℕ) → count (suc k) ≡ count k + one_if (g (0 + k))) → slots_with f k ≡ count k
-until f g zero count same first next = sym first
-until f g (suc k) count same first next =
-    rw (until f g k count (λ m h. same m (omega (arith, h))) first next, same k (omega arith))
-    (sym (next k ∙ ap (λ m. count k + one_if (g m)) (none-more k)))
-  where
-    none-more : (k : ℕ) → 0 + k ≡ k
-    none-more k = omega arith
-
 loss-as : (o : Role) (lost : Bool) (a : Option Frame) → is_loss lost (maybe_as o a) ≡ is_loss lost a
-loss-as o lost None = refl
-loss-as o lost (Some f) = refl
+loss-as o lost x = grind arith
 
 or-comm : (a b : Bool) → (a || b) ≡ (b || a)
-or-comm true true = refl
-or-comm true false = refl
-or-comm false true = refl
-or-comm false false = refl
-
-frames-of : (x : C.Run) (n : ℕ) (p : Role) → P.frames_at x n p ≡ frames_of p (P.link_at x n p)
-frames-of x n Mobile = refl
-frames-of x n Network = refl
+or-comm b c = grind arith
 
 frames-as : (o p : Role) (c : ℕ) (l : LinkState) → frames_of p (link_as o c l) ≡ frames_of p l
-frames-as o Mobile c l = refl
-frames-as o Network c l = refl
+frames-as o role c l = grind arith
 
 module _ (o : Role) (r : Run) (calls : HasCalls r) (t : HasT200 r) (k : ℕ) (used : IsUsedBefore r o k) (none : Before o r k) where
   abbrev joined_at : (n : ℕ) → n ≤ k → (role : Role) → IsJoined o r n role
@@ -285,19 +254,14 @@ module _ (o : Role) (r : Run) (calls : HasCalls r) (t : HasT200 r) (k : ℕ) (us
       by Mobile = refl
       by Network = or-comm (P.is_loss_at (run_as Network r) n Network) (P.is_loss_at (run_as Network r) n Mobile)
 
-  waits-count : (role : Role) (j : ℕ) → j ≤ k → slots_with (awaits r role) j ≡ P.waiting_slots (run_as o r) 0 j (place o role)
-  waits-count role j few = until _ (λ n. awaits_answer (P.ready_at (run_as o r) n (place o role)).endpoint) j
-      (λ i. P.waiting_slots (run_as o r) 0 i (place o role))
-      (λ m h. awaits-same role m (omega (arith, h, few))) refl (λ i. refl)
+  waits-count : (role : Role) (j : ℕ) → j ≤ k → slots_with (awaits r role) 0 j ≡ P.waiting_slots (run_as o r) 0 j (place o role)
+  waits-count role j few = slots_same _ _ 0 j (λ m h. awaits-same role m (omega (arith, h, few)))
 
-  expires-count : (role : Role) (j : ℕ) → j ≤ k → slots_with (expires r role) j ≡ P.expiries (run_as o r) 0 j (place o role)
-  expires-count role j few = until _ (λ n. P.expires_in (P.ready_at (run_as o r) n (place o role))) j
-      (λ i. P.expiries (run_as o r) 0 i (place o role))
-      (λ m h. expires-same role m (omega (arith, h, few))) refl (λ i. refl)
+  expires-count : (role : Role) (j : ℕ) → j ≤ k → slots_with (expires r role) 0 j ≡ P.expiries (run_as o r) 0 j (place o role)
+  expires-count role j few = slots_same _ _ 0 j (λ m h. expires-same role m (omega (arith, h, few)))
 
-  lossy-count : (j : ℕ) → j ≤ k → slots_with (is_lossy r) j ≡ P.lossy_slots (run_as o r) 0 j
-  lossy-count j few = until _ (P.is_lossy (run_as o r)) j
-      (λ i. P.lossy_slots (run_as o r) 0 i) (λ m h. lossy-same m (omega (arith, h, few))) refl (λ i. refl)
+  lossy-count : (j : ℕ) → j ≤ k → slots_with (is_lossy r) 0 j ≡ P.lossy_slots (run_as o r) 0 j
+  lossy-count j few = slots_same _ _ 0 j (λ m h. lossy-same m (omega (arith, h, few)))
 
   closed-same : (j : ℕ) → j ≤ k → (role : Role) →
       is_closed (P.link_at (run_as o r) j (place o role)).endpoint.state ≡ is_closed (link3_at r j role).endpoint.state
@@ -305,33 +269,26 @@ module _ (o : Role) (r : Run) (calls : HasCalls r) (t : HasT200 r) (k : ℕ) (us
 
   frames-same : (j : ℕ) → j ≤ k → (role : Role) →
       P.frames_at (run_as o r) j (place o role) ≡ frames_of (place o role) (link3_at r j role)
-  frames-same j few role = frames-of (run_as o r) j (place o role)
-      ∙ ap (frames_of (place o role)) (joined_at j few role).link.same
+  frames-same j few role = ap (frames_of (place o role)) (joined_at j few role).link.same
       ∙ frames-as o (place o role) (joined_at j few role).link.clock (link3_at r j role)
 
 pub sapi_3_progresses : (r : Run) → Progresses r
 sapi_3_progresses r calls t o k used none role =
     let few : k ≤ suc k = omega arith in
     let past : Before o r (suc k) = λ j h. none j (omega (arith, h)) in
-    let h = progress_from_start (run_as o r) t.long k (kept o r (suc k) used)
+    rw (
+      waits-count o r calls t (suc k) used past role k few,
+      expires-count o r calls t (suc k) used past role (suc k) (omega arith),
+      ← frames-same o r calls t (suc k) used past k few role,
+      lossy-count o r calls t (suc k) used past k few,
+      t200-same o r t role,
+    ) (progress_from_start (run_as o r) t.long k (kept o r (suc k) used)
     (λ q. subst (λ p. is_closed (P.link_at (run_as o r) k p).endpoint.state ≡ false) (place-place o q)
-    (closed-same o r calls t (suc k) used past k few (place o q) ∙ none k (omega arith) (place o q))) (place o role) in
-    record {
-      waits = rw (
-        waits-count o r calls t (suc k) used past role k few,
-        lossy-count o r calls t (suc k) used past k few,
-        ← frames-same o r calls t (suc k) used past k few role,
-        t200-same o r t role,
-      ) h.waits;
-      expires = rw (
-        expires-count o r calls t (suc k) used past role (suc k) (omega arith),
-        lossy-count o r calls t (suc k) used past k few,
-      ) h.expires;
-    }
+    (closed-same o r calls t (suc k) used past k few (place o q) ∙ none k (omega arith) (place o q))) (place o role))
 
 module _ (r : Run) (calls : HasCalls r) (t : HasT200 r) (o : Role) where
   -- in the slot after one before which neither was given up, neither has been given up if few slots had a loss
-  keeps_next : (k : ℕ) → IsUsedBefore r o (suc k) → slots_with (is_lossy r) (suc k) ≤ 5 → NoneGaveUp r k →
+  keeps_next : (k : ℕ) → IsUsedBefore r o (suc k) → slots_with (is_lossy r) 0 (suc k) ≤ 5 → NoneGaveUp r k →
       (n : ℕ) (b : Bool) →
       nat_eq n (suc k) ≡ b → n ≤ suc k → (role : Role) → is_closed (link3_at r n role).endpoint.state ≡ false
   keeps_next k used few none n false e h role = none n (omega (arith, apart n (suc k) h e)) role
@@ -342,7 +299,7 @@ module _ (r : Run) (calls : HasCalls r) (t : HasT200 r) (o : Role) where
       ∙ few_losses_keep_links (run_as o r) t.long (suc k) (kept o r (suc k) used)
       (rw (← lossy-count o r calls t (suc k) used past (suc k) (omega arith)) few) (place o role)
 
-  keeps : (k : ℕ) → IsUsedBefore r o k → slots_with (is_lossy r) k ≤ 5 → NoneGaveUp r k
+  keeps : (k : ℕ) → IsUsedBefore r o k → slots_with (is_lossy r) 0 k ≤ 5 → NoneGaveUp r k
   keeps zero used few zero h role = refl
   keeps zero used few (suc n) h role = absurd (omega (arith, h))
   keeps (suc k) used few n h role = keeps_next k used few (keeps k (λ m q. used m (omega (arith, q))) (omega (arith, few)))

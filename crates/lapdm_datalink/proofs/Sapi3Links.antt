@@ -1,8 +1,10 @@
 -- A link of SAPI 3 that one side opens does what a link of SAPI 0 does: the opener sits in the place of the mobile, and the SABM and its
 -- UA have an octet of information.
 use Rattle.{
+  std.proofs.lemmas.Bool.cases_Bool,
   std.specs.Prelude.{◌≡◌, ◌++◌, ℕ, Bool, true, false, not, ◌&&◌, ◌||◌, if◌then◌else◌, nat_eq, List, []},
-  std.{specs.Prelude.{◌∷◌, map, All, Option, Some, None, IfSome, nat_lt}, proofs.Common.{arith, refl, sym, ap, ◌∙◌, subst}},
+  std.specs.Prelude.{◌∷◌, map, All, Option, Some, None, IfSome, nat_lt},
+  std.proofs.Common.{inl, inr, arith, refl, sym, ap, ◌∙◌, subst},
   std.proofs.lemmas.List.Elements.{All-append, All-head, All-tail},
   lapdm_frame.specs.{Content.{Content, Sabm, Ui, Disc, Ua, Frame}, declared.Channel.Channel, Layout.n201},
   lapdm_end.specs.lapdm_window.{
@@ -22,6 +24,7 @@ use Rattle.{
     specs.Links.{received_outcome, afresh, SlotOutcome, slot_outcome, first_frame, sends_nothing, sends_answer, sends_awaited, expires},
     specs.{Links.{is_due, keeps_back, sabm_goes_first, sends_due_frame, slot_outcome_owing}, Sapi3.place, Progress.expires_in},
     specs.Progress.answer_goes,
+    proofs.Answering.due-awaits,
     proofs.ProgressSteps.outcome_endpoint,
   },
 }
@@ -64,8 +67,7 @@ frames-clock (f ∷ fs) l = frames-clock fs (with_frame f l) ∙ ap (clock_after
   where
     by : (b : Bool) → (if b then record l { is_sent = false; clock = 0 } else record l { answer = Some f }).clock
         ≡ (if b then 0 else l.clock)
-    by true = refl
-    by false = refl
+    by b = grind arith
 
 module _ (o : Role) where
   abbrev pub frame_as : Frame → Frame
@@ -116,8 +118,7 @@ module _ (o : Role) where
   map-frames (f ∷ fs) gs = ap (λ hs. frame_as f ∷ hs) (map-frames fs gs)
 
   or-assoc : (a b c : Bool) → (a || (b || c)) ≡ ((a || b) || c)
-  or-assoc true b c = refl
-  or-assoc false b c = refl
+  or-assoc d b c = grind arith
 
   awaiting-append : (fs gs : List Frame) → has_awaiting (fs ++ gs) ≡ (has_awaiting fs || has_awaiting gs)
   awaiting-append [] gs = refl
@@ -474,9 +475,6 @@ module _ (o : Role) where
   slot-if side true x y x' y' h g = h refl
   slot-if side false x y x' y' h g = g refl
 
-  due-awaits : (l : LinkState) → is_due l ≡ true → awaits_answer l.endpoint ≡ true
-  due-awaits l h = grind (arith, h)
-
   keeps_nothing : (f : Frame) (l : LinkState) → awaits_answer l.endpoint ≡ false → keeps_back f l ≡ false
   keeps_nothing f l w = grind (arith, w)
 
@@ -523,11 +521,10 @@ module _ (o : Role) where
         by (Some f) e = rw (keeps_nothing (frame_as f) (link_as c l) w, keeps_nothing f l w) (answers_like side l u c k f e)
 
     pub like_slot : (c : ℕ) → Clock c l → SlotLike side (slot_outcome (link_as c l)) (slot_outcome l)
-    like_slot c k = by (awaits_answer l.endpoint) refl
-      where
-        by : (w : Bool) → awaits_answer l.endpoint ≡ w → SlotLike side (slot_outcome (link_as c l)) (slot_outcome l)
-        by true w = rw (k w) (owing_like l.answer refl)
-        by false w = rests_like c k false w refl
+    like_slot c k = elim (cases_Bool (awaits_answer l.endpoint)) [
+      | inl w ↦ rw (k w) (owing_like l.answer refl)
+      | inr w ↦ rests_like c k false w refl
+    ]
 
   -- ---- T200
 

@@ -5,7 +5,7 @@ use Rattle.{
   std.proofs.lemmas.List.Elements.{All-head, All-tail},
   lapdm_frame.specs.Content.Frame,
   lapdm_end.specs.lapdm_window.{
-    declared.{Sapi.{Sapi, TheVariants.{Zero, Three}}, Refused.Refused},
+    declared.{Sapi.{Sapi, TheVariants.{Zero, Three}}, State.{State, TheVariants.Closed}, Refused.Refused},
     Ends.{Role, awaits_answer},
     Calls.{Call, Opens, OpensWithoutInfo, Sends, refusal_of, call_outcome, IsCallAllowedFor},
     Tables.is_command,
@@ -18,7 +18,7 @@ use Rattle.{
     specs.{DataLinks.taken_by, Channels.{after_call_unless, carried}, Runs.after_arrival_if_any, Lockstep.{Part, after_calls}},
     specs.{Lockstep.{after_call_of, frame_or_unit, CallsOpenNoClosedLink, IsCallOf}, Sapi3.{frame_of_link3, IsUse, has_to_send}},
     proofs.{Lockstep.{IsOf, Owns, ui-same, sends_own}, Sapi3Links.{maybe_as, end_as, LinkLike, FitsAs, SlotLike, like_frame, like_slot}},
-    proofs.Sapi3Links.{like_outcome, same_opens, same_sends, refused-opens, Like},
+    proofs.{Sapi3Links.{like_outcome, same_opens, same_sends, refused-opens, Like}, ProgressFromStart.closed_calls},
   },
 }
 use Rattle.lapdm_datalink.specs.Channels as C
@@ -100,8 +100,7 @@ zero-regular role OpensWithoutInfo l h = absurd cc
 zero-regular role c l h = by (is_closed l.endpoint.state)
   where
     by : (b : Bool) → (b && false) ≡ false
-    by true = refl
-    by false = refl
+    by b = grind arith
 
 pub calls-regular : (o role : Role) (cs : List (Sapi × Call)) (d : DataLinkState) → All (IsCallOf role) cs → All (IsUse o role) cs →
     is_closed d.link3.endpoint.state ≡ false → CallsOpenNoClosedLink cs d
@@ -117,17 +116,14 @@ calls-regular o role ((Three, c) ∷ cs) d h u k = (
       (called-unclosed c d.link3 role o (All-head (IsUse o role) (Three, c) cs u) k),
 )
 
+closed-is : (s : State) → is_closed s ≡ true → s ≡ Closed
+closed-is Closed h = refl
+closed-is other h = absurd cc
+
 -- a link of SAPI 0 that is closed stays so
 pub stays-closed : (p : Role) (cs : List Call) (l : LinkState) → All (C.IsUse p) cs → is_closed l.endpoint.state ≡ true →
     is_closed (C.after_calls cs l).endpoint.state ≡ true
-stays-closed p [] l u h = h
-stays-closed p (c ∷ cs) l u h = stays-closed p cs (after_call_unless (refusal_of c l.endpoint) c l) (All-tail (C.IsUse p) c cs u)
-    (by c (All-head (C.IsUse p) c cs u))
-  where
-    by : (c : Call) → C.IsUse p c → is_closed (after_call_unless (refusal_of c l.endpoint) c l).endpoint.state ≡ true
-    by (Opens info) v = grind (arith, h)
-    by (Sends m) v = grind (arith, h)
-    by c v = absurd v
+stays-closed p cs l u h = ap is_closed (closed_calls p cs l u (closed-is l.endpoint.state h))
 
 pub was-unclosed : (a b : Bool) → (a ≡ true → b ≡ true) → b ≡ false → a ≡ false
 was-unclosed false b h e = refl
@@ -173,8 +169,7 @@ module _ (o role : Role) where
   not_again true l e = absurd cc
 
   bare : (c : Call) (l : LinkState) → (b : Bool) → (if b && false then afresh l else l) ≡ l
-  bare c l true = refl
-  bare c l false = refl
+  bare c l b = grind arith
 
   like_call : (c : Sapi × Call) (d : DataLinkState) (m : LinkState) → IsUse o role c →
       is_reopened_by_call c.1 (link_with_sapi c.0 d) ≡ false →
@@ -255,8 +250,7 @@ ui-lets3 : (f : Frame) → is_ui f.content ≡ true → frame_of_link3 (Some f) 
 ui-lets3 f e = rw e (by (nat_eq f.sapi 3))
   where
     by : (b : Bool) → (if b && false then Some f else None) ≡ None
-    by true = refl
-    by false = refl
+    by b = grind arith
 
 pub unit-lets : (a : Option Frame) (unit : Option (Sapi × List ℕ)) (d : DataLinkState) →
     frame_of_link3 (frame_or_unit a unit d) ≡ frame_of_link3 a
@@ -265,12 +259,10 @@ unit-lets None None d = refl
 unit-lets None (Some (t, m)) d = ui-lets3 (ui_frame m (link_with_sapi t d).endpoint) refl
 
 pub carries-link3 : (lost : Bool) (a : Option Frame) → frame_of_link3 (carried lost a) ≡ carried lost (frame_of_link3 a)
-carries-link3 true a = refl
-carries-link3 false a = refl
+carries-link3 b a = grind arith
 
 pub carries-as : (o : Role) (lost : Bool) (a : Option Frame) → maybe_as o (carried lost a) ≡ carried lost (maybe_as o a)
-carries-as o true a = refl
-carries-as o false a = refl
+carries-as o b a = grind arith
 
 busy-not : (b : Bool) (a : Option Frame) (f : Frame) → a ≡ Some f → (b ≡ true → a ≡ None) → b ≡ false
 busy-not false a f e h = refl

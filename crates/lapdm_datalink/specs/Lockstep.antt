@@ -1,7 +1,7 @@
 -- Two whole data links, a mobile and a network, whose slots come together. In each slot each side takes what arrives, layer 3 makes its
 -- calls, and the side sends one block, which arrives `delay` slots later, before the slot after that, or is lost.
-use Rattle.std.specs.Prelude.{◌≡◌, ◌≤◌, ◌+◌, ◌*◌, ℕ, zero, suc, Bool, ◌||◌, List, [], ◌∷◌, All}
-use Rattle.std.specs.Prelude.{◌++◌, ◌⊎◌, false, true, not, map, if◌then◌else◌, get_or, Option, Some, None}
+use Rattle.std.specs.Prelude.{◌≡◌, ◌≤◌, ◌+◌, ℕ, zero, suc, Bool, ◌||◌, List, [], ◌∷◌, All}
+use Rattle.std.specs.Prelude.{◌++◌, false, true, map, if◌then◌else◌, get_or, Option, Some, None}
 use Rattle.std.specs.List.{filter_map}
 use Rattle.lapdm_frame.specs.declared.Channel.{Channel}
 use Rattle.lapdm_frame.specs.Content.{Frame}
@@ -11,8 +11,7 @@ use Rattle.lapdm_end.specs.lapdm_window.declared.Sapi.{Sapi}
 use Rattle.lapdm_end.specs.lapdm_window.declared.Sapi.TheVariants.{Zero, Three}
 use Rattle.lapdm_end.specs.lapdm_window.Ends.{Role, Mobile, Network, awaits_answer}
 use Rattle.lapdm_end.specs.lapdm_window.declared.Refused.{Refused}
-use Rattle.lapdm_end.specs.lapdm_window.Rules.{is_open}
-use Rattle.lapdm_end.specs.lapdm_window.Calls.{Call, Opens, Sends, SendsUi, IsCallAllowedFor, refusal_of, is_idle}
+use Rattle.lapdm_end.specs.lapdm_window.Calls.{Call, Opens, Sends, SendsUi, IsCallAllowedFor, refusal_of}
 use Rattle.lapdm_link.specs.Events.{other}
 use Rattle.lapdm_link.specs.Claims.{LogLine, Asked, Notified}
 use Rattle.lapdm_datalink.specs.Links.{LinkState, IsLinkCall, is_closed, for_call, is_reopened_by_call, ui_frame, after_slot, slot_outcome}
@@ -21,7 +20,7 @@ use Rattle.lapdm_datalink.specs.DataLinks.{DataLinkOutcome, data_link_outcome}
 use Rattle.lapdm_datalink.specs.Channels.{after_call_unless, carried}
 use Rattle.lapdm_datalink.specs.Channels as C
 use Rattle.lapdm_datalink.specs.Runs.{after_arrival_if_any, arrival_lines, OpensNoClosedLink}
-use Rattle.lapdm_datalink.specs.Progress.{round_trip, one_if, is_loss, expires_in, behind_ua, is_i_frame, is_repetition}
+use Rattle.lapdm_datalink.specs.Progress.{round_trip, is_loss, slots_with, expires_in, frames_of, IsWithin, IsPaidFor, is_repetition}
 use Rattle.lapdm_datalink.specs.Progress as P
 
 -- one side's part of a slot
@@ -199,11 +198,6 @@ AreAsAlone r = HasCalls r → (n : ℕ) (role : Role) → IsAsAlone r n role
 
 -- ---- progress
 
--- in how many slots before this one this is so
-abbrev pub slots_with : (is_so : ℕ → Bool) (slot : ℕ) → ℕ
-slots_with is_so zero = 0
-slots_with is_so (suc k) = slots_with is_so k + one_if (is_so k)
-
 -- in the slot, the link of SAPI 0 awaits an answer, its T200 expires, or a frame of it is lost
 abbrev pub awaits : (run : Run) (role : Role) (slot : ℕ) → Bool
 awaits r role n = awaits_answer (ready_at r n role).link0.endpoint
@@ -219,8 +213,7 @@ is_lossy r n = is_loss_at r n Mobile || is_loss_at r n Network
 
 -- the frames of the link of SAPI 0 that await answers: `frames_at` of specs/Progress
 abbrev pub frames_at : (run : Run) (slot : ℕ) (role : Role) → ℕ
-frames_at r n Mobile = one_if (not (is_idle (link0_at r n Mobile).endpoint.state)) + (link0_at r n Mobile).endpoint.sent_segments
-frames_at r n Network = (link0_at r n Network).endpoint.sent_segments
+frames_at r n role = frames_of role (link0_at r n role)
 
 -- before this slot, layer 3 establishes SAPI 0 and sends messages over it, but does not release it
 abbrev pub IsWithoutRelease : (run : Run) (slot : ℕ) → Type 0
@@ -231,23 +224,22 @@ abbrev pub NoneGaveUp : (run : Run) (slot : ℕ) → Type 0
 NoneGaveUp r n = (role : Role) → is_closed (link0_at r n role).endpoint.state ≡ false
 
 -- `FromStart` and `KeepsLinks` of specs/Progress, of the links of SAPI 0 of data links
-pub record Progress (r : Run) (k : ℕ) (role : Role) : Type 0 where
-  pub waits : slots_with (awaits r role) k
-      ≤ round_trip r.delay * frames_at r k role + (r.t200 + 1) * slots_with (is_lossy r) k + behind_ua role
-  pub expires : slots_with (expires r role) (suc k) ≤ slots_with (is_lossy r) k
+abbrev pub Progress : (run : Run) (slot : ℕ) (role : Role) → Type 0
+Progress r k role = IsWithin (slots_with (awaits r role) 0 k) (slots_with (expires r role) 0 (suc k)) r.delay r.t200 (frames_at r k role)
+    (slots_with (is_lossy r) 0 k) role
 
 abbrev pub Progresses : Run → Type 0
 Progresses r = HasCalls r → round_trip r.delay ≤ r.t200 → (k : ℕ) → IsWithoutRelease r (suc k) → NoneGaveUp r k →
     (role : Role) → Progress r k role
 
 abbrev pub KeepsLinks : Run → Type 0
-KeepsLinks r = HasCalls r → round_trip r.delay ≤ r.t200 → (k : ℕ) → IsWithoutRelease r k → slots_with (is_lossy r) k ≤ 5 →
+KeepsLinks r = HasCalls r → round_trip r.delay ≤ r.t200 → (k : ℕ) → IsWithoutRelease r k → slots_with (is_lossy r) 0 k ≤ 5 →
     NoneGaveUp r k
 
 -- with at most five slots with a loss, neither is given up, so the bounds hold
 abbrev pub ProgressesAfterFewLosses : Run → Type 0
 ProgressesAfterFewLosses r = HasCalls r → round_trip r.delay ≤ r.t200 → (k : ℕ) → IsWithoutRelease r (suc k) →
-    slots_with (is_lossy r) k ≤ 5 → (role : Role) → Progress r k role
+    slots_with (is_lossy r) 0 k ≤ 5 → (role : Role) → Progress r k role
 
 -- ---- what an expiry costs
 
@@ -256,13 +248,8 @@ abbrev pub frame0_at : (run : Run) (slot : ℕ) (role : Role) → Option Frame
 frame0_at r n role = frame_of_link0 (outcome_at r n role).frame
 
 -- `IsPaid` and `PaysForExpiries` of specs/Progress, of the links of SAPI 0 of data links
-pub record IsPaid (r : Run) (n : ℕ) (role : Role) : Type 0 where
-  pub slot : ℕ
-  pub before : slot + r.t200 ≤ n
-  pub sent : is_i_frame (frame0_at r slot role) ≡ true
-  pub last : (k : ℕ) → suc slot ≤ k → suc k ≤ n → is_i_frame (frame0_at r k role) ≡ false
-  pub lost : is_open (link0_at r (suc slot + r.delay) (other role)).endpoint.state ≡ true →
-      (is_loss_at r slot role ≡ true) ⊎ (is_loss_at r (suc slot + r.delay) (other role) ≡ true)
+abbrev pub IsPaid : (run : Run) (slot : ℕ) (role : Role) → Type 0
+IsPaid r = IsPaidFor r.delay r.t200 (frame0_at r) (is_loss_at r) (link0_at r)
 
 abbrev pub PaysForExpiries : Run → Type 0
 PaysForExpiries r =

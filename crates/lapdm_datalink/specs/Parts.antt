@@ -62,7 +62,7 @@ abbrev pub IsTimed : (t200 clock : ℕ) → Type 0
 IsTimed t200 clock = (t200 ≢ 0) × (clock ≤ t200)
 
 -- two links with these values are those of SAPI 0 and SAPI 3 of one data link: they have the same role and channel, and are timed
-pub record AreBeside (x y : LinkValues) : Type 0 where
+pub record AreOfOneDataLink (x y : LinkValues) : Type 0 where
   pub sapi0 : x.endpoint.sapi ≡ Zero
   pub sapi3 : y.endpoint.sapi ≡ Three
   pub role : spec_role_of y.endpoint.role ≡ spec_role_of x.endpoint.role

@@ -40,10 +40,14 @@ abbrev pub one_if : Bool → ℕ
 one_if true = 1
 one_if false = 0
 
+-- in how many of these slots this is so
+abbrev pub slots_with : (is_so : ℕ → Bool) (first slots : ℕ) → ℕ
+slots_with is_so n zero = 0
+slots_with is_so n (suc k) = slots_with is_so n k + one_if (is_so (n + k))
+
 -- W: in how many of these slots this link awaits an answer
 abbrev pub waiting_slots : (run : Run) (first slots : ℕ) (role : Role) → ℕ
-waiting_slots r n zero role = 0
-waiting_slots r n (suc k) role = waiting_slots r n k role + one_if (awaits_answer (ready_at r (n + k) role).endpoint)
+waiting_slots r n k role = slots_with (λ m. awaits_answer (ready_at r m role).endpoint) n k
 
 -- whether a frame is lost
 abbrev pub is_loss : (is_lost : Bool) (frame : Option Frame) → Bool
@@ -58,8 +62,7 @@ abbrev pub is_lossy : (run : Run) (slot : ℕ) → Bool
 is_lossy r n = is_loss_at r n Mobile || is_loss_at r n Network
 
 abbrev pub lossy_slots : (run : Run) (first slots : ℕ) → ℕ
-lossy_slots r n zero = 0
-lossy_slots r n (suc k) = lossy_slots r n k + one_if (is_lossy r (n + k))
+lossy_slots r = slots_with (is_lossy r)
 
 -- layer 3 releases no link in the slots before this one
 abbrev pub IsWithoutRelease : (run : Run) (slot : ℕ) → Type 0
@@ -89,13 +92,18 @@ is_repetition (Some f) = is_repeated_content f.content
 -- The repetition of an I frame in this slot is paid by a loss: the link sent the I frame T200 slots ago or earlier, and no I frame since;
 -- and that frame was lost, or the block with its answer, which leaves the other side one delay later, was. A mobile that still opens
 -- answers no I frame: then an older loss pays, of its SABM or of the UA (`FromStart`). One lost block may pay for one of each side.
-pub record IsPaid (r : Run) (n : ℕ) (role : Role) : Type 0 where
+-- `frame`, `is_lost` and `link`: the frame that a side sends in a slot, whether it is lost, and the side's link before the slot.
+pub record IsPaidFor (delay t200 : ℕ) (frame : ℕ → Role → Option Frame) (is_lost : ℕ → Role → Bool)
+    (link : ℕ → Role → LinkState) (n : ℕ) (role : Role) : Type 0 where
   pub slot : ℕ
-  pub before : slot + r.t200 ≤ n
-  pub sent : is_i_frame (frame_at r slot role) ≡ true
-  pub last : (k : ℕ) → suc slot ≤ k → suc k ≤ n → is_i_frame (frame_at r k role) ≡ false
-  pub lost : is_open (link_at r (suc slot + r.delay) (other role)).endpoint.state ≡ true →
-      (is_loss_at r slot role ≡ true) ⊎ (is_loss_at r (suc slot + r.delay) (other role) ≡ true)
+  pub before : slot + t200 ≤ n
+  pub sent : is_i_frame (frame slot role) ≡ true
+  pub last : (k : ℕ) → suc slot ≤ k → suc k ≤ n → is_i_frame (frame k role) ≡ false
+  pub lost : is_open (link (suc slot + delay) (other role)).endpoint.state ≡ true →
+      (is_lost slot role ≡ true) ⊎ (is_lost (suc slot + delay) (other role) ≡ true)
+
+abbrev pub IsPaid : (run : Run) (slot : ℕ) (role : Role) → Type 0
+IsPaid r = IsPaidFor r.delay r.t200 (frame_at r) (is_loss_at r) (link_at r)
 
 -- Each repetition of an I frame is paid by a loss of its own: between two of them the link sends the I frame again.
 abbrev pub PaysForExpiries : Run → Type 0
@@ -117,8 +125,7 @@ expires_in l = is_due l && l.is_sent && not (answer_goes l.answer l)
 
 -- in how many of these slots T200 of this link expires
 abbrev pub expiries : (run : Run) (first slots : ℕ) (role : Role) → ℕ
-expiries r n zero role = 0
-expiries r n (suc k) role = expiries r n k role + one_if (expires_in (ready_at r (n + k) role))
+expiries r n k role = slots_with (λ m. expires_in (ready_at r m role)) n k
 
 -- both links are open before each of these slots and after the last
 abbrev pub AreOpen : (run : Run) (first slots : ℕ) → Type 0
@@ -142,24 +149,31 @@ Progresses r =
 
 -- ---- from the start
 
--- n: the frames of this link that await answers: the SABM that layer 3 of the mobile asked for, and the segments issued so far
+-- n: the frames of a link in this role that await answers: the SABM that layer 3 of the mobile asked for, and the segments issued so far
+abbrev pub frames_of : (role : Role) (link : LinkState) → ℕ
+frames_of Mobile l = one_if (not (is_idle l.endpoint.state)) + l.endpoint.sent_segments
+frames_of Network l = l.endpoint.sent_segments
+
 abbrev pub frames_at : (run : Run) (slot : ℕ) (role : Role) → ℕ
-frames_at r n Mobile = one_if (not (is_idle (link_at r n Mobile).endpoint.state)) + (link_at r n Mobile).endpoint.sent_segments
-frames_at r n Network = (link_at r n Network).endpoint.sent_segments
+frames_at r n role = frames_of role (link_at r n role)
 
 -- the network's first I frame may wait behind the UA
 abbrev pub behind_ua : Role → ℕ
 behind_ua Mobile = 0
 behind_ua Network = 1
 
--- Progress from the start. Before a slot in which neither has given up, and without a release, whatever is lost, a link has waited at most
--- one round trip for each of its frames, and T200 and one slot for each slot with a loss; the network one slot more. T200 has expired at
--- most once for each of these losses, an expiry in the slot itself included, which may give the link up. That holds in each slot, so each
--- expiry of a link has an earlier lossy slot of its own; one lossy slot may pay for one of each side.
-pub record FromStart (r : Run) (k : ℕ) (role : Role) : Type 0 where
-  pub waits : waiting_slots r 0 k role
-      ≤ round_trip r.delay * frames_at r k role + (r.t200 + 1) * lossy_slots r 0 k + behind_ua role
-  pub expires : expiries r 0 (suc k) role ≤ lossy_slots r 0 k
+-- A link has waited at most one round trip for each of its frames, and T200 and one slot for each slot with a loss; the network one slot
+-- more. T200 has expired at most once for each of these losses.
+pub record IsWithin (waited expired delay t200 frames losses : ℕ) (role : Role) : Type 0 where
+  pub waits : waited ≤ round_trip delay * frames + (t200 + 1) * losses + behind_ua role
+  pub expires : expired ≤ losses
+
+-- Progress from the start. Before a slot in which neither has given up, and without a release, whatever is lost, a link is within these
+-- bounds, an expiry in the slot itself included, which may give the link up. That holds in each slot, so each expiry of a link has an
+-- earlier lossy slot of its own; one lossy slot may pay for one of each side.
+abbrev pub FromStart : (run : Run) (slot : ℕ) (role : Role) → Type 0
+FromStart r k role = IsWithin (waiting_slots r 0 k role) (expiries r 0 (suc k) role) r.delay r.t200 (frames_at r k role)
+    (lossy_slots r 0 k) role
 
 abbrev pub ProgressesFromStart : Run → Type 0
 ProgressesFromStart r =

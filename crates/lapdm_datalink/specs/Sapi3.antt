@@ -1,17 +1,17 @@
 -- Progress on SAPI 3 of two whole data links whose slots come together (`specs/Lockstep`), if one side opens SAPI 3 and SAPI 0 does not
 -- hold it up. These are this project's own statements; the standard has none.
-use Rattle.std.specs.Prelude.{◌≡◌, ◌≤◌, ◌+◌, ◌*◌, ℕ, suc, Bool, true, false, not, ◌&&◌, ◌||◌}
+use Rattle.std.specs.Prelude.{◌≡◌, ◌≤◌, ℕ, suc, Bool, true, false, not, ◌&&◌, ◌||◌}
 use Rattle.std.specs.Prelude.{if◌then◌else◌, nat_eq, All, Option, Some, None, IfSome}
 use Rattle.lapdm_frame.specs.Content.{Frame}
 use Rattle.lapdm_end.specs.lapdm_window.declared.Sapi.{Sapi}
 use Rattle.lapdm_end.specs.lapdm_window.declared.Sapi.TheVariants.{Zero, Three}
 use Rattle.lapdm_end.specs.lapdm_window.Ends.{Role, Mobile, Network, awaits_answer}
-use Rattle.lapdm_end.specs.lapdm_window.Calls.{Call, OpensWithoutInfo, Sends, is_idle}
+use Rattle.lapdm_end.specs.lapdm_window.Calls.{Call, OpensWithoutInfo, Sends}
 use Rattle.lapdm_link.specs.Events.{other}
 use Rattle.lapdm_datalink.specs.Links.{LinkState, is_closed, is_due, after_slot, slot_outcome}
 use Rattle.lapdm_datalink.specs.DataLinks.{is_ui, takes_sapi3, with_clocks_moved}
-use Rattle.lapdm_datalink.specs.Progress.{round_trip, one_if, is_loss, expires_in, behind_ua}
-use Rattle.lapdm_datalink.specs.Lockstep.{Run, side_at, arriving_at, ready_at, outcome_at, before_at, HasCalls, slots_with}
+use Rattle.lapdm_datalink.specs.Progress.{round_trip, is_loss, slots_with, expires_in, frames_of, IsWithin}
+use Rattle.lapdm_datalink.specs.Lockstep.{Run, side_at, arriving_at, ready_at, outcome_at, before_at, HasCalls}
 
 -- the link of SAPI 3 of this side before the slot, and in the slot before it sends
 abbrev pub link3_at : (run : Run) (slot : ℕ) (role : Role) → LinkState
@@ -77,16 +77,10 @@ abbrev pub place : (opener role : Role) → Role
 place Mobile role = role
 place Network role = other role
 
--- the frames of a link in this place that await answers: the SABM, and the segments issued so far
-abbrev pub frames_of : (place : Role) (link : LinkState) → ℕ
-frames_of Mobile l = one_if (not (is_idle l.endpoint.state)) + l.endpoint.sent_segments
-frames_of Network l = l.endpoint.sent_segments
-
 -- `Progress` of specs/Lockstep, of SAPI 3
-pub record Progress (r : Run) (opener : Role) (k : ℕ) (role : Role) : Type 0 where
-  pub waits : slots_with (awaits r role) k ≤ round_trip r.delay * frames_of (place opener role) (link3_at r k role)
-      + (r.t200_sapi3 role + 1) * slots_with (is_lossy r) k + behind_ua (place opener role)
-  pub expires : slots_with (expires r role) (suc k) ≤ slots_with (is_lossy r) k
+abbrev pub Progress : (run : Run) (opener : Role) (slot : ℕ) (role : Role) → Type 0
+Progress r opener k role = IsWithin (slots_with (awaits r role) 0 k) (slots_with (expires r role) 0 (suc k)) r.delay (r.t200_sapi3 role)
+    (frames_of (place opener role) (link3_at r k role)) (slots_with (is_lossy r) 0 k) (place opener role)
 
 -- both links of SAPI 3 have one T200 of at least the round trip
 pub record HasT200 (r : Run) : Type 0 where
@@ -98,5 +92,5 @@ Progresses r = HasCalls r → HasT200 r → (opener : Role) (k : ℕ) → IsUsed
     (role : Role) → Progress r opener k role
 
 abbrev pub KeepsLinks : Run → Type 0
-KeepsLinks r = HasCalls r → HasT200 r → (opener : Role) (k : ℕ) → IsUsedBefore r opener k → slots_with (is_lossy r) k ≤ 5 →
+KeepsLinks r = HasCalls r → HasT200 r → (opener : Role) (k : ℕ) → IsUsedBefore r opener k → slots_with (is_lossy r) 0 k ≤ 5 →
     NoneGaveUp r k

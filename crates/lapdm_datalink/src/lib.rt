@@ -19,4 +19,4 @@ pub use laws::{
     law_whole_data_links_progress_after_few_losses, law_whole_data_links_send_what_is_asked,
 };
 pub use links::{Link, LinkSlot};
-pub use parts::{DataLinkView, LinkView, are_beside};
+pub use parts::{DataLinkView, LinkView, are_of_one_data_link};

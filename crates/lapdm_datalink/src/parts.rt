@@ -7,7 +7,7 @@ ghost use Rattle.lapdm_datalink.specs.Links.{LinkState};
 ghost use Rattle.lapdm_datalink.specs.DataLinks.{DataLinkState, IsDataLink, having_main};
 ghost use Rattle.lapdm_datalink.specs.Abstraction as L;
 ghost use Rattle.lapdm_datalink.specs.Abstraction.{Represents, IsAnswer, is_answer_kind, role_of, sapi_of, channel_of as link_channel};
-ghost use Rattle.lapdm_datalink.specs.Parts.{values_of, values_of_parts, ValuesRepresent, SomeLinkHasValues, IsTimed, AreBeside};
+ghost use Rattle.lapdm_datalink.specs.Parts.{values_of, values_of_parts, ValuesRepresent, SomeLinkHasValues, IsTimed, AreOfOneDataLink};
 ghost use Rattle.lapdm_datalink.specs.Parts.{IsAnswerBlock, HasAnswerBlockIfAny, IsAtSameAddress, CanBeRestored, IsWritable};
 ghost use Rattle.lapdm_datalink.specs.Parts.{data_link_values_of, data_link_values_of_parts, RepresentDataLink, RepresentSomeDataLink};
 
@@ -170,8 +170,8 @@ impl Link {
 }
 
 /// Returns whether these may be the links of SAPI 0 and SAPI 3 of one data link, if both are links: by role, SAPI, channel and T200.
-pub fn are_beside(link0: &LinkView<'_>, link3: &LinkView<'_>) -> bool
-    ensures { IsTrue result ↔ AreBeside (values_of_parts link0.now) (values_of_parts link3.now) }
+pub fn are_of_one_data_link(link0: &LinkView<'_>, link3: &LinkView<'_>) -> bool
+    ensures { IsTrue result ↔ AreOfOneDataLink (values_of_parts link0.now) (values_of_parts link3.now) }
 {
     link0.endpoint.sapi == Sapi::Zero
         && link3.endpoint.sapi == Sapi::Three

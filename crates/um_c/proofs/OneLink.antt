@@ -14,7 +14,7 @@ use Rattle.{
       Links.{LinkState, after_slot, after_frame, slot_outcome, sends_nothing, SlotOutcome, is_due, slot_outcome_owing, frame_notices},
       DataLinks.{DataLinkState, IsDataLink, with_link, with_clocks_moved, holds_up_sapi3, taken_by, after_arrival, sapi_for_frame},
       DataLinks.{arrival_notices, data_link_outcome, with_sapi3},
-      Parts.{LinkValues, ValuesRepresent, SomeLinkHasValues, DataLinkValues, AreBeside, values_of, acts_in_slot},
+      Parts.{LinkValues, ValuesRepresent, SomeLinkHasValues, DataLinkValues, AreOfOneDataLink, values_of, acts_in_slot},
       Abstraction.notices_if,
     },
     proofs.Lemmas.{replaced, same_after_frame, same_slot, valid_with_flags, valid_clocks, sapi0_sends, sapi3_sends},
@@ -205,7 +205,7 @@ fields x l h = record {
 }
 
 pub beside : (x y : LinkValues) (s : DataLinkState) → ValuesRepresent x s.link0 → ValuesRepresent y s.link3 → IsDataLink s →
-    AreBeside x y
+    AreOfOneDataLink x y
 beside x y s h g v =
     let a = fields x s.link0 h in
     let b = fields y s.link3 g in
@@ -218,8 +218,8 @@ beside x y s h g v =
       timed3 = (λ z. v.t200_sapi3 (sym b.t200 ∙ z), rw (b.clock, b.t200) v.clock_sapi3);
     }
 
-one_data_link : (x y : LinkValues) (s : DataLinkState) → ValuesRepresent x s.link0 → ValuesRepresent y s.link3 → AreBeside x y →
-    IsDataLink s
+one_data_link : (x y : LinkValues) (s : DataLinkState) → ValuesRepresent x s.link0 → ValuesRepresent y s.link3 →
+    AreOfOneDataLink x y → IsDataLink s
 one_data_link x y s h g v =
     let a = fields x s.link0 h in
     let b = fields y s.link3 g in
@@ -234,9 +234,9 @@ one_data_link x y s h g v =
       clock_sapi3 = rw (b.clock, b.t200) at v.timed3.1;
     }
 
--- a struct with two possible links beside each other represents a data link
+-- a struct with two possible links of one data link represents a data link
 pub some_both : (c : CDataLink) (x y : LinkValues) → link_values_from c.link0 ≡ Some x → link_values_from c.link3 ≡ Some y →
-    AreBeside x y → SomeLinkHasValues x → SomeLinkHasValues y → RepresentsSomeDataLink c
+    AreOfOneDataLink x y → SomeLinkHasValues x → SomeLinkHasValues y → RepresentsSomeDataLink c
 some_both c x y is0 is3 v h g =
     let s : DataLinkState = record {
       link0 = h.0;

@@ -66,7 +66,7 @@ use crate::ends::{CALL_NOT_SUPPORTED, INVALID_ENDPOINT, INVALID_FRAME, call_refu
 use crate::frames::channel_of;
 use crate::states::{CEndpoint, endpoint_view_of, role_of, sapi_of, write_endpoint_view};
 use lapdm_datalink::{
-    DataLink, DataLinkView, Link, LinkSlot, LinkView, Slot, are_beside, holds_up_sapi3,
+    DataLink, DataLinkView, Link, LinkSlot, LinkView, Slot, are_of_one_data_link, holds_up_sapi3,
 };
 use lapdm_end::{Call, Effects, MessageBuffer, Notice, Role, Sapi};
 use lapdm_frame::{BLOCK_OCTETS, Channel, FrameView, fill_on, read_on};
@@ -438,7 +438,7 @@ fn read_links(data_link: &CDataLink, held: &mut Link) -> Option<bool>
 {
     let link0 = link_view_of(&data_link.link0)?;
     let link3 = link_view_of(&data_link.link3)?;
-    if !are_beside(&link0, &link3) {
+    if !are_of_one_data_link(&link0, &link3) {
         return None;
     }
     if !held.restore_any(&link3) {

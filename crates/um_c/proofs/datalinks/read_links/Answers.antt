@@ -11,7 +11,8 @@ returns-then-not-restore_any-2 c h =
 
 pub returns : goal.returns
 returns c = record {
-  some = some_both c.args.data_link.now _ _ c.in_ok-link0.ensures c.in_ok-link3.ensures (c.are_beside.ensures.0 c.if-not-are_beside.false)
+  some = some_both c.args.data_link.now _ _ c.in_ok-link0.ensures c.in_ok-link3.ensures
+      (c.are_of_one_data_link.ensures.0 c.if-not-are_of_one_data_link.false)
       (c.restore_any-2.ensures.valid.0 c.if-not-restore_any-2.false) (c.restore_any.ensures.valid.0 c.if-not-restore_any.false);
   link0_is = λ s h. c.restore_any-2.ensures.represents c.if-not-restore_any-2.false s.link0
       (view_represents _ _ s.link0 c.in_ok-link0.ensures (both _ s h).link0);
