@@ -492,8 +492,8 @@ UM_ENUM(um_answer) um_side_take(um_side *side, const uint8_t octets[23], uint8_t
  * where a block arrives d slots later than the slot after it was sent, and the same at both sides; 4 serves d = 0 and 1. For SAPI 3 take
  * two slots more.
  *
- * um_datalink_next and um_datalink_take write only the link that sends, is given up or takes a frame; of the other they write at most
- * `clock`. The other calls write both links.
+ * um_datalink_next and um_datalink_take write only the link that sends, is given up or takes a frame other than UI; of the other they
+ * write at most `clock`. The other calls write both links.
  *
  * UI frames stay outside: if um_datalink_next returns UM_END_FREE, the slot is free, and um_datalink_unit makes a block for it.
  *

@@ -13,7 +13,7 @@ use Rattle.{
       declared.{links.Link.Link, data_links.Slot.Slot},
       Links.{LinkState, after_slot, after_frame, slot_outcome, sends_nothing, SlotOutcome, is_due, slot_outcome_owing, frame_notices},
       DataLinks.{DataLinkState, IsDataLink, with_link, with_clocks_moved, holds_up_sapi3, taken_by, after_arrival, sapi_for_frame},
-      DataLinks.{arrival_notices, data_link_outcome, with_sapi3},
+      DataLinks.{arrival_notices, data_link_outcome, with_sapi3, is_ui},
       Parts.{LinkValues, ValuesRepresent, SomeLinkHasValues, DataLinkValues, AreOfOneDataLink, values_of, acts_in_slot},
       Abstraction.notices_if,
     },
@@ -23,9 +23,9 @@ use Rattle.{
     specs.{
       declared.datalinks.{CTimedEnd.CTimedEnd, CDataLink.CDataLink, CReport.CReport},
       DataLinkCalls.{passed_to, FrameIsPassed, AreRead, DataLinkReceivesBlock, DataLinkFillsSlot, c_report, reports_of, reports_if_taken},
-      DataLinkCalls.{is_taker, with_layer1, slot_answer, slot_frame, link_values_if_valid, link_values_from, data_link_values_if_valid},
+      DataLinkCalls.{with_layer1, slot_answer, slot_frame, link_values_if_valid, link_values_from, data_link_values_if_valid},
       DataLinkCalls.{c_timed_end, counted, RepresentsLink, RepresentsDataLink, RepresentsSomeDataLink, IsLinkWritten, with_clocks_counted},
-      DataLinkCalls.{IsCanonicalLink, IsWrittenOver, IsWrittenFor, SlotIsFilled},
+      DataLinkCalls.{IsCanonicalLink, IsWrittenOver, IsWrittenFor, SlotIsFilled, acts_on_frame},
       Plain.is_nonzero,
       States.endpoint_values_from,
     },
@@ -296,41 +296,43 @@ flags_written c s heard h =
 valid_endpoint : (c : CTimedEnd) (l : LinkState) → RepresentsLink c l → IsValidEndpoint l.endpoint
 valid_endpoint c l h = h.represents.represents.endpoint.valid
 
--- the struct once the link of SAPI 0 or 3 has taken a frame and is written
-module _ (c after : CDataLink) (f : Frame) (s : DataLinkState) (m : Link) (notices : List Notice) (h : RepresentsDataLink c s)
+-- the struct once the link of SAPI 0 or 3 has taken a frame, and is written unless that is a UI frame
+module _ (c after : CDataLink) (f : Frame) (s : DataLinkState) (notices : List Notice) (h : RepresentsDataLink c s)
     (fits : FrameFits s.link0.endpoint.channel f) where
-  pub passed_to0 : after ≡ record c { link0 = c_timed_end (values_of m) } → L.Represents m (after_frame f s.link0) →
-      notices ≡ frame_notices f s.link0 → FrameIsPassed (Some Zero) f s c after notices
-  passed_to0 is does reports =
+  pub passed_to0 : (d : CTimedEnd) → after ≡ record c { link0 = d } → RepresentsLink d (after_frame f s.link0) →
+      IsLinkWritten (not (is_ui f.content)) c.link0 d → notices ≡ frame_notices f s.link0 →
+      FrameIsPassed (Some Zero) f s c after notices
+  passed_to0 d is does written reports =
       let g = both c s h in
       rw is (record {
         represents = joined _ (with_link Zero (after_frame f s.link0) s) (record {
-          link0 = link_written m _ _ refl does;
+          link0 = does;
           link3 = g.link3;
           heard = g.heard;
           main = g.main;
           valid = replaced Zero _ s g.valid (same_after_frame f s.link0 (valid_endpoint c.link0 s.link0 g.link0) fits);
         });
-        link0 = link_is_written m _ refl;
+        link0 = written;
         link3 = refl;
         reports = ap (reports_of Zero) reports;
       })
 
-  pub passed_to3 : after ≡ record c { link3 = c_timed_end (values_of m) } → L.Represents m (after_frame f s.link3) →
-      notices ≡ frame_notices f s.link3 → FrameIsPassed (Some Three) f s c after notices
-  passed_to3 is does reports =
+  pub passed_to3 : (d : CTimedEnd) → after ≡ record c { link3 = d } → RepresentsLink d (after_frame f s.link3) →
+      IsLinkWritten (not (is_ui f.content)) c.link3 d → notices ≡ frame_notices f s.link3 →
+      FrameIsPassed (Some Three) f s c after notices
+  passed_to3 d is does written reports =
       let g = both c s h in
       rw is (record {
         represents = joined _ (with_link Three (after_frame f s.link3) s) (record {
           link0 = g.link0;
-          link3 = link_written m _ _ refl does;
+          link3 = does;
           heard = g.heard;
           main = g.main;
           valid = replaced Three _ s g.valid
               (same_after_frame f s.link3 (valid_endpoint c.link3 s.link3 g.link3) (rw g.valid.channel fits));
         });
         link0 = refl;
-        link3 = link_is_written m _ refl;
+        link3 = written;
         reports = ap (reports_of Three) reports;
       })
 
@@ -349,7 +351,7 @@ taken_is (Some Three) f s = refl
 pub taken : (sapi : Option Sapi) (f : Frame) (s : DataLinkState) (c mid after : CDataLink) (notices : List Notice) →
     sapi ≡ sapi_for_frame f s → FrameIsPassed sapi f s c mid notices →
     after ≡ record mid { heard0 = bit_of_bool (is_nonzero mid.heard0 || holds_up_sapi3 f); main = bit_of_bool (is_nonzero mid.main) } →
-    IsWrittenOver c (is_taker (sapi_for_frame f s)) (after_arrival f s) after
+    IsWrittenOver c (acts_on_frame (sapi_for_frame f s) f) (after_arrival f s) after
 taken sapi f s c mid after notices for_it p is = rw (sym for_it, is) (record {
   represents = rw (sym (taken_is sapi f s)) (flags_written mid (passed_to sapi f s) (holds_up_sapi3 f) p.represents);
   link0 = p.link0;
@@ -444,7 +446,8 @@ module _ {c : CDataLink} {m : Link} {acts3 : Bool} (read : AreRead c m acts3) wh
 
   pub receives : (octets : List ℕ) (channel : Channel) (f : Frame) (after : CDataLink) (r report : CReport) →
       channel ≡ L.channel_of m → IsOnlyEncodedFrame channel f octets →
-      ((s : DataLinkState) → RepresentsDataLink c s → IsWrittenOver c (is_taker (sapi_for_frame f s)) (after_arrival f s) after) →
+      ((s : DataLinkState) → RepresentsDataLink c s →
+      IsWrittenOver c (acts_on_frame (sapi_for_frame f s) f) (after_arrival f s) after) →
       ((s : DataLinkState) → RepresentsDataLink c s →
       report ≡ c_report (reports_if_taken (sapi_for_frame f s) (arrival_notices f s))) →
       DataLinkReceivesBlock octets 0 c after r report

@@ -1,6 +1,6 @@
 -- What the data link calls of the C library return and write.
-use Rattle.std.specs.Prelude.{ℕ, ◌≡◌, ◌≢◌, ◌-◌, Bool, true, false, if◌then◌else◌, ◌&&◌, List, [], ◌++◌, map}
-use Rattle.std.specs.Prelude.{length, drop, replicate, Option, Some, None}
+use Rattle.std.specs.Prelude.{ℕ, ◌≡◌, ◌≢◌, ◌-◌, Bool, true, false, not, if◌then◌else◌, ◌&&◌, List, [], ◌++◌}
+use Rattle.std.specs.Prelude.{map, length, drop, replicate, Option, Some, None}
 use Rattle.std.specs.Option.{is_none, option_map}
 use Rattle.lapdm_frame.specs.declared.Channel.{Channel}
 use Rattle.lapdm_frame.specs.declared.Channel.TheVariants.{Sdcch, Sacch}
@@ -23,7 +23,7 @@ use Rattle.lapdm_datalink.specs.Abstraction.{notices_if}
 use Rattle.lapdm_datalink.specs.Links.{LinkState, for_call, after_call, after_frame, ui_frame, slot_outcome}
 use Rattle.lapdm_datalink.specs.DataLinks.{DataLinkState, initial_data_link, link_with_sapi, with_link, sapi_for_frame, after_arrival}
 use Rattle.lapdm_datalink.specs.DataLinks.{arrival_notices, data_link_outcome, with_clocks_moved, DataLinkOutcome, with_sapi3}
-use Rattle.lapdm_datalink.specs.DataLinks.{notices_of_taking}
+use Rattle.lapdm_datalink.specs.DataLinks.{notices_of_taking, is_ui}
 use Rattle.lapdm_datalink.specs.Parts.{LinkValues, ValuesRepresent, DataLinkValues, RepresentDataLink, acts_in_slot}
 use Rattle.um_c.specs.declared.datalinks.CTimedEnd.{CTimedEnd}
 use Rattle.um_c.specs.declared.datalinks.CDataLink.{CDataLink}
@@ -143,11 +143,15 @@ counted is_stopped c = record c { clock = if is_stopped then c.clock else c.cloc
 abbrev pub with_clocks_counted : CDataLink → CDataLink
 with_clocks_counted c = record c { link0 = counted false c.link0; link3 = counted (is_nonzero c.heard0) c.link3 }
 
--- the link that acts when a frame arrives: that which takes it, if any
+-- the link that takes a frame, if any
 abbrev pub is_taker : Option Sapi → Sapi → Bool
 is_taker (Some Zero) Zero = true
 is_taker (Some Three) Three = true
 is_taker taker sapi = false
+
+-- the links that act when this frame arrives: that which takes it, if any; a UI frame changes no link
+abbrev pub acts_on_frame : (taker : Option Sapi) (frame : Frame) → Sapi → Bool
+acts_on_frame taker f sapi = is_taker taker sapi && not (is_ui f.content)
 
 -- the links that act in a slot of this data link, whose clocks were moved: SAPI 3 only if SAPI 0 sends nothing
 abbrev pub acts_in_slot_of : DataLinkState → Sapi → Bool
@@ -237,7 +241,7 @@ pub record DataLinkChanges (change : DataLinkState → DataLinkState) (answer : 
 pub record DataLinkReceivesBlock (octets : List ℕ) (answer : ℕ) (before after : CDataLink) (report_old report : CReport) : Type 0 where
   pub carried_out : (s : DataLinkState) → RepresentsDataLink before s → (f : Frame) →
       IsOnlyEncodedFrame s.link0.endpoint.channel f octets →
-      SucceedsOver before (is_taker (sapi_for_frame f s)) (after_arrival f s) answer after
+      SucceedsOver before (acts_on_frame (sapi_for_frame f s) f) (after_arrival f s) answer after
   pub reported : (s : DataLinkState) → RepresentsDataLink before s → (f : Frame) →
       IsOnlyEncodedFrame s.link0.endpoint.channel f octets →
       report ≡ c_report (reports_if_taken (sapi_for_frame f s) (arrival_notices f s))
@@ -295,8 +299,8 @@ passed_to (Some sapi) f s = with_link sapi (after_frame f (link_with_sapi sapi s
 pub record FrameIsPassed (sapi : Option Sapi) (f : Frame) (s : DataLinkState) (before after : CDataLink) (notices : List Notice) : Type 0
   where
     pub represents : RepresentsDataLink after (passed_to sapi f s)
-    pub link0 : IsLinkWritten (is_taker sapi Zero) before.link0 after.link0
-    pub link3 : IsLinkWritten (is_taker sapi Three) before.link3 after.link3
+    pub link0 : IsLinkWritten (acts_on_frame sapi f Zero) before.link0 after.link0
+    pub link3 : IsLinkWritten (acts_on_frame sapi f Three) before.link3 after.link3
     pub reports : reports_if_taken sapi notices ≡ reports_if_taken sapi (notices_of_taking sapi f s)
 
 -- the UI frame with this message is written; the call returns the number of a refusal, 8 if no link has this SAPI, and 7 if the struct

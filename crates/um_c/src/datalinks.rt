@@ -3,7 +3,7 @@ ghost use Rattle.std.specs.Prelude.{ℕ, Bool, List, ◌≡◌, ◌≢◌, ◌�
 ghost use Rattle.std.specs.Prelude.{◌-◌, not, length, replicate, ◌++◌, if◌then◌else◌, Option, Some};
 ghost use Rattle.std.specs.Prelude.{None, true, false, IsTrue, IsSome, IfSome, MatchOption};
 ghost use Rattle.lapdm_frame.specs.declared.Channel.{Channel as ChannelOf};
-ghost use Rattle.lapdm_frame.specs.Content.{fill_frame, frame_of_view};
+ghost use Rattle.lapdm_frame.specs.Content.{fill_frame, frame_of_view, content_of_body};
 ghost use Rattle.lapdm_frame.specs.Frames.{octets_of, bit_of_bool, FrameFits};
 ghost use Rattle.um_air.specs.lapdm_window.declared.Sapi.TheVariants as P;
 ghost use Rattle.um_air.specs.lapdm_window.declared.Notice.TheVariants.{Closed};
@@ -15,8 +15,8 @@ ghost use Rattle.um_air.specs.lapdm_window.Ends.{command_cr};
 ghost use Rattle.um_air.specs.lapdm_window.Calls.{endpoint_call_of, IsCallAllowedFor, IsCallAllowedForEndpoint, Opens, OpensWithoutInfo};
 ghost use Rattle.um_air.specs.lapdm_window.Calls.{Sends, Closes};
 ghost use Rattle.lapdm_end.specs.Addresses.{spec_role_of};
-ghost use Rattle.lapdm_datalink.specs.Links.{LinkState, afresh, IsLinkCall, slot_outcome};
-ghost use Rattle.lapdm_datalink.specs.DataLinks.{DataLinkState, link_with_sapi, having_main, holds_up_sapi3};
+ghost use Rattle.lapdm_datalink.specs.Links.{LinkState, afresh, IsLinkCall, slot_outcome, after_frame, frame_notices};
+ghost use Rattle.lapdm_datalink.specs.DataLinks.{DataLinkState, link_with_sapi, having_main, holds_up_sapi3, is_ui};
 ghost use Rattle.lapdm_datalink.specs.Abstraction as L;
 ghost use Rattle.lapdm_datalink.specs.Abstraction.{channel_of as link_channel};
 ghost use Rattle.lapdm_datalink.specs.Parts.{acts_in_slot, values_of_parts, IsWritable, data_link_values_of, data_link_values_of_parts};
@@ -69,7 +69,7 @@ use lapdm_datalink::{
     DataLink, DataLinkView, Link, LinkSlot, LinkView, Slot, are_of_one_data_link, holds_up_sapi3,
 };
 use lapdm_end::{Call, Effects, MessageBuffer, Notice, Role, Sapi};
-use lapdm_frame::{BLOCK_OCTETS, Channel, FrameView, fill_on, read_on};
+use lapdm_frame::{BLOCK_OCTETS, Body, Channel, FrameView, fill_on, read_on};
 
 const SLOT_IS_FREE: u8 = 10;
 
@@ -464,7 +464,7 @@ fn hear(frame: &FrameView<'_>, data_link: &mut CDataLink)
     data_link.main = u8::from(data_link.main != 0);
 }
 
-/// Passes a frame to the link with this SAPI, if any, and writes this link; `held` is that of SAPI 0.
+/// Passes a frame to the link with this SAPI, if any, and writes this link if the frame may change it; `held` is that of SAPI 0.
 fn pass_frame(
     sapi: Option<Sapi>,
     frame: &FrameView<'_>,
@@ -480,15 +480,43 @@ fn pass_frame(
 {
     match sapi {
         None => {}
-        Some(Sapi::Zero) => {
-            held.take(frame, effects);
-            write_link(&held.parts(), &mut data_link.link0);
-        }
+        Some(Sapi::Zero) => pass_frame_to(&mut data_link.link0, frame, held, effects),
         Some(Sapi::Three) => {
             read_link(&data_link.link3, held);
-            held.take(frame, effects);
-            write_link(&held.parts(), &mut data_link.link3);
+            pass_frame_to(&mut data_link.link3, frame, held, effects);
         }
+    }
+}
+
+/// Passes a frame to the link in the struct, which is also in `held`, and writes it, but for a UI frame, which changes no link: most
+/// blocks are fill frames, and writing a link takes a quarter of the time.
+fn pass_frame_to(
+    c_struct: &mut CTimedEnd,
+    frame: &FrameView<'_>,
+    held: &mut Link,
+    effects: &mut Effects,
+)
+    requires { FrameFits (link_channel held.old) (frame_of_view frame.now) }
+    ensures represents { (l : LinkState) → RepresentsLink c_struct.old l → L.Represents held.old l
+        → RepresentsLink c_struct.new (after_frame (frame_of_view frame.now) l) }
+    ensures written { IsLinkWritten (not (is_ui (frame_of_view frame.now).content)) c_struct.old c_struct.new }
+    ensures notices { (l : LinkState) → L.Represents held.old l
+        → effects.new.notices ≡ frame_notices (frame_of_view frame.now) l }
+{
+    held.take(frame, effects);
+    if is_ui(&frame.body) {
+        return;
+    }
+    write_link(&held.parts(), c_struct);
+}
+
+/// Returns whether this is the body of a UI frame.
+fn is_ui(body: &Body<'_>) -> bool
+    ensures { result ≡ is_ui (content_of_body body.now) }
+{
+    match body {
+        Body::Ui { .. } => true,
+        _ => false,
     }
 }
 
