@@ -38,7 +38,7 @@ static void slot(void)
 		require(um_datalink_take(&sides[side], blocks[!side], &report) == UM_END_DONE);
 }
 
-/* Two data links, open on both SAPIs, and a message of 20 octets for one I frame. */
+/* Two data links, open on both SAPIs, a fill frame, and a message of 20 octets for one I frame. */
 static void begin(void)
 {
 	message.count = 20;
@@ -50,6 +50,7 @@ static void begin(void)
 	slot(), slot();
 	for (int side = 0; side < 2; side++)
 		require(sides[side].link0.end.state == UM_OPEN && sides[side].link3.end.state == UM_OPEN);
+	require(um_datalink_next(&sides[1], layer1, blocks[1], &report) == UM_END_FREE);
 }
 
 /* Both sides send a message on both SAPIs, and have it acknowledged: four slots, in each of which both send a frame and take one. One call

@@ -1,11 +1,12 @@
 -- One link of the struct of a data link read, changed and written, while the other stays.
 use Rattle.{
   std.{
-    proofs.Common.{◌≡◌, ◌∙◌, refl, sym, ap, subst, ℕ, Bool, true, false, List, ◌-◌, Option, Some, None, arith, ◌++◌},
+    proofs.Common.{◌≡◌, ◌∙◌, refl, sym, ap, subst, ℕ, Bool, true, false, List, [], ◌∷◌, ◌-◌, Option, Some, None},
+    proofs.Common.{arith, ◌++◌},
     specs.{Prelude.{if◌then◌else◌, ◌||◌, not}, Option.{is_none, option_map, unwrap_or}},
   },
   lapdm_frame.specs.{declared.{Channel.Channel, Refusal.Refusal}, Content.{Frame, fill_frame}, Frames.{octets_of, bit_of_bool, FrameFits}},
-  lapdm_frame.specs.Readings.{IsOnlyEncodedFrame, IsOnlyRefusalReason},
+  lapdm_frame.specs.{Content.{Content, Ui}, Readings.{IsOnlyEncodedFrame, IsOnlyRefusalReason}},
   lapdm_end.specs.{Addresses.spec_role_of, Parts.EndpointValues},
   um_air.specs.lapdm_window.{declared.{Sapi.{Sapi, TheVariants.{Zero, Three}}, Notice.Notice}, Ends.{Role, command_cr, IsValidEndpoint}},
   lapdm_datalink.{
@@ -17,7 +18,7 @@ use Rattle.{
       Parts.{LinkValues, ValuesRepresent, SomeLinkHasValues, DataLinkValues, AreOfOneDataLink, values_of, acts_in_slot},
       Abstraction.notices_if,
     },
-    proofs.Lemmas.{replaced, same_after_frame, same_slot, valid_with_flags, valid_clocks, sapi0_sends, sapi3_sends},
+    proofs.{Lemmas.{replaced, same_after_frame, same_slot, valid_with_flags, valid_clocks, sapi0_sends, sapi3_sends}, Lockstep.ui-same},
   },
   um_c.{
     specs.{
@@ -25,7 +26,7 @@ use Rattle.{
       DataLinkCalls.{passed_to, FrameIsPassed, AreRead, DataLinkReceivesBlock, DataLinkFillsSlot, c_report, reports_of, reports_if_taken},
       DataLinkCalls.{with_layer1, slot_answer, slot_frame, link_values_if_valid, link_values_from, data_link_values_if_valid},
       DataLinkCalls.{c_timed_end, counted, RepresentsLink, RepresentsDataLink, RepresentsSomeDataLink, IsLinkWritten, with_clocks_counted},
-      DataLinkCalls.{IsCanonicalLink, IsWrittenOver, IsWrittenFor, SlotIsFilled, acts_on_frame},
+      DataLinkCalls.{IsCanonicalLink, IsWrittenOver, IsWrittenFor, SlotIsFilled, acts_on_frame, is_empty_ui},
       Plain.is_nonzero,
       States.endpoint_values_from,
     },
@@ -340,6 +341,36 @@ module _ (c after : CDataLink) (f : Frame) (s : DataLinkState) (notices : List N
 pub passed_to_none : (c : CDataLink) (f : Frame) (s : DataLinkState) (notices : List Notice) → RepresentsDataLink c s →
     FrameIsPassed None f s c c notices
 passed_to_none c f s notices h = record { represents = h; link0 = refl; link3 = refl; reports = refl }
+
+-- nor is a UI frame without information passed to any: it would change nothing and report nothing
+empty_ui_changes : (n : ℕ) (cr : Bool) (k : Content) (l : LinkState) → is_empty_ui k ≡ true →
+    (after_frame (record { sapi = n; cr = cr; content = k }) l ≡ l)
+    × (frame_notices (record { sapi = n; cr = cr; content = k }) l ≡ []) × (is_ui k ≡ true)
+empty_ui_changes n cr (Ui p []) l h = (ui-same n cr (Ui p []) l refl, grind arith, refl)
+empty_ui_changes n cr (Ui p (x ∷ xs)) l h = absurd cc
+empty_ui_changes n cr k l h = absurd cc
+
+pub passed_empty_ui : (sapi : Option Sapi) (c : CDataLink) (f : Frame) (s : DataLinkState) → RepresentsDataLink c s →
+    is_empty_ui f.content ≡ true → FrameIsPassed sapi f s c c []
+passed_empty_ui None c f s h e = passed_to_none c f s [] h
+passed_empty_ui (Some Zero) c f s h e =
+    let g = empty_ui_changes f.sapi f.cr f.content s.link0 e in record {
+      represents = rw g.0 h;
+      link0 = rw g.2 refl;
+      link3 = refl;
+      reports = ap (reports_of Zero) (sym g.1);
+    }
+passed_empty_ui (Some Three) c f s h e =
+    let g = empty_ui_changes f.sapi f.cr f.content s.link3 e in record {
+      represents = rw g.0 h;
+      link0 = refl;
+      link3 = rw g.2 refl;
+      reports = ap (reports_of Three) (sym g.1);
+    }
+
+pub no_reports : (sapi : Option Sapi) → [] ≡ reports_if_taken sapi []
+no_reports None = refl
+no_reports (Some sapi) = refl
 
 taken_is : (sapi : Option Sapi) (f : Frame) (s : DataLinkState) →
     record (passed_to sapi f s) { heard_sapi0 = (passed_to sapi f s).heard_sapi0 || holds_up_sapi3 f } ≡ taken_by sapi f s

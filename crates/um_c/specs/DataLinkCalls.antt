@@ -5,7 +5,7 @@ use Rattle.std.specs.Option.{is_none, option_map}
 use Rattle.lapdm_frame.specs.declared.Channel.{Channel}
 use Rattle.lapdm_frame.specs.declared.Channel.TheVariants.{Sdcch, Sacch}
 use Rattle.lapdm_frame.specs.declared.Refusal.{Refusal}
-use Rattle.lapdm_frame.specs.Content.{Frame, fill_frame}
+use Rattle.lapdm_frame.specs.Content.{Content, Ui, Frame, fill_frame}
 use Rattle.lapdm_frame.specs.Frames.{octets_of, bit_of_bool}
 use Rattle.lapdm_frame.specs.Readings.{IsOnlyEncodedFrame, IsOnlyRefusalReason}
 use Rattle.um_air.specs.segmenting.Segments.{Message}
@@ -167,6 +167,11 @@ pub record AreRead (c : CDataLink) (link0 : Link) (acts3 : Bool) : Type 0 where
   pub some : RepresentsSomeDataLink c
   pub link0_is : (s : DataLinkState) → RepresentsDataLink c s → L.Represents link0 s.link0
   pub acts3_is : (s : DataLinkState) → RepresentsDataLink c s → acts3 ≡ acts_in_slot (with_clocks_moved s).link3
+
+-- whether this is the content of a UI frame without information, such as the fill frame: no link reports it
+abbrev pub is_empty_ui : Content → Bool
+is_empty_ui (Ui p []) = true
+is_empty_ui other = false
 
 -- ---- reports
 

@@ -56,6 +56,7 @@ ghost use Rattle.um_c.specs.DataLinkCalls.{
   AreRead,
   SlotIsFilled,
   FrameIsPassed,
+  is_empty_ui,
   with_layer1,
   DataLinkFillsSlot,
   DataLinkEncodesUnit,
@@ -398,7 +399,6 @@ pub extern "C" fn um_datalink_take(
 ) -> u8
     ensures { DataLinkReceivesBlock octets.now result data_link.old data_link.new report.old report.new }
 {
-    let mut effects = Effects::new();
     let mut held = placeholder_link();
     let Some(_) = read_links(data_link, &mut held) else {
         return INVALID_ENDPOINT;
@@ -406,6 +406,13 @@ pub extern "C" fn um_datalink_take(
     let Ok(frame) = read_on(octets, held.channel()) else {
         return INVALID_FRAME;
     };
+    // Most blocks are fill frames, which change no link and report nothing: for them no effects are filled with zeros.
+    if is_empty_ui(&frame.body) {
+        hear(&frame, data_link);
+        write_taken(None, &[], report);
+        return 0;
+    }
+    let mut effects = Effects::new();
     let sapi = held.sapi_for(&frame, data_link.main != 0);
     pass_frame(sapi, &frame, &mut held, &mut effects, data_link);
     hear(&frame, data_link);
@@ -488,8 +495,7 @@ fn pass_frame(
     }
 }
 
-/// Passes a frame to the link in the struct, which is also in `held`, and writes it, but for a UI frame, which changes no link: most
-/// blocks are fill frames, and writing a link takes a quarter of the time.
+/// Passes a frame to the link in the struct, which is also in `held`, and writes it, but for a UI frame, which changes no link.
 fn pass_frame_to(
     c_struct: &mut CTimedEnd,
     frame: &FrameView<'_>,
@@ -508,6 +514,16 @@ fn pass_frame_to(
         return;
     }
     write_link(&held.parts(), c_struct);
+}
+
+/// Returns whether this is the body of a UI frame without information, such as the fill frame.
+fn is_empty_ui(body: &Body<'_>) -> bool
+    ensures { result ≡ is_empty_ui (content_of_body body.now) }
+{
+    match body {
+        Body::Ui { info, .. } => info.is_empty(),
+        _ => false,
+    }
 }
 
 /// Returns whether this is the body of a UI frame.
