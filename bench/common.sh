@@ -1,3 +1,4 @@
+# shellcheck shell=bash
 # Functions that the measurements of the program share. Each script sources this file.
 set -eu
 here=$(cd "$(dirname "${BASH_SOURCE[0]}")" && pwd)
@@ -57,9 +58,9 @@ prepare_calls() {
   mkdir -p "$work/copy/crates/radio_cost/src"
   cp "$top/HANDLES" "$work/copy/"
   "$top/tools/below" um_block >"$work/copy/crates.txt"
-  for crate in $(cut -d: -f1 "$work/copy/crates.txt"); do
+  while IFS=: read -r crate _; do
     cp -r "$top/crates/$crate" "$work/copy/crates/"
-  done
+  done <"$work/copy/crates.txt"
   echo 'radio_cost: um_block anyhow' >>"$work/copy/crates.txt"
   cp "$here/radio/program.txt" "$work/copy/crates/radio_cost/src/main.rt"
   (cd "$work/copy/crates/radio_cost" && rt run >"$work/build" 2>&1) || { tail -20 "$work/build"; exit 1; }

@@ -29,8 +29,8 @@ for commit in "${@:-HEAD}"; do
   git clone -q "$top" "$clone"
   cd "$clone"
   git checkout -q "$commit"
-  rules >rules
-  make -s -j4 -f rules all
+  rules >"$work/rules"
+  make -s -j4 -f "$work/rules" all
   for seconds in *.seconds; do
     echo "$commit ${seconds%.seconds} $(bc <"$seconds")"
   done

@@ -6,6 +6,9 @@ import sys
 
 TOP = os.path.join(os.path.dirname(os.path.abspath(__file__)), "..")
 CHECK = os.path.basename(sys.argv[0])
+# as in common.sh
+os.environ.setdefault("UM_LOCALE", next((os.environ[name] for name in ("LC_ALL", "LC_CTYPE", "LANG") if os.environ.get(name)), ""))
+os.environ["LC_ALL"] = "C.UTF-8"
 
 
 def skip(part, reason):
@@ -33,7 +36,8 @@ def invocations():
 
 def lack_of_program():
     """Why ./um starts no program here, or nothing."""
-    done = subprocess.run([os.path.join(TOP, "um"), "make", "1", "0"], stdin=subprocess.DEVNULL, capture_output=True, text=True, check=False)
+    done = subprocess.run([os.path.join(TOP, "um"), "make", "1", "0"], stdin=subprocess.DEVNULL, capture_output=True, text=True,
+                          check=False)
     said = done.stderr.strip().removeprefix("um: ").split(", ")[0].split(": ")[0]
     return f"no program here: {said}" if done.returncode == 127 else ""
 

@@ -1,5 +1,8 @@
+# shellcheck shell=bash disable=SC2154
 # Functions that the checks share. Each bash script sources this file from the repository's root.
 check=${0##*/}
+# the user's locale, for what is tried in it; ranges as [a-z], sorting and lower case are those of C in the checks themselves
+export UM_LOCALE=${UM_LOCALE-${LC_ALL:-${LC_CTYPE:-${LANG:-}}}} LC_ALL=C.UTF-8
 
 # dist_is_ours: whether dist/ was built from these sources
 dist_is_ours() {
@@ -28,10 +31,12 @@ exports() {
   sed 's|/\*.*\*/||; /\/\*/,/\*\//d; s|//.*||; /^#/d' bindings/c/um.h | grep -oE '\bum_[a-z0-9_]+ *\(' | tr -d ' (' | LC_ALL=C sort -u
 }
 
-# runs WHAT COMMAND..: runs a part of the check, and shows its output if it fails. Needs $work and $failed
+# runs WHAT COMMAND..: runs a part of the check, and shows its output if it fails; if UM_PART is set, only the parts whose names it matches
+# as a regular expression. Needs $work and $failed
 runs() {
   local what=$1
   shift
+  [[ $what =~ ${UM_PART:-} ]] || return 0
   ran=yes
   if "$@" >"$work/log" 2>&1; then
     grep "^$check:" "$work/log" || echo "$check: $what"
@@ -108,8 +113,8 @@ has_cargo() {
 }
 
 # the emulator of ARM64, from qemu-user or qemu-user-static
-qemu=qemu-aarch64
-command -v "$qemu" >/dev/null || qemu=qemu-aarch64-static
+qemu='qemu-aarch64'
+is_here "$qemu" || qemu='qemu-aarch64-static'
 
 # osmo_sources: the directory of libosmocore's sources, if there is one
 osmo_sources() {
@@ -125,4 +130,16 @@ find_program() {
   program=crates/um/out/um
   ! dist_is_ours || [ ! -x "dist/$(uname -m)-linux/um" ] || program=dist/$(uname -m)-linux/um
   [ -x "$program" ]
+}
+
+# plan CHECK: the most seconds that it may take, its suite (all; whole: not in a quick run; name: only if named), `alone` or `together`, and
+# its name. A check's head may say them in a line `# Runs: whole, alone, 2700 s: REASON`
+plan() {
+  local line suite=all how=together limit=1800
+  line=$(sed -n '2,12s/^# Runs: \([^:]*\).*/, \1,/p' "checks/$1")
+  [[ $line != *', whole,'* ]] || suite=whole
+  [[ $line != *', by name,'* ]] || suite=name
+  [[ $line != *', alone,'* ]] || how=alone
+  [[ ! $line =~ ', '([0-9]+)' s,' ]] || limit=${BASH_REMATCH[1]}
+  echo "$limit $suite $how $1"
 }

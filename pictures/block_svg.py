@@ -30,7 +30,8 @@ class Picture:
 
     def cell(self, x, y, wide, high, fill, marked, title):
         edge = ' stroke="#1a202c" stroke-width="1.3"' if marked else ""
-        self.out.append(f'<rect x="{x:.2f}" y="{y:g}" width="{wide - 0.5:.2f}" height="{high}" fill="{fill}"{edge}><title>{title}</title></rect>')
+        self.out.append(f'<rect x="{x:.2f}" y="{y:g}" width="{wide - 0.5:.2f}" height="{high}" fill="{fill}"{edge}>'
+                        f'<title>{title}</title></rect>')
 
     def heading(self, words):
         self.text(LEFT, self.y, words, 12, colour="#4a5568")
@@ -81,7 +82,8 @@ def draw(um, tsc, octets, octet):
             half = at - 3 if 3 <= at < 60 else at - 31 if 88 <= at < 145 else None
             k = index.get((burst, half))
             title = f"burst {burst}, position {at}: " + ("fixed" if k is None else f"c({k}) = {sums(k)}") + f" = {bit}"
-            picture.cell(LEFT + at * CELL, picture.y, CELL, 18, tone(FIXED if k is None else COLOURS[burst], bit), k is not None and marked[k], title)
+            fill = tone(FIXED if k is None else COLOURS[burst], bit)
+            picture.cell(LEFT + at * CELL, picture.y, CELL, 18, fill, k is not None and marked[k], title)
         picture.y += 25
     picture.y += 16
     picture.heading("and back: what is received of these bursts")

@@ -39,7 +39,8 @@ def main():
     width, height = LEFT + 51 * WIDTH + 4, TOP + 2 * (len(ROWS) + 2) * HEIGHT - 30
     legend = "F FCCH, S SCH, B BCCH, C CCCH (block), D SDCCH and A SACCH (subchannel); white: RACH; hatched: idle"
     print('<svg xmlns="http://www.w3.org/2000/svg" viewBox="0 0 %d %d" font-family="sans-serif" font-size="12">' % (width, height))
-    print("<style>rect{stroke:#555;stroke-width:.5}.idle{fill:url(#h)}.c{text-anchor:middle;font-size:11px}.n{font-size:10px;fill:#555}</style>")
+    print("<style>rect{stroke:#555;stroke-width:.5}.idle{fill:url(#h)}.c{text-anchor:middle;font-size:11px}"
+          ".n{font-size:10px;fill:#555}</style>")
     print('<pattern id="h" width="4" height="4" patternUnits="userSpaceOnUse"><path d="M0 4L4 0" stroke="#999"/></pattern>')
     print('<rect width="%d" height="%d" fill="#fff" style="stroke:none"/>' % (width, height))
     print("\n".join(out))

@@ -55,7 +55,8 @@ def main():
     found = places(asked.parse_args().um)
     x_of = lambda k: LEFT + k * WIDE / 456
     y_of = lambda place: TOP + place * HIGH / 114
-    out = [f'<text x="{LEFT}" y="22" font-size="14">The coded bits of a block: bit k, from left to right, and its position in its burst</text>']
+    title = "The coded bits of a block: bit k, from left to right, and its position in its burst"
+    out = [f'<text x="{LEFT}" y="22" font-size="14">{title}</text>']
     for burst, colour in enumerate(COLOURS):
         out.append(f'<circle cx="{LEFT + 6 + 110 * burst}" cy="40" r="4" fill="{colour}"/>'
                    f'<text x="{LEFT + 16 + 110 * burst}" y="44" font-size="12">burst {burst}</text>')
@@ -63,12 +64,14 @@ def main():
         out.append(f'<text x="{LEFT - 8}" y="{y_of(place) + (0 if place != 57 else 9):g}" font-size="10" text-anchor="end">{place}</text>')
     out.append(f'<rect x="{LEFT}" y="{TOP}" width="{WIDE}" height="{HIGH}" fill="none" stroke="#cbd5e0"/>')
     out.append(f'<path d="M{LEFT} {y_of(56.5):g}h{WIDE}" stroke="#a0aec0" stroke-dasharray="4 4"/>')
-    out += [f'<circle cx="{x_of(k + 0.5):.1f}" cy="{y_of(place + 0.5):.1f}" r="1.9" fill="{COLOURS[burst]}"/>' for k, (burst, place) in enumerate(found)]
+    out += [f'<circle cx="{x_of(k + 0.5):.1f}" cy="{y_of(place + 0.5):.1f}" r="1.9" fill="{COLOURS[burst]}"/>'
+            for k, (burst, place) in enumerate(found)]
     for k in range(0, 457, 57):
         out.append(f'<text x="{x_of(k):g}" y="{TOP + HIGH + 16}" font-size="10" text-anchor="middle">{k}</text>')
     wide, high = LEFT + WIDE + 30, TOP + HIGH + 30
     print(f'<svg xmlns="http://www.w3.org/2000/svg" width="{wide}" height="{high}" viewBox="0 0 {wide} {high}" '
-          'font-family="DejaVu Sans Mono, monospace" fill="#1a202c">', f'<rect width="{wide}" height="{high}" fill="white"/>', *out, "</svg>", sep="\n")
+          'font-family="DejaVu Sans Mono, monospace" fill="#1a202c">', f'<rect width="{wide}" height="{high}" fill="white"/>', *out,
+          "</svg>", sep="\n")
 
 
 if __name__ == "__main__":

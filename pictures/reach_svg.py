@@ -67,7 +67,8 @@ def axes():
     for decibels in (-2, -1.5, -1, -0.5, 0, 0.5, 1):
         yield f'<path class="grid" d="M{x_of(decibels):.1f} {TOP}V{NONE}"/>'
         yield f'<text class="faint" x="{x_of(decibels):.1f}" y="{NONE + 20}" text-anchor="middle">{decibels:g}</text>'
-    yield f'<text class="faint" x="{LEFT + WIDE / 2:g}" y="{NONE + 40}" text-anchor="middle">Es/N0 of a coded bit in dB: more noise to the left</text>'
+    yield (f'<text class="faint" x="{LEFT + WIDE / 2:g}" y="{NONE + 40}" text-anchor="middle">'
+           'Es/N0 of a coded bit in dB: more noise to the left</text>')
 
 
 def curve(points, name):

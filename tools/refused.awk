@@ -104,7 +104,8 @@ function tell_of_words(   part, i, n, most, best, other) {
   }
   if (!best) {
     other = reader_of()
-    if (word[1] == "refused" && word[2] ~ /^[0-9]+$/) tell("the command before this one refused line " word[2] " of its input (" word[3] ")", 1)
+    if (word[1] == "refused" && word[2] ~ /^[0-9]+$/)
+      tell("the command before this one refused line " word[2] " of its input (" word[3] ")", 1)
     if (other) tell("um " other " reads such lines, but " called " does not", 1)
     tell(quoted(word[1]) " does not start a line of " called "; lines start with " first_words(part, n), 1)
   }

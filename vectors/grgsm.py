@@ -10,8 +10,8 @@ import numpy
 
 HERE = os.path.dirname(os.path.abspath(__file__))
 sys.path.insert(0, os.path.join(HERE, "..", "checks", "receiver_parts"))
-from cell import CYCLE, cell
-from radio import FRAME, SAMPLES, modulated, noise, received
+from cell import CYCLE, cell  # noqa: E402
+from radio import FRAME, SAMPLES, modulated, noise, received  # noqa: E402
 
 FIRST, TSC = 2160 * CYCLE, 5
 

@@ -11,9 +11,9 @@ trap 'rm -rf "$work"' EXIT
 mkdir -p "$work/copy/crates/codec_parts/src"
 cp "$top/HANDLES" "$work/copy/"
 "$top/tools/below" um_block > "$work/copy/crates.txt"
-for crate in $(cut -d: -f1 "$work/copy/crates.txt"); do
+while IFS=: read -r crate _; do
 	cp -r "$top/crates/$crate" "$work/copy/crates/"
-done
+done < "$work/copy/crates.txt"
 echo 'codec_parts: bit_blocks fire_code conv_code interleave training_seq um_block anyhow' >> "$work/copy/crates.txt"
 cp "$here/program.txt" "$work/copy/crates/codec_parts/src/main.rt"
 (cd "$work/copy/crates/codec_parts" && rt run > "$work/build" 2>&1) || { tail -20 "$work/build"; exit 1; }

@@ -11,9 +11,9 @@ trap 'rm -rf "$work"' EXIT
 mkdir -p "$work/copy/crates/bench_margin/src"
 cp "$top/HANDLES" "$work/copy/"
 "$top/tools/below" list_decode > "$work/copy/crates.txt"
-for crate in $(cut -d: -f1 "$work/copy/crates.txt"); do
+while IFS=: read -r crate _; do
 	cp -r "$top/crates/$crate" "$work/copy/crates/"
-done
+done < "$work/copy/crates.txt"
 echo 'bench_margin: bit_blocks conv_code trellis_decode list_decode anyhow' >> "$work/copy/crates.txt"
 cp "$here/margin.txt" "$work/copy/crates/bench_margin/src/main.rt"
 (cd "$work/copy/crates/bench_margin" && rt run > "$work/build" 2>&1) || { tail -20 "$work/build"; exit 1; }

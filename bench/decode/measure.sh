@@ -8,15 +8,16 @@ top=$(cd "$here/../.." && pwd)
 work=$(mktemp -d)
 trap 'rm -rf "$work"' EXIT
 
-gcc -O2 -o "$work/peer" "$here/peer.c" $(pkg-config --cflags --libs libosmocoding libosmogsm libosmocore)
+read -ra flags < <(pkg-config --cflags --libs libosmocoding libosmogsm libosmocore)
+gcc -O2 -o "$work/peer" "$here/peer.c" "${flags[@]}"
 
 # A copy of the crates with an additional program, which is proved and built like the others.
 mkdir -p "$work/copy/crates/bench_decode/src"
 cp "$top/HANDLES" "$work/copy/"
 "$top/tools/below" trellis_decode > "$work/copy/crates.txt"
-for crate in $(cut -d: -f1 "$work/copy/crates.txt"); do
+while IFS=: read -r crate _; do
 	cp -r "$top/crates/$crate" "$work/copy/crates/"
-done
+done < "$work/copy/crates.txt"
 echo 'bench_decode: bit_blocks conv_code trellis_decode anyhow' >> "$work/copy/crates.txt"
 cp "$here/program.txt" "$work/copy/crates/bench_decode/src/main.rt"
 (cd "$work/copy/crates/bench_decode" && rt run > "$work/build" 2>&1) || { tail -20 "$work/build"; exit 1; }
@@ -34,6 +35,7 @@ instructions() {
 		awk '/ refs:/ { gsub(",", "", $NF); printf "%d", $NF / 100000 }'
 }
 if command -v valgrind > "$work/where"; then
-	echo "instructions: osmo_conv_decode $(instructions "$work/peer"), decode $(instructions "$work/copy/crates/bench_decode/out/bench_decode")"
+	echo "instructions: osmo_conv_decode $(instructions "$work/peer")," \
+		"decode $(instructions "$work/copy/crates/bench_decode/out/bench_decode")"
 fi
 echo "osmo_conv_decode $theirs ns, decode $ours ns, ratio $(awk "BEGIN { printf \"%.2f\", $ours / $theirs }")"

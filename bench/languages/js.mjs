@@ -7,12 +7,20 @@ const hard = softFromBits(um.sendBlock(octets, 5));
 const soft = hard.slice();
 soft[3] = Math.sign(soft[3]) * 126;
 const rows = (list) => [0, 1, 2, 3].map((i) => list.slice(148 * i, 148 * i + 148));
+// the call of the module alone, on soft bits that lie in its memory
+const { memory, __heap_base: base, um_receive_block: receive } = um.exports;
+const at = (Number(base.value) + 63) & ~63;
+new Int8Array(memory.buffer).set(soft, at);
+const [AT, REPORT] = [BigInt(at), BigInt(at + 1024)];
+const ALONE = "um_receive_block alone, soft bits";
+// of each call how much more than the module alone it may take
 const CALLS = {
-  "receiveBlock, an Int8Array, soft bits": [null, () => um.receiveBlock(soft)],
-  "receiveBlock, an Int8Array, hard bits": [2.5, () => um.receiveBlock(hard)],
-  "receiveBlock, four Int8Array": [4.5, () => um.receiveBlock(four)],
-  "receiveBlock, an array of 592": [4.5, () => um.receiveBlock(list)],
-  "receiveBlock, four arrays of 148": [4.5, () => um.receiveBlock(lists)],
+  [ALONE]: [null, () => receive(AT, REPORT)],
+  "receiveBlock, an Int8Array, soft bits": [0.8, () => um.receiveBlock(soft)],
+  "receiveBlock, an Int8Array, hard bits": [0.8, () => um.receiveBlock(hard)],
+  "receiveBlock, four Int8Array": [1.1, () => um.receiveBlock(four)],
+  "receiveBlock, an array of 592": [3, () => um.receiveBlock(list)],
+  "receiveBlock, four arrays of 148": [3, () => um.receiveBlock(lists)],
   "receiveBlockAmong, 64 words": [null, () => um.receiveBlockAmong(soft, 64)],
   "sendBlock": [null, () => um.sendBlock(octets, 5)],
 };
@@ -28,4 +36,7 @@ for (let round = 0; round < 300; round++) {
   }
 }
 console.log(`JavaScript, node ${process.versions.node}`);
-for (const [name, [mark]] of Object.entries(CALLS)) console.log(`  ${name}: ${best[name].toFixed(2)}${mark ? `, mark ${mark}` : ""}`);
+for (const [name, [more]] of Object.entries(CALLS)) {
+  const mark = more && (best[ALONE] + more).toFixed(2);
+  console.log(`  ${name}: ${best[name].toFixed(2)}${mark ? `, mark ${mark}${best[name] > mark ? ", over it" : ""}` : ""}`);
+}

@@ -31,7 +31,7 @@ def main():
     words = um.receive_blocks(few)["word"][:, :224].copy()
     print("Python, loops in", "C" if _each._in_c else "Python")
     marks = {
-        "receive_blocks": (0.8, lambda: um.receive_blocks(few)),
+        "receive_blocks": (1.6, lambda: um.receive_blocks(few)),
         "receive_blocks_among, 64 words": (None, lambda: um.receive_blocks_among(few, 64)),
         "send_blocks": (None, lambda: um.send_blocks(octets[:FEW], 3)),
         "margin_blocks": (None, lambda: um.margin_blocks(few)),
@@ -39,15 +39,15 @@ def main():
         "receive_syncs, a burst": (None, lambda: um.receive_syncs(few[:, 0])),
         "repair_words, a word": (None, lambda: um.repair_words(words)),
         "read_frames, a frame": (None, lambda: um.read_frames(octets[:FEW])),
-        "soft_from_llr, float32": (1.3, lambda: um.soft_from_llr(ratios)),
-        "soft_from_bits": (0.1, lambda: um.soft_from_bits(bursts[:FEW])),
+        "soft_from_llr, float32": (1.8, lambda: um.soft_from_llr(ratios)),
+        "soft_from_bits": (0.35, lambda: um.soft_from_bits(bursts[:FEW])),
         "receive_block, one": (None, lambda: [um.receive_block(block) for block in few]),
         "send_block, one": (None, lambda: [um.send_block(block, 3) for block in octets[:FEW]]),
     }
     for name, seconds in least({name: call for name, (_, call) in marks.items()}, ROUNDS).items():
         mark = marks[name][0]
         print(f"  {name}: {seconds / FEW * 1e6:.2f}" + (f", mark {mark}" if mark else ""))
-    for threads, mark in ((1, 0.8), (2, None), (4, 0.25)):
+    for threads, mark in ((1, 1.2), (2, 0.7), (4, 0.6)):
         parts = numpy.array_split(soft, threads)
         with ThreadPoolExecutor(threads) as pool:
             seconds = least({"": lambda: list(pool.map(um.receive_blocks, parts))}, 15)[""]

@@ -11,8 +11,8 @@
 
 #define POOL 1024
 static uint8_t octets[POOL][23];
-static int8_t ours[POOL][4][148];
-static sbit_t theirs[POOL][464];
+static int8_t ours[POOL][4][148], halves[POOL][8][148];
+static sbit_t theirs[POOL][464], their_halves[POOL][928];
 static volatile unsigned sink;
 
 static uint32_t chance(void)
@@ -27,6 +27,19 @@ static double now(void)
 	struct timespec time;
 	clock_gettime(CLOCK_MONOTONIC, &time);
 	return (double)time.tv_sec * 1e9 + (double)time.tv_nsec;
+}
+
+/* The block in its halves of the eight bursts of FACCH/F, of which the other halves are of the block before. */
+static void carry(int p)
+{
+	for (int b = 0; b < 8; b++) {
+		for (int i = 0; i < 148; i++) {
+			int own = i % 2 == (b < 4);
+			halves[p][b][i] = ours[own ? p : (p + POOL - 1) % POOL][b % 4][i];
+		}
+		memcpy(their_halves[p] + 116 * b, halves[p][b] + 3, 58);
+		memcpy(their_halves[p] + 116 * b + 58, halves[p][b] + 87, 58);
+	}
 }
 
 /* Blocks of random octets, without noise or with noise on every bit. */
@@ -51,6 +64,8 @@ static void fill(int is_noisy)
 			memcpy(theirs[p] + 116 * b + 58, ours[p][b] + 87, 58);
 		}
 	}
+	for (int p = 0; p < POOL; p++)
+		carry(p);
 }
 
 static void send(long calls)
@@ -87,6 +102,41 @@ static void osmo_decode(long calls)
 		sink += gsm0503_xcch_decode(block, theirs[i % POOL], &errors, &bits) == 0;
 }
 
+static void send_facch(long calls)
+{
+	static uint8_t block[4][148], bursts[8][148];
+	for (long i = 0; i < calls; i++) {
+		sink += um_send_block(octets[i % POOL], i & 7, block) && um_steal_facch_f((const uint8_t (*)[148])block, bursts);
+		sink += bursts[i & 7][i % 148];
+	}
+}
+
+static void osmo_encode_facch(long calls)
+{
+	static ubit_t bursts[928];
+	for (long i = 0; i < calls; i++) {
+		gsm0503_tch_fr_encode(bursts, octets[i % POOL], 23, 1);
+		sink += bursts[i % 928];
+	}
+}
+
+static void receive_facch(long calls)
+{
+	int8_t block[4][148];
+	um_block_report report;
+	for (long i = 0; i < calls; i++)
+		sink += um_join_facch_f((const int8_t (*)[148])halves[i % POOL], block) && um_receive_block((const int8_t (*)[148])block, &report)
+			&& report.accepted;
+}
+
+static void osmo_decode_facch(long calls)
+{
+	uint8_t block[128];
+	int errors, bits;
+	for (long i = 0; i < calls; i++)
+		sink += gsm0503_tch_fr_decode(block, their_halves[i % POOL], 1, 0, &errors, &bits) == 23;
+}
+
 static void read_frame(long calls)
 {
 	static const uint8_t block[23] = { 1, 0x20, 0x53, 1, 2, 3 };
@@ -109,7 +159,9 @@ int main(int argc, char **argv)
 {
 	static const struct { const char *name; void (*work)(long); } works[] = {
 		{ "um_send_block", send },       { "gsm0503_xcch_encode", osmo_encode }, { "um_receive_block", receive },
-		{ "gsm0503_xcch_decode", osmo_decode }, { "um_read_frame", read_frame },        { "um_write_frame", write_frame },
+		{ "gsm0503_xcch_decode", osmo_decode }, { "um_steal_facch_f", send_facch }, { "gsm0503_tch_fr_encode", osmo_encode_facch },
+		{ "um_join_facch_f", receive_facch }, { "gsm0503_tch_fr_decode", osmo_decode_facch }, { "um_read_frame", read_frame },
+		{ "um_write_frame", write_frame },
 	};
 	enum { WORKS = sizeof works / sizeof *works };
 	long calls = argc > 1 ? atol(argv[1]) : 20000;
@@ -128,7 +180,8 @@ int main(int argc, char **argv)
 			}
 		for (int i = 0; i < WORKS; i++)
 			printf("%-6s %-22s %8.0f ns\n", is_noisy ? "noisy" : "sure", works[i].name, least[i] / (double)calls);
-		printf("%-6s send %.2f and receive %.2f of libosmocoding's time\n", is_noisy ? "noisy" : "sure", least[0] / least[1], least[2] / least[3]);
+		printf("%-6s send %.2f and receive %.2f of libosmocoding's time, FACCH %.2f and %.2f\n", is_noisy ? "noisy" : "sure",
+			least[0] / least[1], least[2] / least[3], least[4] / least[5], least[6] / least[7]);
 	}
 	return 0;
 }

@@ -12,9 +12,9 @@ trap 'rm -rf "$work"' EXIT
 mkdir -p "$work/copy/crates/link_cost/src"
 cp "$top/HANDLES" "$work/copy/"
 "$top/tools/below" um_link > "$work/copy/crates.txt"
-for crate in $(cut -d: -f1 "$work/copy/crates.txt"); do
+while IFS=: read -r crate _; do
 	cp -r "$top/crates/$crate" "$work/copy/crates/"
-done
+done < "$work/copy/crates.txt"
 echo 'link_cost: lapdm_window um_block um_link anyhow' >> "$work/copy/crates.txt"
 cp "$here/program.txt" "$work/copy/crates/link_cost/src/main.rt"
 (cd "$work/copy/crates/link_cost" && rt run > "$work/build" 2>&1) || { tail -20 "$work/build"; exit 1; }

@@ -5,7 +5,10 @@ with 64, each with and without four erasures (E).
 usage: wrong_accepts.py light.json SAMPLES SIGMA..
 
 light.json comes from light_codewords.py. With JAM=1 in the environment one burst of each block is random bits."""
-import json, math, os, sys
+import json
+import math
+import os
+import sys
 import numpy as np
 import um
 
@@ -17,7 +20,8 @@ rng = np.random.default_rng(11)
 coded = np.zeros((4, 148), bool)
 coded[:, 3:60] = coded[:, 88:145] = True
 kinds = {}
-for w, places in light: kinds.setdefault(w, []).append(places)
+for w, places in light:
+    kinds.setdefault(w, []).append(places)
 
 
 def sent(data):
@@ -62,7 +66,8 @@ for sigma in map(float, sys.argv[3:]):
             n = 4000
             o = rng.integers(0, 2, (n, 184), dtype=np.uint8)
             e = np.zeros((n, 224), np.uint8)
-            for i, k in enumerate(rng.integers(0, len(words), n)): e[i, words[k]] = 1
+            for i, k in enumerate(rng.integers(0, len(words), n)):
+                e[i, words[k]] = 1
             o2 = o ^ e[:, :184]
             a, b = sent(o), sent(o2)
             d = (a != b) & coded

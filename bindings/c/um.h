@@ -1,7 +1,8 @@
 /* um.h - GSM's dedicated signalling link: blocks, bursts, LAPDm frames and endpoints. The results of every call are proved.
  *
  * Link with libum.a or libum.so.0 from dist/x86_64-linux or dist/aarch64-linux. `rt lib` in crates/um_c proves and builds the same
- * archive as out/libum_c.a. The library needs only memcpy, memmove and memset.
+ * archive as out/libum_c.a. The library needs only memcpy, memmove and memset. On x86-64 Linux it runs on every processor, and from level
+ * v2 on (SSE4.2, POPCNT; 2009 or later) takes two thirds of the time; on Windows and macOS it needs that level.
  *
  * One header for all calls, so that there is one to include and to copy; um_more.h, um_soft.h and um_osmo.h stand beside it.
  *
@@ -10,13 +11,16 @@
  *   from -127 (certainly 1) to 127 (certainly 0); 0 means unknown (libosmocore's sbit_t). -128 is refused.
  *   A block is 23 octets, each sent least significant bit first.
  *   No call allocates memory, keeps state between calls, blocks or prints. Every call is thread-safe, but two threads must not use
- *   the same um_end or um_side at the same time. um_receive_block_among uses 18 KB of stack, every other call less than 10 KB.
+ *   the same um_end, um_side, um_slot or um_datalink at the same time.
+ *   um_traffic_take, um_traffic_miss, um_traffic_end, um_receive_facch_f_erasing and um_receive_facch_h_erasing take at most 36 KB of
+ *   stack, um_receive_block_erasing, um_slot_take, um_slot_miss and um_slot_end 32 KB, um_receive_block_among 18 KB, every other call at
+ *   most 10 KB.
  *   Pointers must not be null (gcc and clang warn where they can tell), must point to as many elements as the type says, and must be
  *   aligned for that type. Output must not overlap any other argument. The library cannot test this; a call that breaks it has
  *   undefined behaviour.
  *   A call that refuses its arguments writes nothing.
  *   The caller owns all state: a um_end holds one endpoint, a um_side the endpoints of both links of a channel.
- *   To process several blocks, call in a loop: the language in which the calls are proved has no type for a pointer and a count.
+ *   To process several blocks, call in a loop.
  *   Before C23, C does not convert `int8_t soft[4][148]` to a pointer to const rows, and -Wpedantic warns; the cast
  *   `(const int8_t (*)[148])soft` is correct there. C++ and C23 need no cast. */
 #ifndef UM_H
@@ -24,15 +28,16 @@
 #include <stdbool.h>
 #include <stdint.h>
 
-#define UM_VERSION "0.2.0"
+#define UM_VERSION "0.3.0~dev"
 #define UM_VERSION_MAJOR 0
-#define UM_VERSION_MINOR 2
+#define UM_VERSION_MINOR 3
 #define UM_VERSION_PATCH 0
 #define UM_VERSION_NUMBER (1000000 * UM_VERSION_MAJOR + 1000 * UM_VERSION_MINOR + UM_VERSION_PATCH)
 
 /* UM_CALL marks a call whose answer must not be ignored: what it writes is not written if it refuses. The calls _new, which refuse only
  * settings, lack the mark. In gcc and clang an enum that a call returns has one octet, so that -Wswitch and debuggers know the answer;
- * elsewhere the answer is a uint8_t. */
+ * elsewhere the answer is a uint8_t. The library sets all four octets of it, for languages that take an enum of this header to have
+ * four. */
 #if defined __GNUC__
 #define UM_NONNULL __attribute__((__nonnull__))
 #define UM_CALL __attribute__((__nonnull__, __warn_unused_result__))
@@ -86,7 +91,8 @@ typedef struct um_erasure {
 /* Decodes four normal bursts as um_receive_block_among does. If no word's CRC holds, erases bursts: decodes the block again with one
  * burst set to zeros, for each of at most `erasures` bursts (0 to 4) in turn, the burst with the most wrong training bits first and of
  * equal ones the earlier, until the CRC of a word holds. The report and the rank are those of um_receive_block_among for the bursts with
- * that burst set to zeros; if no word's CRC holds, those for the bursts as received. With 0 erasures it is um_receive_block_among.
+ * that burst set to zeros, so its counts include that burst's 26 training and 114 coded bits; if no word's CRC holds, those for the bursts
+ * as received. With 0 erasures it is um_receive_block_among.
  * False: a soft bit is -128, most is 0 or above 64, or erasures is above 4. */
 bool um_receive_block_erasing(const int8_t bursts[4][148], uint32_t most, uint8_t erasures, um_block_report *report, uint32_t *rank,
 	um_erasure *erasure) UM_CALL;
@@ -104,6 +110,43 @@ typedef struct um_margin_report {
 
 /* Decodes four normal bursts and reports the margin between the two most likely words. False: a soft bit is -128. */
 bool um_margin_block(const int8_t bursts[4][148], um_margin_report *report) UM_CALL;
+
+/* FACCH: a block in stolen halves of the bursts of a traffic channel (3GPP TS 45.003, 4.2 and 4.3), of eight at full rate (_f) and of six
+ * at half rate (_h). The block is that of um_send_block: of its four bursts the bits at odd positions (even-numbered coded bits, and the
+ * stealing flag hu at 87) are sent in the first four, those at even positions (odd-numbered coded bits, and hl at 60) in bursts 4, 5, 6, 7,
+ * or at half rate in 4, 5, 2, 3. um_traffic joins them by frame numbers. */
+
+/* Writes a block into the bursts that carry it: its halves of their coded bits and flags, the tail bits and the training sequence. The
+ * other halves stay as they are: they are of other blocks, of FACCH or of speech. False: an octet of `block` or `bursts` is neither 0 nor
+ * 1. */
+bool um_steal_facch_f(const uint8_t block[4][148], uint8_t bursts[8][148]) UM_CALL;
+bool um_steal_facch_h(const uint8_t block[4][148], uint8_t bursts[6][148]) UM_CALL;
+
+/* Joins the halves of received bursts to the four bursts of a block, for um_receive_block and all other calls on four bursts. Of the tail
+ * bits and the training sequences it takes half of each. False: a soft bit is -128. */
+bool um_join_facch_f(const int8_t bursts[8][148], int8_t block[4][148]) UM_CALL;
+bool um_join_facch_h(const int8_t bursts[6][148], int8_t block[4][148]) UM_CALL;
+
+typedef struct um_facch_erasure {
+	uint8_t erased;            /* the burst that was set to zeros, 0 to 7, at half rate 0 to 5; or 8: none */
+	uint8_t wrong_training[8]; /* bit errors in the 26 training bits of each burst as received, against the sequence detected in all of
+	                            * them; at half rate the last two are 0 */
+} um_facch_erasure;
+
+/* Receives a block from the bursts that carry it: joins their halves and decodes them as um_receive_block_among does. If no word's CRC
+ * holds, decodes again with one of these bursts set to zeros, for each of at most `erasures` bursts (0 to 8, at half rate 0 to 6) in turn,
+ * the burst with the most wrong training bits first and of equal ones the earlier, until the CRC of a word holds. A burst of a joined block
+ * is of two that were sent: where one of eight was lost, this saves far more blocks than um_receive_block_erasing on the joined block. The
+ * report is that of the joined block, but tsc and wrong_training are of all training bits of these bursts, 208 or at half rate 156.
+ * False: a soft bit is -128, most is 0 or above 64, or there are fewer bursts than erasures. */
+bool um_receive_facch_f_erasing(const int8_t bursts[8][148], uint32_t most, uint8_t erasures, um_block_report *report, uint32_t *rank,
+	um_facch_erasure *erasure) UM_CALL;
+bool um_receive_facch_h_erasing(const int8_t bursts[6][148], uint32_t most, uint8_t erasures, um_block_report *report, uint32_t *rank,
+	um_facch_erasure *erasure) UM_CALL;
+
+/* Writes the sum of a joined block's eight stealing flags, -1016 to 1016, negative if they rather say FACCH, and how many of them do not
+ * say so (a soft bit of 0 does not). False: a soft bit is -128. */
+bool um_stealing_flags(const int8_t block[4][148], int32_t *sum, uint8_t *wrong) UM_CALL;
 
 enum UM_OCTET um_repaired {
 	UM_HOLDS,     /* the CRC holds already */
@@ -201,15 +244,18 @@ bool um_write_bsic(uint8_t bsic, uint8_t bits[6]) UM_CALL;
 /* Reads a BSIC from six bits. False: an octet is neither 0 nor 1. */
 bool um_read_bsic(const uint8_t bits[6], uint8_t *bsic) UM_CALL;
 
-/* The channels of a time slot. UM_TCH_F has only the SACCH of a full rate traffic channel. */
+/* The channels of a time slot. UM_TCH_F and UM_TCH_H have only the SACCH of traffic channels: um_place_traffic has their other frames. */
 enum um_combination {
 	UM_BCCH_CCCH,        /* FCCH, SCH, BCCH, CCCH; uplink RACH */
 	UM_BCCH_CCCH_SDCCH4, /* the same with SDCCH/4 and its SACCH */
 	UM_SDCCH8,           /* SDCCH/8 and its SACCH */
-	UM_TCH_F             /* SACCH of TCH/F; all other frames carry traffic or are idle */
+	UM_TCH_F,            /* SACCH of TCH/F; all other frames carry traffic or are idle */
+	UM_TCH_H             /* SACCH of the two TCH/H of a time slot, subchannels 0 and 1, burst by burst in turn; all other frames carry
+	                      * traffic. A um_slot has blocks one after another: for that of subchannel s it is set to UM_TCH_F, in the time slot
+	                      * (timeslot & 6) + s */
 };
 enum um_direction { UM_DOWNLINK, UM_UPLINK };
-enum um_common_channel { UM_BCCH = 2, UM_CCCH, UM_FCCH, UM_SCH, UM_RACH }; /* numbered after um_channel, UM_SDCCH and UM_SACCH */
+enum um_common_channel { UM_BCCH = 2, UM_CCCH, UM_FCCH, UM_SCH, UM_RACH, UM_FACCH }; /* after um_channel, UM_SDCCH and UM_SACCH */
 
 typedef struct um_place {
 	uint32_t first;     /* the frame number of the block's first burst; for FCCH, SCH and RACH that of the burst */
@@ -224,7 +270,8 @@ enum UM_OCTET um_placing {
 	UM_NO_PLACE  /* no such combination, direction, time slot (0 to 7) or frame number */
 };
 
-/* Finds the channel and the burst that a frame of a time slot carries. The time slot matters only for UM_TCH_F. Returns a um_placing. */
+/* Finds the channel and the burst that a frame of a time slot carries. The time slot matters only for UM_TCH_F and UM_TCH_H. Returns a
+ * um_placing. */
 UM_ENUM(um_placing) um_place_frame(uint8_t combination, uint8_t direction, uint8_t timeslot, uint32_t frame, um_place *place) UM_CALL;
 
 /* Finds the first frame number, at or after `frame`, of a block (or burst) of this channel and subchannel. False: the combination has no
@@ -232,25 +279,50 @@ UM_ENUM(um_placing) um_place_frame(uint8_t combination, uint8_t direction, uint8
 bool um_next_block(uint8_t combination, uint8_t direction, uint8_t timeslot, uint8_t channel, uint8_t subchannel, uint32_t frame,
 	uint32_t *first) UM_CALL;
 
+/* Traffic channels: full rate, and the two of a time slot at half rate. */
+enum um_traffic_channel { UM_FULL_RATE, UM_HALF_RATE_0, UM_HALF_RATE_1 };
+
+typedef struct um_traffic_place {
+	uint8_t burst;  /* the number of the traffic burst in the 26-multiframe: 0 to 23, at half rate 0 to 11 */
+	uint8_t begins; /* the number of the block of FACCH that begins with it: 0 to 5, at half rate 0 to 2; 255: none */
+	uint8_t ends;   /* the number of the block of FACCH that ends with it; 255: none */
+} um_traffic_place;
+
+/* Finds the traffic burst that a frame carries, and the blocks of FACCH that begin and end with it. A block has eight bursts at full rate
+ * and six at half rate, and each fourth burst begins one; at half rate the two directions begin theirs in different frames. Returns a
+ * um_placing: UM_UNPLACED if the frame is of SACCH, of the other half, or idle. */
+UM_ENUM(um_placing) um_place_traffic(uint8_t channel, uint8_t direction, uint32_t frame, um_traffic_place *place) UM_CALL;
+
+/* Finds the first frame number, at or after `frame`, in which a block of FACCH begins. False: no such channel, direction or frame
+ * number. */
+bool um_next_facch(uint8_t channel, uint8_t direction, uint32_t frame, uint32_t *first) UM_CALL;
+
 /* A receiver of one time slot: collects the bursts of each block by their frame numbers, and decodes the block.
  *
  * The bursts come in the order of their frame numbers, modulo a hyperframe. Frames may be left out: a burst that never came is zeros. A
- * block is decoded with its fourth burst, or with the first later frame that is of another block; um_slot_miss with such a frame ends the
- * last one. A block of which no frame was taken or missed is not reported. The bursts of FCCH, SCH, RACH, traffic and idle frames are
- * ignored, but such a frame keeps the order.
+ * block is decoded with its fourth burst, or with the first later frame that is of another block; um_slot_end ends the last one at once. A
+ * call reports one block: a fourth burst that is also the first later frame of another block reports that one, and its own block comes with
+ * the first later frame of a third. A block of which no frame was taken or missed is not reported. The bursts of FCCH, SCH, RACH, traffic
+ * and idle frames are ignored, but such a frame keeps the order.
+ *
+ * Doubled and late frames are to be ignored. After one false frame number, or a pause of more than half a hyperframe, all true frames are
+ * late for up to 104 minutes: after several late frames in a row (8, say) call um_slot_restart, and take the frame again.
  *
  * The state is plain numbers and arrays: it can be copied, or saved and restored. Each call tests it; a soft bit of -128 in it counts as
  * -127. */
 typedef struct um_slot {
 	uint32_t last;        /* the frame number taken last, or UM_FRAMES: none yet */
 	uint32_t first;       /* the frame number of the first burst of the block being collected, or UM_FRAMES: none */
-	uint8_t combination;  /* um_combination */
+	uint8_t combination;  /* um_combination, not UM_TCH_H */
 	uint8_t direction;    /* um_direction */
 	uint8_t timeslot;     /* 0 to 7 */
 	uint8_t words;        /* words to try, 1 to 64: um_receive_block_erasing's `most` */
 	uint8_t erasures;     /* bursts to erase, 0 to 4 */
 	uint8_t heard;        /* bursts of the block that came */
 	int8_t bursts[4][148];/* the bursts of the block; zeros where none came */
+	uint8_t limit;        /* 0 to 78; um_slot_new sets 78, no limit. If the CRC of a block's first word fails, more words and erasures are
+	                       * tried only if its three bursts with the fewest wrong training bits (um_detect_training) have at most so many
+	                       * together. An idle channel then costs what one word costs; 20 lost none of 18,716 blocks measured */
 } um_slot;
 
 typedef struct um_slot_block {
@@ -274,7 +346,7 @@ enum UM_OCTET um_taken {
 };
 
 /* Initialises a receiver. words is 1 to 64, erasures 0 to 4: with 1 and 0 each report is um_receive_block's. False: no such combination,
- * direction, time slot, number of words or of erasures. */
+ * direction, time slot, number of words or of erasures, or it is UM_TCH_H. */
 bool um_slot_new(um_slot *slot, uint8_t combination, uint8_t direction, uint8_t timeslot, uint8_t words, uint8_t erasures) UM_NONNULL;
 
 /* Takes the burst of a frame. Returns a um_taken; the first that applies, in the order of the enum. */
@@ -282,6 +354,89 @@ UM_ENUM(um_taken) um_slot_take(um_slot *slot, uint32_t frame, const int8_t burst
 
 /* Takes a frame whose burst did not come. */
 UM_ENUM(um_taken) um_slot_miss(um_slot *slot, uint32_t frame, um_slot_block *block) UM_CALL;
+
+/* Forgets the frames taken and the block being collected; the settings stay. False: a setting is out of range. */
+bool um_slot_restart(um_slot *slot) UM_CALL;
+
+/* Ends the block being collected, at the end of a recording. UM_SLOT_BLOCK: it is written. UM_SLOT_TAKEN: none was being collected.
+ * UM_SLOT_NONE: the state is not valid. */
+UM_ENUM(um_taken) um_slot_end(um_slot *slot, um_slot_block *block) UM_CALL;
+
+/* A receiver of a traffic channel: collects the bursts of FACCH and of SACCH by their frame numbers, and decodes their blocks.
+ *
+ * The frames come as those of a um_slot do, traffic and SACCH alike; doubled and late frames are refused alike. A traffic burst carries
+ * halves of two blocks of FACCH, so each fourth traffic frame completes one. If its last bursts never came, the first traffic frame past it
+ * ends it: UM_TRAFFIC_EARLIER, and the frame is not taken yet. So call until a frame is taken:
+ *
+ *   while ((taken = um_traffic_take(&traffic, frame, burst, &block)) == UM_TRAFFIC_EARLIER)
+ *     use(&block);
+ *
+ * A block is decoded as FACCH whatever its stealing flags say, since a CRC of 40 bits tells more than eight flags: with one word, and with
+ * more words and erasures only if the flags rather say FACCH. What is not FACCH is the caller's: at full rate the joined block has the bits
+ * of a speech frame in the places of um_send_block; at half rate the bursts as they came are in `bursts` of the receiver until the next
+ * call. */
+typedef struct um_traffic {
+	um_slot sacch;         /* the receiver of the SACCH; its last frame, direction, words, erasures and limit are also those of FACCH */
+	uint32_t first;        /* the first burst of the block being collected, counted in traffic bursts of the hyperframe; UM_FRAMES: none */
+	uint8_t channel;       /* um_traffic_channel */
+	uint8_t ended;         /* whether that block was reported; any value but 0 means yes */
+	uint8_t came[8];       /* of each burst of the block 0, 1 if its frame was missed, or 2 if it came */
+	int8_t bursts[8][148]; /* the bursts of the block, at half rate six; zeros where none came */
+} um_traffic;
+
+enum um_traffic_kind {
+	UM_TRAFFIC_SACCH,  /* a block of SACCH */
+	UM_TRAFFIC_FACCH,  /* a block of FACCH whose CRC holds */
+	UM_TRAFFIC_STOLEN, /* no CRC holds, but the flags rather say FACCH: nothing for a speech codec */
+	UM_TRAFFIC_SPEECH  /* no CRC holds, and the flags do not say FACCH: other traffic */
+};
+
+typedef struct um_traffic_block {
+	um_slot_block block;   /* of SACCH as um_slot writes it; else the report of um_receive_facch_f_erasing or of um_receive_facch_h_erasing,
+	                        * with UM_FACCH as channel and no erasure: `erasure` below has it */
+	int32_t flags;         /* the sum of the eight stealing flags, negative if they rather say FACCH; not written of SACCH */
+	uint8_t kind;          /* um_traffic_kind */
+	int8_t bursts[4][148]; /* the halves joined to a block of four normal bursts, as um_send_block makes them; not written of SACCH */
+	um_facch_erasure erasure; /* which of the bursts was erased, and the wrong training bits of each; not written of SACCH */
+} um_traffic_block;
+
+enum UM_OCTET um_heard {
+	UM_TRAFFIC_TAKEN,    /* the frame was taken; no block is complete */
+	UM_TRAFFIC_BLOCK,    /* the frame was taken; a block is complete and written */
+	UM_TRAFFIC_EARLIER,  /* a block that ended before this frame is written; the frame is not taken yet */
+	UM_TRAFFIC_NO_SOFT,  /* a soft bit is -128; this answer and all below write nothing */
+	UM_TRAFFIC_NONE,     /* the state is not valid */
+	UM_TRAFFIC_NO_FRAME, /* there is no such frame number */
+	UM_TRAFFIC_DOUBLED,  /* this frame was taken last */
+	UM_TRAFFIC_LATE      /* this frame is before the one taken last: more than half a hyperframe after it */
+};
+
+/* Initialises a receiver, with the time slot that both halves of TCH/H have. words is 1 to 64, erasures 0 to 4. False: no such traffic
+ * channel, direction, time slot, number of words or of erasures. */
+bool um_traffic_new(um_traffic *traffic, uint8_t channel, uint8_t direction, uint8_t timeslot, uint8_t words, uint8_t erasures)
+	UM_NONNULL;
+
+/* Takes the burst of a frame. Returns a um_heard; the first that applies from UM_TRAFFIC_NO_SOFT on, else one of the first three. */
+UM_ENUM(um_heard) um_traffic_take(um_traffic *traffic, uint32_t frame, const int8_t burst[148], um_traffic_block *block) UM_CALL;
+
+/* Takes a frame whose burst did not come. */
+UM_ENUM(um_heard) um_traffic_miss(um_traffic *traffic, uint32_t frame, um_traffic_block *block) UM_CALL;
+
+/* Forgets the frames taken and the blocks being collected; the settings stay. False: a setting is out of range. */
+bool um_traffic_restart(um_traffic *traffic) UM_CALL;
+
+/* Ends the blocks of FACCH being collected, at the end of a recording, one a call. UM_TRAFFIC_EARLIER: one is written. UM_TRAFFIC_TAKEN:
+ * none is left. UM_TRAFFIC_NONE: the state is not valid. um_slot_end of `sacch` ends the block of SACCH. */
+UM_ENUM(um_heard) um_traffic_end(um_traffic *traffic, um_traffic_block *block) UM_CALL;
+
+/* Ciphering (3GPP TS 43.020, C.1): the 114 coded bits of a normal burst, places 3 to 59 and 88 to 144, by a key stream that the caller has
+ * (libosmogsm's osmo_a5). Stealing flags, training sequence and tail bits are not ciphered. What is ciphered twice is as it was. */
+
+/* Ciphers or deciphers the bits of a burst. False: an octet of burst or stream is neither 0 nor 1. */
+bool um_cipher_bits(uint8_t burst[148], const uint8_t stream[114]) UM_CALL;
+
+/* Deciphers soft bits: changes the sign where the stream has 1. False: a soft bit is -128, or an octet of stream is neither 0 nor 1. */
+bool um_soft_cipher(int8_t burst[148], const uint8_t stream[114]) UM_CALL;
 
 /* LAPDm frames, formats A and B (3GPP TS 44.006). */
 
@@ -389,10 +544,10 @@ typedef struct um_effects {
 
 enum UM_OCTET um_answer {
 	UM_END_DONE,        /* the state and the effects are written; every other answer writes nothing */
-	UM_END_NOT_IDLE,    /* the link was opened already */
+	UM_END_NOT_IDLE,    /* the link was opened already; um_datalink_establish: it is being opened or released */
 	UM_END_NOT_OPEN,    /* the link is not open */
 	UM_END_NOT_RUNNING, /* no frame awaits an answer */
-	UM_END_EMPTY,       /* the message is empty */
+	UM_END_EMPTY,       /* the message is empty; um_datalink_unacked: there is no such message */
 	UM_END_TOO_LONG,    /* the message is too long */
 	UM_END_FULL,        /* eight messages are not completely acknowledged yet */
 	UM_END_NONE,        /* the state is not valid */
@@ -488,6 +643,9 @@ UM_ENUM(um_answer) um_side_take(um_side *side, const uint8_t octets[23], uint8_t
  *           if (um_datalink_next(&link, layer1, block, &report) != UM_END_NONE) ..                // handle report, transmit block
  *   }
  *
+ * After the notice UM_ENDED go on: the answer to the other side's release goes out in the next slot. Go on until the link is idle
+ * (um_datalink_idle of um_more.h), and for two T200 more where blocks are lost: the other side repeats a release that is not answered.
+ *
  * There is no queue and no timer: the frame that awaits an answer is made in its slot, and T200 counts slots. T200 is at least 2 + 2d,
  * where a block arrives d slots later than the slot after it was sent, and the same at both sides; 4 serves d = 0 and 1. For SAPI 3 take
  * two slots more.
@@ -500,6 +658,11 @@ UM_ENUM(um_answer) um_side_take(um_side *side, const uint8_t octets[23], uint8_t
  * The two layer 1 octets of a block on SACCH are the caller's: um_datalink_take ignores them, and um_datalink_next and
  * um_datalink_unit write the two of `layer1` (on SDCCH they ignore `layer1`).
  *
+ * The SABM of the other side opens again a link that is open here, once an I, RR, RNR or REJ was received; before that, it is a repeat. At
+ * a network a SABM without information opens the link of SAPI 0 again at once if the mobile had opened it with some: the mobile returns.
+ * So a second UM_OPENED without UM_ENDED between says that the other side has opened the link again. What was not acknowledged is gone, and
+ * so is what the other side sent before and this side did not receive. Layer 3 sends again what it still wants to send.
+ *
  * At a mobile, a frame of SAPI 3 is dropped while SAPI 0 is not established: on SDCCH the data link knows; on SACCH the caller says it
  * with um_datalink_main. */
 typedef struct um_timed_end {
@@ -509,6 +672,7 @@ typedef struct um_timed_end {
 	uint8_t clock;      /* slots until that frame is due, at most t200; 0: due */
 	uint8_t owed;       /* whether `answer` waits for its slot; any value but 0 means yes */
 	uint8_t answer[23]; /* a block with a UA, DM, RR or REJ, as calls write it; zeros if none is owed */
+	uint8_t heard;      /* whether an I, RR, RNR or REJ was received in UM_OPEN; any value but 0 means yes */
 } um_timed_end;
 
 typedef struct um_datalink {
@@ -524,11 +688,23 @@ typedef struct um_report {
 	uint8_t notice_count;
 } um_report;
 
-/* The calls return a um_answer. Unless it is UM_END_DONE, or UM_END_FREE of um_datalink_next, nothing is written. UM_END_NONE: the
- * struct is no data link; this comes first. UM_END_NO_CALL: the SAPI is neither 0 nor 3, or um_datalink_open at the network. */
+/* How the link of SAPI 0 is established: by the mobile, with contention resolution (UM_BY_CONTENTION), or by either side without
+ * information, as SAPI 3 is (UM_NORMAL). UM_NORMAL is for the channel of an assignment or a handover. A mobile that returns to the old
+ * channel calls um_datalink_establish on the data link that it kept. With UM_NORMAL `link0.end.sapi` in the struct is 3, and so is the
+ * SAPI in `link0.answer`; the blocks that go out carry SAPI 0. */
+enum um_establishment { UM_BY_CONTENTION, UM_NORMAL };
 
-/* Initialises a data link, with T200 of SAPI 0 and of SAPI 3 in slots. False: no such role or channel, or a T200 of 0. */
+/* The calls return a um_answer. Unless it is UM_END_DONE, or UM_END_FREE of um_datalink_next, nothing is written. UM_END_NONE: the
+ * struct is no data link; this comes first. UM_END_NO_CALL: the SAPI is neither 0 nor 3, or the call is um_datalink_open at the network or
+ * on a data link of normal establishment. */
+
+/* Initialises a data link whose SAPI 0 is established with contention resolution. t200 of SAPI 0 and t200_sapi3 of SAPI 3 are in slots.
+ * False: no such role or channel, or a T200 of 0. */
 bool um_datalink_new(um_datalink *link, uint8_t role, uint8_t channel, uint8_t t200, uint8_t t200_sapi3) UM_NONNULL;
+
+/* Initialises a data link with this um_establishment of SAPI 0. False: as um_datalink_new, or there is no such um_establishment. */
+bool um_datalink_new_for(um_datalink *link, uint8_t role, uint8_t channel, uint8_t establishment, uint8_t t200,
+                         uint8_t t200_sapi3) UM_NONNULL;
 
 /* Whether the struct is a data link (one that was stored and read back, say). All other calls test it too. */
 bool um_datalink_valid(const um_datalink *link) UM_CALL;
@@ -536,13 +712,26 @@ bool um_datalink_valid(const um_datalink *link) UM_CALL;
 /* Opens the link of SAPI 0, at the mobile, with contention resolution: info, 1 to 20 octets (18 on SACCH), identifies the mobile. */
 UM_ENUM(um_answer) um_datalink_open(um_datalink *link, const um_message *info) UM_CALL;
 
-/* Opens the link of SAPI 3, at either side. If it is closed, its end starts afresh first; so does an end of SAPI 3 that is closed and
- * receives the SABM of the other side. */
+/* Opens the link of this SAPI without information, at either side. UM_END_NOT_IDLE: it is being opened or released. If it is closed or
+ * open, its end starts afresh: what was not acknowledged is gone (read it before by um_datalink_unacked). The end of the other
+ * side starts afresh too when the SABM arrives, if it is closed, or if it is open and has received an I, RR, RNR or REJ; it reports
+ * UM_OPENED again.
+ * At the side that calls, SAPI 0 of UM_BY_CONTENTION becomes SAPI 0 of UM_NORMAL. So it does at a network that receives this SABM while
+ * its link is open: the mobile returns to this channel. Otherwise a side of UM_BY_CONTENTION does not take the SABM: a mobile answers with
+ * a DM while its link is idle or closed. */
+UM_ENUM(um_answer) um_datalink_establish(um_datalink *link, uint8_t sapi) UM_CALL;
+
+/* um_datalink_establish of SAPI 3. */
 UM_ENUM(um_answer) um_datalink_open_bare(um_datalink *link) UM_CALL;
 
 /* Sends a message of 1 to 251 octets over the open link of this SAPI. The link holds at most eight messages that are not acknowledged;
  * then UM_END_FULL. */
 UM_ENUM(um_answer) um_datalink_send(um_datalink *link, uint8_t sapi, const um_message *message) UM_CALL;
+
+/* Writes one of the messages that were passed to um_datalink_send and are not completely acknowledged: that with this index, from 0 for the
+ * oldest. Layer 3 sends them again, in order, over the next channel or opening; the other side may have received the first of them. They
+ * can still be read after UM_ENDED; a new opening and um_datalink_close_local drop them. UM_END_EMPTY: no message has this index. */
+UM_ENUM(um_answer) um_datalink_unacked(const um_datalink *link, uint8_t sapi, uint8_t index, um_message *message) UM_CALL;
 
 /* Writes a UI frame with 1 to 20 octets (18 on SACCH) to `block`, for a slot in which um_datalink_next returned UM_END_FREE. */
 UM_ENUM(um_answer) um_datalink_unit(const um_datalink *link, uint8_t sapi, const um_message *message, const uint8_t layer1[2],

@@ -3,7 +3,7 @@
 // No call allocates memory or throws. A call returns a result or effects: true if it was accepted; if not, why() says why, and name() and
 // text() give the word and the text of that. What a refused call returns is zeros. Everything else is as um.h says.
 //
-//   if (auto report = um::receive_block(soft))        // 592 soft bits, flat or four of 148: std::array, C array, or std::span (C++20)
+//   if (auto report = um::receive_block(soft))        // 592 soft bits, flat or four of 148: std::array, C array, std::span, std::vector
 //       if (auto octets = report->data())             // the block, if the CRC holds
 //           use(*octets, report->wrong_coded);
 #ifndef UM_HPP
@@ -40,6 +40,15 @@ private:
 };
 template <class T> using checked = result<T, invalid>;
 
+namespace internal {
+// whether the size of a container is part of its type
+template <class Values> struct has_fixed_size : std::false_type {};
+template <class T, std::size_t Count> struct has_fixed_size<std::array<T, Count>> : std::true_type {};
+#if defined __cpp_lib_span
+template <class T, std::size_t Count> struct has_fixed_size<std::span<T, Count>> : std::bool_constant<Count != std::dynamic_extent> {};
+#endif
+} // namespace internal
+
 // What a call reads: Count values in contiguous memory.
 template <class T, std::size_t Count> class view {
 public:
@@ -53,11 +62,18 @@ public:
 #if defined __cpp_lib_span
 	constexpr view(std::span<const T, Count> values) : at(values.data()) {}
 #endif
-	// The first Count values of more, such as a std::vector's; nothing if there are fewer.
+	// Memory whose size is known at run time, such as a std::vector or a std::span. If that is not Count, the call answers `count`.
+	template <class Values,
+		class = std::enable_if_t<!internal::has_fixed_size<Values>::value &&
+			std::is_convertible_v<decltype(std::declval<const Values &>().data()), const T *> &&
+			std::is_convertible_v<decltype(std::declval<const Values &>().size()), std::size_t>>>
+	constexpr view(const Values &values) : at(values.size() == Count ? values.data() : nullptr) {}
+	// The first Count values of more; nothing if there are fewer.
 	static constexpr std::optional<view> of(const T *values, std::size_t count)
 	{
 		return count < Count ? std::nullopt : std::optional<view>(view(values));
 	}
+	// Null if there were not Count values.
 	constexpr const T *data() const { return at; }
 
 private:
@@ -120,6 +136,7 @@ template <std::size_t Count> std::array<std::uint8_t, Count> copy_of(const std::
 
 struct block_report : um_block_report {
 	std::uint32_t rank;
+	// Keep it in a variable: until C++23 a loop over *report.data() reads a temporary that is gone.
 	std::optional<block> data() const { return accepted ? std::optional(copy_of(octets)) : std::nullopt; }
 };
 
@@ -134,6 +151,8 @@ inline const std::int8_t (*rows(soft_view soft))[148] { return reinterpret_cast<
 template <class Report, std::size_t Count, class Call> checked<Report> decoded(view<std::int8_t, Count> soft, Call call)
 {
 	Report report{};
+	if (!soft.data())
+		return invalid::count;
 	if (um_are_hard_bits(soft.data(), Count))
 		return invalid::hard_bits;
 	return call(report) ? checked<Report>(report) : invalid::soft_value;
@@ -151,6 +170,8 @@ inline bool are_bits(const std::uint8_t *values, std::size_t count)
 inline checked<block_bits> send_block(block_view octets, std::uint8_t tsc)
 {
 	block_bits bits;
+	if (!octets.data())
+		return invalid::count;
 	if (!um_send_block(octets.data(), tsc, reinterpret_cast<std::uint8_t (*)[148]>(bits.data())))
 		return invalid::training_sequence;
 	return bits;
@@ -178,10 +199,65 @@ inline checked<um_margin_report> margin_block(soft_view soft)
 		soft, [&](um_margin_report &report) { return um_margin_block(internal::rows(soft), &report); });
 }
 
+// FACCH: a block in stolen halves of the bursts of a traffic channel, of eight at full rate (_f) and of six at half rate (_h)
+
+using burst_bits_f = std::array<std::uint8_t, 8 * 148>;
+using burst_bits_h = std::array<std::uint8_t, 6 * 148>;
+
+// The bursts with a block in its halves of them.
+inline checked<burst_bits_f> steal_facch_f(view<std::uint8_t, 592> four, view<std::uint8_t, 8 * 148> bursts)
+{
+	burst_bits_f bits;
+	std::memcpy(bits.data(), bursts.data(), bits.size());
+	if (!um_steal_facch_f(reinterpret_cast<const std::uint8_t (*)[148]>(four.data()), reinterpret_cast<std::uint8_t (*)[148]>(bits.data())))
+		return invalid::bit;
+	return bits;
+}
+
+inline checked<burst_bits_h> steal_facch_h(view<std::uint8_t, 592> four, view<std::uint8_t, 6 * 148> bursts)
+{
+	burst_bits_h bits;
+	std::memcpy(bits.data(), bursts.data(), bits.size());
+	if (!um_steal_facch_h(reinterpret_cast<const std::uint8_t (*)[148]>(four.data()), reinterpret_cast<std::uint8_t (*)[148]>(bits.data())))
+		return invalid::bit;
+	return bits;
+}
+
+// The four bursts of the block whose halves these carry, for receive_block and all other calls on 592 soft bits.
+inline checked<block_soft> join_facch_f(view<std::int8_t, 8 * 148> soft)
+{
+	return internal::decoded<block_soft>(soft, [&](block_soft &joined) {
+		return um_join_facch_f(
+			reinterpret_cast<const std::int8_t (*)[148]>(soft.data()), reinterpret_cast<std::int8_t (*)[148]>(joined.data()));
+	});
+}
+
+inline checked<block_soft> join_facch_h(view<std::int8_t, 6 * 148> soft)
+{
+	return internal::decoded<block_soft>(soft, [&](block_soft &joined) {
+		return um_join_facch_h(
+			reinterpret_cast<const std::int8_t (*)[148]>(soft.data()), reinterpret_cast<std::int8_t (*)[148]>(joined.data()));
+	});
+}
+
+// The sum of a joined block's eight stealing flags, negative if they rather say FACCH, and how many do not say so.
+struct stealing {
+	std::int32_t sum;
+	std::uint8_t wrong;
+};
+
+inline checked<stealing> stealing_flags(soft_view joined)
+{
+	return internal::decoded<stealing>(
+		joined, [&](stealing &flags) { return um_stealing_flags(internal::rows(joined), &flags.sum, &flags.wrong); });
+}
+
 // The report is written if the outcome is repaired::repaired.
 inline checked<repair_report> repair(view<std::uint8_t, 224> word)
 {
 	repair_report report{};
+	if (!word.data())
+		return invalid::count;
 	report.outcome = um::repaired(um_repair(word.data(), &report));
 	return report.outcome == um::repaired::nobits ? checked<repair_report>(invalid::bit) : report;
 }
@@ -199,6 +275,8 @@ struct sync_report : um_sync_report {
 inline checked<std::array<std::uint8_t, 88>> send_access(view<std::uint8_t, 8> info, view<std::uint8_t, 6> bsic)
 {
 	std::array<std::uint8_t, 88> burst;
+	if (!info.data() || !bsic.data())
+		return invalid::count;
 	if (!um_send_access(info.data(), bsic.data(), burst.data()))
 		return invalid::bit;
 	return burst;
@@ -206,6 +284,8 @@ inline checked<std::array<std::uint8_t, 88>> send_access(view<std::uint8_t, 8> i
 
 inline checked<access_report> receive_access(view<std::int8_t, 88> soft, view<std::uint8_t, 6> bsic)
 {
+	if (!bsic.data())
+		return invalid::count;
 	if (!internal::are_bits(bsic.data(), 6))
 		return invalid::bit;
 	return internal::decoded<access_report>(
@@ -215,6 +295,8 @@ inline checked<access_report> receive_access(view<std::int8_t, 88> soft, view<st
 inline checked<std::array<std::uint8_t, 148>> send_sync(view<std::uint8_t, 25> info)
 {
 	std::array<std::uint8_t, 148> burst;
+	if (!info.data())
+		return invalid::count;
 	if (!um_send_sync(info.data(), burst.data()))
 		return invalid::bit;
 	return burst;
@@ -238,6 +320,8 @@ struct frame : um_frame {
 inline result<frame, reading> read_frame(block_view octets, channel on = channel::sdcch)
 {
 	frame read{};
+	if (!octets.data())
+		return reading::count;
 	const auto why = um::reading(um_read_frame(octets.data(), number(on), &read));
 	return why == reading::frame ? result<frame, reading>(read) : why;
 }
@@ -255,4 +339,5 @@ inline checked<block> write_frame(const um_frame &fields, channel on = channel::
 #include "um_ends.hpp"
 #include "um_links.hpp"
 #include "um_slots.hpp"
+#include "um_traffic.hpp"
 #endif

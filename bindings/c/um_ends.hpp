@@ -1,13 +1,14 @@
 // um_ends.hpp - the endpoints of um.hpp, for one link or for both links of a channel. Include um.hpp.
+#include "um.hpp" // which includes this file where it belongs
 #ifndef UM_ENDS_HPP
 #define UM_ENDS_HPP
-#include "um.hpp"
 
 namespace um {
 
 // Octets of a message. More than 255 are cut there, and refused as too long.
 class message {
 public:
+	message() = default;
 	message(const std::uint8_t *octets, std::size_t count)
 	{
 		plain.count = static_cast<std::uint8_t>(count < 255 ? count : 255);
@@ -19,9 +20,34 @@ public:
 		class = std::enable_if_t<std::is_convertible_v<decltype(std::declval<const Octets &>().data()), const std::uint8_t *>>>
 	message(const Octets &octets) : message(octets.data(), octets.size()) {}
 	const um_message *get() const { return &plain; }
+	const std::uint8_t *data() const { return plain.octets; }
+	std::size_t size() const { return plain.count; }
+	const std::uint8_t *begin() const { return data(); }
+	const std::uint8_t *end() const { return data() + size(); }
 
 private:
+	friend class messages;
 	um_message plain{};
+};
+
+// At most eight messages, in order: `for (const um::message &sent : link.unacked(um::sapi::signalling)) ..`
+class messages {
+public:
+	const message *begin() const { return held.data(); }
+	const message *end() const { return begin() + size(); }
+	std::size_t size() const { return count; }
+	bool empty() const { return count == 0; }
+	const message &operator[](std::size_t index) const { return held[index]; }
+
+private:
+	friend class datalink;
+	template <class Call> explicit messages(Call call)
+	{
+		while (count < held.size() && call(static_cast<std::uint8_t>(count), &held[count].plain) == UM_END_DONE)
+			count++;
+	}
+	std::array<message, 8> held;
+	std::size_t count = 0;
 };
 
 // What happened. Iteration gives the octets of opened, got and unit, as long as the effects live.
@@ -83,6 +109,7 @@ private:
 	friend class end;
 	friend class side;
 	template <class Call> effects(um::sapi on, Call call) : sapi_(on) { answer_ = answer(call(&plain)); }
+	effects(um::sapi on, answer why) : answer_(why), sapi_(on) {}
 	um_effects plain{};
 	answer answer_;
 	um::sapi sapi_;
@@ -106,7 +133,10 @@ public:
 	effects close() { return call([&](um_effects *e) { return um_end_close(&plain, e); }); }
 	effects timer() { return call([&](um_effects *e) { return um_end_timer(&plain, e); }); }
 	effects idle() const { return call([&](um_effects *e) { return um_end_idle(&plain, e); }); }
-	effects take(block_view octets) { return call([&](um_effects *e) { return um_end_take(&plain, octets.data(), e); }); }
+	effects take(block_view octets)
+	{
+		return octets.data() ? call([&](um_effects *e) { return um_end_take(&plain, octets.data(), e); }) : effects(sapi(), answer::count);
+	}
 
 	um::role role() const { return um::role(plain.role); }
 	um::sapi sapi() const { return um::sapi(plain.sapi); }
@@ -125,7 +155,7 @@ public:
 	static std::optional<end> from_bytes(view<std::uint8_t, octet_count> saved)
 	{
 		end restored(um::role::mobile);
-		return um_end_from_bytes(&restored.plain, saved.data()) ? std::optional(restored) : std::nullopt;
+		return saved.data() && um_end_from_bytes(&restored.plain, saved.data()) ? std::optional(restored) : std::nullopt;
 	}
 
 private:
@@ -166,6 +196,8 @@ public:
 	effects take(block_view octets)
 	{
 		std::uint8_t on = 0;
+		if (!octets.data())
+			return effects(sapi::signalling, answer::count);
 		effects done(sapi::signalling, [&](um_effects *e) { return um_side_take(&plain, octets.data(), &on, e); });
 		done.sapi_ = um::sapi(on);
 		return done;
@@ -184,7 +216,7 @@ public:
 	static std::optional<side> from_bytes(view<std::uint8_t, octet_count> saved)
 	{
 		side restored(um::role::mobile);
-		return um_side_from_bytes(&restored.plain, saved.data()) ? std::optional(restored) : std::nullopt;
+		return saved.data() && um_side_from_bytes(&restored.plain, saved.data()) ? std::optional(restored) : std::nullopt;
 	}
 
 private:

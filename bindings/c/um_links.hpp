@@ -1,7 +1,7 @@
 // um_links.hpp - the data link of um.hpp: one side of a channel with its loop. Include um.hpp.
+#include "um.hpp" // which includes this file where it belongs
 #ifndef UM_LINKS_HPP
 #define UM_LINKS_HPP
-#include "um.hpp"
 
 namespace um {
 
@@ -66,12 +66,27 @@ public:
 			plain = um_datalink{};
 	}
 
+	// for the channel of an assignment or a handover: um::establishment::normal
+	datalink(um::role side, um::channel on, um::establishment kind, std::uint8_t t200, std::uint8_t t200_sapi3)
+	{
+		if (!um_datalink_new_for(&plain, number(side), number(on), number(kind), t200, t200_sapi3))
+			plain = um_datalink{};
+	}
+
 	[[nodiscard]] answer open(const message &info) { return answer(um_datalink_open(&plain, info.get())); }
+	// without information, at either side; a link that is closed or open starts afresh first (um.h)
+	[[nodiscard]] answer establish(sapi on) { return answer(um_datalink_establish(&plain, number(on))); }
 	[[nodiscard]] answer open_bare() { return answer(um_datalink_open_bare(&plain)); }
 	[[nodiscard]] answer send(sapi on, const message &octets) { return answer(um_datalink_send(&plain, number(on), octets.get())); }
 	[[nodiscard]] answer close(sapi on) { return answer(um_datalink_close(&plain, number(on))); }
 	[[nodiscard]] answer close_local(sapi on) { return answer(um_datalink_close_local(&plain, number(on))); }
 	[[nodiscard]] answer main(bool is_established) { return answer(um_datalink_main(&plain, is_established)); }
+
+	// The messages that are not completely acknowledged, oldest first: what to send again over another link.
+	messages unacked(sapi on) const
+	{
+		return messages([&](std::uint8_t index, um_message *to) { return um_datalink_unacked(&plain, number(on), index, to); });
+	}
 
 	result<block, answer> unit(sapi on, const message &octets, std::array<std::uint8_t, 2> layer1 = {}) const
 	{
@@ -83,7 +98,7 @@ public:
 	link_report take(block_view octets)
 	{
 		link_report report;
-		report.answer_ = answer(um_datalink_take(&plain, octets.data(), &report.plain));
+		report.answer_ = !octets.data() ? answer::count : answer(um_datalink_take(&plain, octets.data(), &report.plain));
 		return report;
 	}
 
@@ -95,7 +110,10 @@ public:
 		return sent;
 	}
 
+	// Whether nothing waits for a slot and no frame awaits an answer. After `closed` go on until then (um.h).
+	bool idle() const { return um_datalink_idle(&plain); }
 	um::role role() const { return um::role(plain.link0.end.role); }
+	um::establishment establishment() const { return um::establishment(um_datalink_establishment(&plain)); }
 	um::channel channel() const { return um::channel(plain.link0.end.channel); }
 	um::state state(sapi on) const { return um::state(on == sapi::signalling ? plain.link0.end.state : plain.link3.end.state); }
 
@@ -108,7 +126,7 @@ public:
 	static std::optional<datalink> from_bytes(view<std::uint8_t, octet_count> saved)
 	{
 		datalink restored(um::role::mobile);
-		return um_datalink_from_bytes(&restored.plain, saved.data()) ? std::optional(restored) : std::nullopt;
+		return saved.data() && um_datalink_from_bytes(&restored.plain, saved.data()) ? std::optional(restored) : std::nullopt;
 	}
 
 private:

@@ -7,6 +7,10 @@
 #include <string.h>
 
 #ifdef __cplusplus
+#ifdef __GNUC__
+#pragma GCC diagnostic push
+#pragma GCC diagnostic ignored "-Wold-style-cast" /* this is C */
+#endif
 extern "C" {
 #endif
 
@@ -24,7 +28,7 @@ static inline const char *um_kind_name(unsigned kind)
 /* A um_channel or um_common_channel. */
 static inline const char *um_channel_name(unsigned channel)
 {
-	static const char *const names[] = { "sdcch", "sacch", "bcch", "ccch", "fcch", "sch", "rach" };
+	static const char *const names[] = { "sdcch", "sacch", "bcch", "ccch", "fcch", "sch", "rach", "facch" };
 	return UM_NAME(names, channel);
 }
 
@@ -33,6 +37,13 @@ static inline const char *um_role_name(unsigned role)
 {
 	static const char *const names[] = { "mobile", "network" };
 	return UM_NAME(names, role);
+}
+
+/* A um_establishment. */
+static inline const char *um_establishment_name(unsigned establishment)
+{
+	static const char *const names[] = { "contention", "normal" };
+	return UM_NAME(names, establishment);
 }
 
 /* A um_state. */
@@ -82,7 +93,7 @@ static inline const char *um_repaired_name(unsigned repaired)
 /* A um_combination. */
 static inline const char *um_combination_name(unsigned combination)
 {
-	static const char *const names[] = { "bcch_ccch", "bcch_ccch_sdcch4", "sdcch8", "tch_f" };
+	static const char *const names[] = { "bcch_ccch", "bcch_ccch_sdcch4", "sdcch8", "tch_f", "tch_h" };
 	return UM_NAME(names, combination);
 }
 
@@ -105,6 +116,27 @@ static inline const char *um_taken_name(unsigned taken)
 {
 	static const char *const names[] = { "taken", "block", "nosoft", "noslot", "noframe", "doubled", "late" };
 	return UM_NAME(names, taken);
+}
+
+/* A um_traffic_channel. */
+static inline const char *um_traffic_channel_name(unsigned channel)
+{
+	static const char *const names[] = { "full_rate", "half_rate_0", "half_rate_1" };
+	return UM_NAME(names, channel);
+}
+
+/* A um_traffic_kind. */
+static inline const char *um_traffic_kind_name(unsigned kind)
+{
+	static const char *const names[] = { "sacch", "facch", "stolen", "speech" };
+	return UM_NAME(names, kind);
+}
+
+/* A um_heard: why a receiver of a traffic channel refused a frame. */
+static inline const char *um_heard_name(unsigned heard)
+{
+	static const char *const names[] = { "taken", "block", "earlier", "nosoft", "notraffic", "noframe", "doubled", "late" };
+	return UM_NAME(names, heard);
 }
 
 #undef UM_NAME
@@ -138,14 +170,28 @@ static inline bool um_side_timer_runs(const um_side *side, uint8_t sapi)
 	return um_side_timer(&copy, sapi, &effects) == UM_END_DONE;
 }
 
-/* Saved states: the form that all languages read (docs/LIBRARY.md, Save a state). It is the head "umE1", "umS1", "umT1" or "umL1", then
+/* The um_establishment of a data link: how its link of SAPI 0 is opened. */
+static inline uint8_t um_datalink_establishment(const um_datalink *link)
+{
+	return link->link0.end.sapi == 3 ? UM_NORMAL : UM_BY_CONTENTION;
+}
+
+/* Whether nothing of a data link waits for a slot and no frame awaits an answer, so that each next slot is free until a call or a block
+ * changes it. False of a struct that is no data link. */
+static inline bool um_datalink_idle(const um_datalink *link)
+{
+	return um_datalink_valid(link) && !link->link0.owed && !link->link3.owed && !um_end_timer_runs(&link->link0.end) &&
+	       !um_end_timer_runs(&link->link3.end);
+}
+
+/* Saved states: the form that all languages read (docs/LIBRARY.md, Save a state). It is the head "umE1", "umS1", "umT2" or "umL2", then
  * the fields in the order of um.h without padding, each number least significant octet first. */
 
 enum { UM_HEAD_OCTETS = 4, UM_FIELD_OCTETS = 2581 };
 #define UM_END_OCTETS 2585
 #define UM_SIDE_OCTETS 5166
-#define UM_SLOT_OCTETS 610
-#define UM_DATALINK_OCTETS 5222
+#define UM_SLOT_OCTETS 611
+#define UM_DATALINK_OCTETS 5224
 
 static inline void um_end_save_fields(const um_end *end, uint8_t *octets)
 {
@@ -217,7 +263,7 @@ static inline uint32_t um_restore_frame(const uint8_t octets[4])
 /* Saves a receiver of a time slot. */
 static inline void um_slot_to_bytes(const um_slot *slot, uint8_t octets[UM_SLOT_OCTETS])
 {
-	memcpy(octets, "umT1", UM_HEAD_OCTETS);
+	memcpy(octets, "umT2", UM_HEAD_OCTETS);
 	um_save_frame(slot->last, octets + 4);
 	um_save_frame(slot->first, octets + 8);
 	memcpy(octets + 12, (const uint8_t *)slot + offsetof(um_slot, combination), UM_SLOT_OCTETS - 12);
@@ -228,7 +274,7 @@ static inline bool um_slot_from_bytes(um_slot *slot, const uint8_t octets[UM_SLO
 {
 	um_slot restored, copy;
 	um_slot_block block;
-	if (memcmp(octets, "umT1", UM_HEAD_OCTETS) != 0)
+	if (memcmp(octets, "umT2", UM_HEAD_OCTETS) != 0)
 		return false;
 	memset(&restored, 0, sizeof restored);
 	restored.last = um_restore_frame(octets + 4);
@@ -241,37 +287,38 @@ static inline bool um_slot_from_bytes(um_slot *slot, const uint8_t octets[UM_SLO
 	return true;
 }
 
-enum { UM_TIMED_OCTETS = UM_FIELD_OCTETS + 27 };
+enum { UM_AFTER_END_OCTETS = 28, UM_TIMED_OCTETS = UM_FIELD_OCTETS + UM_AFTER_END_OCTETS };
 
 static inline void um_timed_end_save_fields(const um_timed_end *link, uint8_t *octets)
 {
 	um_end_save_fields(&link->end, octets);
-	memcpy(octets + UM_FIELD_OCTETS, (const uint8_t *)link + offsetof(um_timed_end, t200), 27);
+	memcpy(octets + UM_FIELD_OCTETS, (const uint8_t *)link + offsetof(um_timed_end, t200), UM_AFTER_END_OCTETS);
 }
 
 static inline bool um_timed_end_restore_fields(um_timed_end *link, const uint8_t *octets)
 {
 	memset(link, 0, sizeof *link);
-	memcpy((uint8_t *)link + offsetof(um_timed_end, t200), octets + UM_FIELD_OCTETS, 27);
+	memcpy((uint8_t *)link + offsetof(um_timed_end, t200), octets + UM_FIELD_OCTETS, UM_AFTER_END_OCTETS);
 	return um_end_restore_fields(&link->end, octets);
 }
 
 /* Saves a data link. */
 static inline void um_datalink_to_bytes(const um_datalink *link, uint8_t octets[UM_DATALINK_OCTETS])
 {
-	memcpy(octets, "umL1", UM_HEAD_OCTETS);
+	memcpy(octets, "umL2", UM_HEAD_OCTETS);
 	um_timed_end_save_fields(&link->link0, octets + UM_HEAD_OCTETS);
 	um_timed_end_save_fields(&link->link3, octets + UM_HEAD_OCTETS + UM_TIMED_OCTETS);
 	octets[UM_DATALINK_OCTETS - 2] = link->heard0;
 	octets[UM_DATALINK_OCTETS - 1] = link->main;
 }
 
-/* Restores a data link. False: the octets are not a saved one of this version, or none has this state; nothing is written. */
+/* Restores a data link. False: the octets are not a saved one of this version (such as the form "umL1", which has no `heard`), or none has
+ * this state; nothing is written. */
 static inline bool um_datalink_from_bytes(um_datalink *link, const uint8_t octets[UM_DATALINK_OCTETS])
 {
 	um_datalink restored;
 	memset(&restored, 0, sizeof restored);
-	if (memcmp(octets, "umL1", UM_HEAD_OCTETS) != 0 || !um_timed_end_restore_fields(&restored.link0, octets + UM_HEAD_OCTETS) ||
+	if (memcmp(octets, "umL2", UM_HEAD_OCTETS) != 0 || !um_timed_end_restore_fields(&restored.link0, octets + UM_HEAD_OCTETS) ||
 	    !um_timed_end_restore_fields(&restored.link3, octets + UM_HEAD_OCTETS + UM_TIMED_OCTETS))
 		return false;
 	restored.heard0 = octets[UM_DATALINK_OCTETS - 2];
@@ -284,5 +331,8 @@ static inline bool um_datalink_from_bytes(um_datalink *link, const uint8_t octet
 
 #ifdef __cplusplus
 }
+#ifdef __GNUC__
+#pragma GCC diagnostic pop
+#endif
 #endif
 #endif

@@ -13,38 +13,53 @@ namespace um {
 enum class channel : std::uint8_t { sdcch = UM_SDCCH, sacch = UM_SACCH };
 enum class role : std::uint8_t { mobile = UM_MOBILE, network = UM_NETWORK };
 enum class sapi : std::uint8_t { signalling = 0, short_messages = 3 };
+// how the link of SAPI 0 is opened
+enum class establishment : std::uint8_t { contention = UM_BY_CONTENTION, normal = UM_NORMAL };
 enum class state : std::uint8_t { idle, opening, open, closing, closed };
 enum class kind : std::uint8_t { i, rr, rnr, rej, sabm, dm, ui, disc, ua };
 enum class notice_kind : std::uint8_t { none, opened, got, unit, acked, oversize, closed };
 enum class reason : std::uint8_t { contention, failed, refused, released };
-enum class answer : std::uint8_t { ok, notidle, notopen, notrunning, empty, toolong, full, noend, nocall, noframe, free };
-enum class reading : std::uint8_t { frame, lpd, ea, control, el, length, empty, more, nochannel };
+enum class answer : std::uint8_t { ok, notidle, notopen, notrunning, empty, toolong, full, noend, nocall, noframe, free, count = 255 };
+enum class reading : std::uint8_t { frame, lpd, ea, control, el, length, empty, more, nochannel, count = 255 };
 enum class repaired : std::uint8_t { holds, repaired, norepair, nobits };
-enum class combination : std::uint8_t { bcch_ccch, bcch_ccch_sdcch4, sdcch8, tch_f };
+enum class combination : std::uint8_t { bcch_ccch, bcch_ccch_sdcch4, sdcch8, tch_f, tch_h };
 enum class direction : std::uint8_t { downlink, uplink };
-enum class carried : std::uint8_t { sdcch, sacch, bcch, ccch, fcch, sch, rach };
+enum class carried : std::uint8_t { sdcch, sacch, bcch, ccch, fcch, sch, rach, facch };
 enum class placing : std::uint8_t { placed, unplaced, noplace };
-enum class taken : std::uint8_t { taken, block, nosoft, noslot, noframe, doubled, late, hardbits };
+enum class taken : std::uint8_t { taken, block, nosoft, noslot, noframe, doubled, late, hardbits = 254, count = 255 };
+enum class traffic_channel : std::uint8_t { full_rate, half_rate_0, half_rate_1 };
+enum class traffic_kind : std::uint8_t { sacch, facch, stolen, speech };
+enum class heard : std::uint8_t { taken, block, earlier, nosoft, notraffic, noframe, doubled, late, hardbits = 254, count = 255 };
 enum class invalid : std::uint8_t {
-	none, training_sequence, soft_value, hard_bits, words, bit, frame, ratio, erasures, frame_number, time, bsic, sch, timeslot, channel
+	none, training_sequence, soft_value, hard_bits, words, bit, frame, ratio, erasures, frame_number, time, bsic, sch, timeslot, channel, count
 };
 
 template <class Enum> constexpr std::uint8_t number(Enum value) { return static_cast<std::uint8_t>(value); }
 
 inline std::string_view name(channel value) { return um_channel_name(number(value)); }
 inline std::string_view name(role value) { return um_role_name(number(value)); }
+inline std::string_view name(establishment value) { return um_establishment_name(number(value)); }
 inline std::string_view name(state value) { return um_state_name(number(value)); }
 inline std::string_view name(kind value) { return um_kind_name(number(value)); }
 inline std::string_view name(notice_kind value) { return um_notice_name(number(value)); }
 inline std::string_view name(reason value) { return um_reason_name(number(value)); }
-inline std::string_view name(answer value) { return um_answer_name(number(value)); }
-inline std::string_view name(reading value) { return um_reading_name(number(value)); }
+inline std::string_view name(answer value) { return value == answer::count ? "count" : um_answer_name(number(value)); }
+inline std::string_view name(reading value) { return value == reading::count ? "count" : um_reading_name(number(value)); }
 inline std::string_view name(repaired value) { return um_repaired_name(number(value)); }
 inline std::string_view name(combination value) { return um_combination_name(number(value)); }
 inline std::string_view name(direction value) { return um_direction_name(number(value)); }
 inline std::string_view name(carried value) { return um_channel_name(number(value)); }
 inline std::string_view name(placing value) { return um_placing_name(number(value)); }
-inline std::string_view name(taken value) { return value == taken::hardbits ? "hardbits" : um_taken_name(number(value)); }
+inline std::string_view name(traffic_channel value) { return um_traffic_channel_name(number(value)); }
+inline std::string_view name(traffic_kind value) { return um_traffic_kind_name(number(value)); }
+inline std::string_view name(heard value)
+{
+	return value == heard::hardbits ? "hardbits" : value == heard::count ? "count" : um_heard_name(number(value));
+}
+inline std::string_view name(taken value)
+{
+	return value == taken::hardbits ? "hardbits" : value == taken::count ? "count" : um_taken_name(number(value));
+}
 
 constexpr std::string_view text(invalid why)
 {
@@ -64,6 +79,24 @@ constexpr std::string_view text(invalid why)
 	case invalid::sch: return "no synchronisation burst has this frame number or these bits; expected a T3 of 1, 11, 21, 31 or 41";
 	case invalid::timeslot: return "an invalid time slot; expected 0 to 7";
 	case invalid::channel: return "the combination has no such channel in this direction";
+	case invalid::count: return "another number of values than the call reads";
+	}
+	return "unknown";
+}
+
+constexpr std::string_view text(heard why)
+{
+	switch (why) {
+	case heard::taken: return "the frame was taken";
+	case heard::block: return "the frame was taken, and a block is complete";
+	case heard::earlier: return "a block ended before the frame, which is not taken yet";
+	case heard::nosoft: return text(invalid::soft_value);
+	case heard::notraffic: return "the state is not valid";
+	case heard::noframe: return text(invalid::frame_number);
+	case heard::doubled: return "this frame was taken last; expected a later one";
+	case heard::late: return "this frame is before the one taken last; expected a later one";
+	case heard::hardbits: return text(invalid::hard_bits);
+	case heard::count: return text(invalid::count);
 	}
 	return "unknown";
 }
@@ -79,6 +112,7 @@ constexpr std::string_view text(taken why)
 	case taken::doubled: return "this frame was taken last; expected a later one";
 	case taken::late: return "this frame is before the one taken last; expected a later one";
 	case taken::hardbits: return text(invalid::hard_bits);
+	case taken::count: return text(invalid::count);
 	}
 	return "unknown";
 }
@@ -87,16 +121,19 @@ constexpr std::string_view text(answer why)
 {
 	switch (why) {
 	case answer::ok: return "the call was accepted";
-	case answer::notidle: return "the link was opened already";
+	case answer::notidle: return "the link was opened already, or is being opened or released";
 	case answer::notopen: return "the link is not open";
 	case answer::notrunning: return "no frame awaits an answer";
 	case answer::empty: return "the message is empty; expected at least one octet";
 	case answer::toolong: return "the message is too long; send takes at most 251 octets, open and unit 20 (18 on SACCH)";
 	case answer::full: return "eight messages are not completely acknowledged yet";
 	case answer::noend: return "the state is not valid";
-	case answer::nocall: return "the mobile opens the link of SAPI 0 with open; either end opens the link of SAPI 3 with open_bare";
+	case answer::nocall:
+		return "the mobile opens the link of SAPI 0 with open, unless it is of normal establishment; either end opens SAPI 3 with open_bare, "
+		       "and either side of a data link both with establish";
 	case answer::noframe: return "the octets are not an LAPDm frame";
 	case answer::free: return "nothing is to be sent in this slot";
+	case answer::count: return text(invalid::count);
 	}
 	return "unknown";
 }
@@ -113,6 +150,7 @@ constexpr std::string_view text(reading why)
 	case reading::empty: return "not an LAPDm frame: an I frame without information";
 	case reading::more: return "not an LAPDm frame: M is set in a frame other than I";
 	case reading::nochannel: return "no such channel";
+	case reading::count: return text(invalid::count);
 	}
 	return "unknown";
 }

@@ -33,6 +33,11 @@ typedef uint8_t ubit_t;
 typedef int8_t sbit_t;
 #endif
 
+#if defined __cplusplus && defined __GNUC__
+#pragma GCC diagnostic push
+#pragma GCC diagnostic ignored "-Wold-style-cast" /* this is C */
+#endif
+
 static inline void um_osmo_soft(int8_t *to, const sbit_t *from, int count)
 {
 	for (int i = 0; i < count; i++)
@@ -74,17 +79,23 @@ static inline int um_xcch_encode(ubit_t *bursts, const uint8_t *l2_data)
 	return 0;
 }
 
+/* The 148 soft bits of a normal burst whose training bits are unknown. */
+static inline void um_osmo_burst(int8_t whole[148], const sbit_t *burst)
+{
+	memset(whole, 0, 148);
+	um_osmo_soft(whole + 3, burst, 58);
+	um_osmo_soft(whole + 87, burst + 58, 58);
+}
+
 /* 0 if the CRC holds, else -1 with l2_data unchanged. n_errors counts against the accepted word, or the most likely one. A call of our
  * own: `most`, 1 to 64, is the number of words that are tried (um_receive_block_among); with another number the answer is -1. */
 static inline int um_xcch_decode_among(uint8_t *l2_data, const sbit_t *bursts, int most, int *n_errors, int *n_bits_total)
 {
-	int8_t whole[4][148] = { { 0 } };
+	int8_t whole[4][148];
 	um_block_report report;
 	uint32_t rank;
-	for (int i = 0; i < 4; i++) {
-		um_osmo_soft(whole[i] + 3, bursts + 116 * i, 58);
-		um_osmo_soft(whole[i] + 87, bursts + 116 * i + 58, 58);
-	}
+	for (int i = 0; i < 4; i++)
+		um_osmo_burst(whole[i], bursts + 116 * i);
 	bool is_read = most == 1 ? um_receive_block((const int8_t (*)[148])whole, &report)
 		: um_receive_block_among((const int8_t (*)[148])whole, (uint32_t)most, &report, &rank);
 	if (n_errors)
@@ -101,6 +112,49 @@ static inline int um_xcch_decode_among(uint8_t *l2_data, const sbit_t *bursts, i
 static inline int um_xcch_decode(uint8_t *l2_data, const sbit_t *bursts, int *n_errors, int *n_bits_total)
 {
 	return um_xcch_decode_among(l2_data, bursts, 1, n_errors, n_bits_total);
+}
+
+/* FACCH, calls of our own: `half_rate` is false for the eight bursts of FACCH/F, and true for the six of FACCH/H. Of the 116 bits of the
+ * four bursts of a block those at even positions are in bursts 0 to 3, those at odd ones in 4, 5, 6, 7, or at half rate in 4, 5, 2, 3. */
+static inline int um_osmo_later(int burst, bool half_rate)
+{
+	return half_rate && burst > 1 ? burst : burst + 4;
+}
+
+/* Writes the halves that carry a block; all other bits stay. */
+static inline int um_facch_encode(ubit_t *bursts, const uint8_t *l2_data, bool half_rate)
+{
+	ubit_t block[464];
+	if (um_xcch_encode(block, l2_data))
+		return -1;
+	for (int i = 0; i < 4; i++)
+		for (int k = 0; k < 116; k += 2) {
+			bursts[116 * i + k] = block[116 * i + k];
+			bursts[116 * um_osmo_later(i, half_rate) + k + 1] = block[116 * i + k + 1];
+		}
+	return 0;
+}
+
+/* Whether the sum of the eight stealing flags says FACCH. */
+static inline bool um_facch_is_stolen(const sbit_t *bursts, bool half_rate)
+{
+	int sum = 0;
+	for (int i = 0; i < 4; i++)
+		sum += bursts[116 * i + 58] + bursts[116 * um_osmo_later(i, half_rate) + 57];
+	return sum < 0;
+}
+
+/* As um_xcch_decode_among, of the halves that carry a block. */
+static inline int um_facch_decode_among(
+	uint8_t *l2_data, const sbit_t *bursts, bool half_rate, int most, int *n_errors, int *n_bits_total)
+{
+	sbit_t block[464];
+	for (int i = 0; i < 4; i++)
+		for (int k = 0; k < 116; k += 2) {
+			block[116 * i + k] = bursts[116 * i + k];
+			block[116 * i + k + 1] = bursts[116 * um_osmo_later(i, half_rate) + k + 1];
+		}
+	return um_xcch_decode_among(l2_data, block, most, n_errors, n_bits_total);
 }
 
 /* Writes the 36 coded bits of an access burst of 8 bits. */
@@ -166,6 +220,10 @@ static inline int um_sch_decode(uint8_t *sb_info, const sbit_t *burst)
 	sb_info[3] = (uint8_t)((sb_info[3] & 0xfe) | report.info[24]);
 	return 0;
 }
+
+#if defined __cplusplus && defined __GNUC__
+#pragma GCC diagnostic pop
+#endif
 
 #ifndef UM_OSMO_OWN_NAMES
 #define gsm0503_xcch_encode um_xcch_encode

@@ -1,7 +1,7 @@
 // um_slots.hpp - frame numbers, synchronisation bursts, the channels of a time slot and its receiver, for um.hpp. Include um.hpp.
+#include "um.hpp" // which includes this file where it belongs
 #ifndef UM_SLOTS_HPP
 #define UM_SLOTS_HPP
-#include "um.hpp"
 
 namespace um {
 
@@ -23,6 +23,8 @@ inline checked<std::uint32_t> frame_of_time(const um_time &time)
 inline checked<um_sch> read_sch(view<std::uint8_t, 25> info)
 {
 	um_sch sch{};
+	if (!info.data())
+		return invalid::count;
 	if (!internal::are_bits(info.data(), 25))
 		return invalid::bit;
 	return um_read_sch(info.data(), &sch) ? checked<um_sch>(sch) : invalid::sch;
@@ -49,6 +51,8 @@ inline std::array<std::uint8_t, 8> write_ra(std::uint8_t ra)
 inline checked<std::uint8_t> read_ra(view<std::uint8_t, 8> info)
 {
 	std::uint8_t ra = 0;
+	if (!info.data())
+		return invalid::count;
 	return um_read_ra(info.data(), &ra) ? checked<std::uint8_t>(ra) : invalid::bit;
 }
 
@@ -61,6 +65,8 @@ inline checked<std::array<std::uint8_t, 6>> write_bsic(std::uint8_t bsic)
 inline checked<std::uint8_t> read_bsic(view<std::uint8_t, 6> bits)
 {
 	std::uint8_t bsic = 0;
+	if (!bits.data())
+		return invalid::count;
 	return um_read_bsic(bits.data(), &bsic) ? checked<std::uint8_t>(bsic) : invalid::bit;
 }
 
@@ -161,6 +167,10 @@ public:
 	{
 		const um_slot before = plain;
 		taken_frame answer;
+		if (!burst.data()) {
+			answer.why_ = taken::count;
+			return answer;
+		}
 		answer.why_ = taken(um_slot_take(&plain, frame_number, burst.data(), &answer.block_));
 		if (answer.why_ == taken::block && are_hard_bits(before, answer.block_.first, frame_number, burst)) {
 			plain = before;
@@ -177,6 +187,23 @@ public:
 		return answer;
 	}
 
+	// Ends the block being collected, at the end of a recording: taken::block if one was, else taken::taken.
+	taken_frame end()
+	{
+		taken_frame answer;
+		answer.why_ = taken(um_slot_end(&plain, &answer.block_));
+		return answer;
+	}
+
+	// Forgets the frames taken and the block being collected; the settings stay. False: the state is not valid. After several late frames in
+	// a row a false frame number or a long pause came before.
+	[[nodiscard]] bool restart() { return um_slot_restart(&plain); }
+
+	// More words and erasures are tried only in a block whose three best bursts have at most so many wrong training bits, 0 to 78. Above 78:
+	// the calls answer taken::noslot.
+	void limit(std::uint8_t wrong) { plain.limit = wrong; }
+	std::uint8_t limit() const { return plain.limit; }
+
 	um::combination combination() const { return um::combination(plain.combination); }
 	um::direction direction() const { return um::direction(plain.direction); }
 
@@ -189,19 +216,21 @@ public:
 	static std::optional<slot> from_bytes(view<std::uint8_t, octet_count> saved)
 	{
 		slot restored(um::combination::sdcch8);
-		return um_slot_from_bytes(&restored.plain, saved.data()) ? std::optional(restored) : std::nullopt;
+		return saved.data() && um_slot_from_bytes(&restored.plain, saved.data()) ? std::optional(restored) : std::nullopt;
 	}
 
 private:
-	// the soft bits of a block: those held, and this burst if it is one of the block
+	// Whether a block is of hard bits: those held, and this burst. If the frame is of a later block, its burst is not to blame, and if it
+	// were refused, so would be every later one.
 	static bool are_hard_bits(const um_slot &before, std::uint32_t first, std::uint32_t frame_number, view<std::int8_t, 148> burst)
 	{
 		std::int8_t soft[4][148] = {};
 		um_place found{};
+		if (um_place_frame(before.combination, before.direction, before.timeslot, frame_number, &found) != UM_PLACED || found.first != first)
+			return false;
 		if (before.first == first)
 			std::memcpy(soft, before.bursts, sizeof soft);
-		if (um_place_frame(before.combination, before.direction, before.timeslot, frame_number, &found) == UM_PLACED && found.first == first)
-			std::memcpy(soft[found.burst], burst.data(), 148);
+		std::memcpy(soft[found.burst], burst.data(), 148);
 		return um_are_hard_bits(soft[0], 592);
 	}
 	um_slot plain;

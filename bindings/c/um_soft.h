@@ -12,6 +12,10 @@
 #define UM_LLR_SCALE 4.0f /* for natural logarithms of likelihood ratios */
 
 #ifdef __cplusplus
+#ifdef __GNUC__
+#pragma GCC diagnostic push
+#pragma GCC diagnostic ignored "-Wold-style-cast" /* this is C */
+#endif
 extern "C" {
 #endif
 
@@ -51,12 +55,12 @@ static inline bool um_soft_from_llr(const float *llrs, float scale, int8_t *soft
 		if (!(llrs[i] >= 0 || llrs[i] < 0))
 			return false;
 	for (size_t i = 0; i < count; i++) {
-		float value = llrs[i] * scale;
+		double value = (double)llrs[i] * (double)scale; /* exact: a float would be rounded twice */
 		value = value > 127 ? 127 : value < -127 ? -127 : value;
 		int whole = (int)value; /* towards 0 */
-		float rest = value - (float)whole;
-		whole += rest > 0.5f || (rest == 0.5f && whole % 2) ? 1 : 0;
-		whole -= rest < -0.5f || (rest == -0.5f && whole % 2) ? 1 : 0;
+		double rest = value - whole;
+		whole += rest > 0.5 || (rest == 0.5 && whole % 2) ? 1 : 0;
+		whole -= rest < -0.5 || (rest == -0.5 && whole % 2) ? 1 : 0;
 		soft[i] = (int8_t)whole;
 	}
 	return true;
@@ -64,5 +68,8 @@ static inline bool um_soft_from_llr(const float *llrs, float scale, int8_t *soft
 
 #ifdef __cplusplus
 }
+#ifdef __GNUC__
+#pragma GCC diagnostic pop
+#endif
 #endif
 #endif

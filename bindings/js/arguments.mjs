@@ -19,12 +19,12 @@ export const place = (name, value, words) => {
   throw new RangeError(`${name} is ${shown(value)}; expected ${words.map((word) => JSON.stringify(word)).join(" or ")}`);
 };
 
-// tests that an object has no other members than these
+// an object's own members, which are no others than these
 export const membersOf = (name, value, known) => {
   if (typeof value !== "object" || value === null) throw new TypeError(`${name} is ${shown(value)}; expected an object`);
   const other = Object.keys(value).find((key) => !known.includes(key));
   if (other !== undefined) throw new RangeError(`${name} has a member ${JSON.stringify(other)}; expected ${known.join(", ")}`);
-  return value;
+  return { __proto__: null, ...value };
 };
 
 const isTyped = (value) => ArrayBuffer.isView(value) && !(value instanceof DataView);
@@ -59,66 +59,107 @@ const counted = (name, values, count, form) => {
   return length;
 };
 
-// Tests the first `count` values of a list and writes them to `memory`, reading each once. A hole of a sparse array is undefined.
-const putTested = (memory, at, name, values, count, { least, most, own }) => {
-  if (own !== null && values instanceof own) {
-    memory.set(count < lengthOf(values) ? values.subarray(0, count) : values, at);
+// Tests the first `count` values of a list and writes them to `list`, reading each once. A hole of a sparse array is undefined.
+const readTested = (list, from, name, values, count, { least, most, own }) => {
+  if (own !== null && values instanceof own && count === lengthOf(values)) {
+    list.set(values, from);
     return;
   }
   for (let i = 0; i < count; i++) {
     const value = values[i];
     const fits = typeof value === "number" && value === (value | 0) && value >= least && value <= most;
     if (!fits) integer(`${name}[${i}]`, value, least, most);
-    memory[at + i] = value;
+    list[from + i] = value;
   }
 };
 
-const putList = (memory, at, name, values, count, form) => {
-  const length = counted(name, values, count, form);
-  putTested(memory, at, name, values, length, form);
-  return length;
+// To read a list can run code of the caller's, a getter or a proxy, and that can call the package. So a list is read into memory of its
+// own, and only then written to the module's. A call meanwhile takes other memory.
+const made = (count = 592) => {
+  const soft = new Int8Array(count);
+  return { soft, octets: new Uint8Array(soft.buffer) };
+};
+let spare = made();
+
+// writes the first `count` octets or bits of a list, no more than 592
+const putFirst = (memory, at, name, values, count, form) => {
+  const own = spare ?? made();
+  spare = null;
+  try {
+    readTested(own.octets, 0, name, values, count, form);
+    for (let i = 0; i < count; i++) memory[at + i] = own.octets[i];
+  } finally {
+    spare = own;
+  }
 };
 
-export const putOctets = (memory, at, name, values, count) => putList(memory, at, name, values, count, OCTET);
-export const putBits = (memory, at, name, values, count) => putList(memory, at, name, values, count, BIT);
+export const putOctets = (memory, at, name, values, count) =>
+  putFirst(memory, at, name, values, counted(name, values, count, OCTET), OCTET);
+export const putBits = (memory, at, name, values, count) => putFirst(memory, at, name, values, counted(name, values, count, BIT), BIT);
 
-export const octetsOf = (name, values, count) => {
-  const octets = new Uint8Array(counted(name, values, count, OCTET));
-  putTested(octets, 0, name, values, octets.length, OCTET);
-  return octets;
+const listOf = (name, values, count, form) => {
+  const list = new Uint8Array(counted(name, values, count, form));
+  readTested(list, 0, name, values, list.length, form);
+  return list;
+};
+export const octetsOf = (name, values, count) => listOf(name, values, count, OCTET);
+export const bitsOf = (name, values, count) => listOf(name, values, count, BIT);
+
+// the bits of bursts of 148, one list or a list of bursts
+export const bitRows = (name, values, count) => {
+  if (!Array.isArray(values) || typeof values[0] === "number") return bitsOf(name, values, 148 * count);
+  if (values.length !== count) throw new RangeError(`${name} has ${values.length} bursts; expected ${count}`);
+  const all = new Uint8Array(148 * count);
+  for (let i = 0; i < count; i++) all.set(bitsOf(`${name}[${i}]`, values[i], 148), 148 * i);
+  return all;
 };
 
 // writes at most `most` octets of a message, and returns how many; nobody reads the rest of a message that is too long
 export const putFirstOctets = (memory, at, name, values, most) => {
   const count = Math.min(counted(name, values, undefined, OCTET), most);
-  putTested(memory, at, name, values, count, OCTET);
+  putFirst(memory, at, name, values, count, OCTET);
   return count;
 };
 
-// Writes soft bits as long as they are valid, and returns how many. Soft bits alone, in a loop that engines compile for lists of numbers.
-const putValid = (memory, at, values, count) => {
+// Reads soft bits as long as they are valid, and returns how many. Soft bits alone, in a loop that engines compile for lists of numbers.
+const readValid = (soft, from, values, count) => {
   for (let i = 0; i < count; i++) {
     const value = values[i];
     if (typeof value !== "number" || value !== (value | 0) || value < -127 || value > 127) return i;
-    memory[at + i] = value;
+    soft[from + i] = value;
   }
   return count;
 };
 
-const putBurst = (memory, at, nameOf, values, count) => {
-  if (values instanceof Int8Array && typedLength.call(values) === count) {
-    memory.set(values, at);
-  } else if (!Array.isArray(values) || values.length !== count || putValid(memory, at, values, count) < count) {
-    putList(memory, at, nameOf(), values, count, SOFT);
+const isSoft = (values, count) => values instanceof Int8Array && typedLength.call(values) === count;
+
+// a list of bursts has an index for each
+const readBurst = (soft, from, name, index, values, count) => {
+  if (isSoft(values, count)) {
+    soft.set(values, from);
+  } else if (!Array.isArray(values) || values.length !== count || readValid(soft, from, values, count) < count) {
+    const whole = index === undefined ? name : `${name}[${index}]`;
+    readTested(soft, from, whole, values, counted(whole, values, count, SOFT), SOFT);
   }
 };
 
 // `count` soft bits, as one list or as a list of bursts; -128 in an Int8Array is left for the library to refuse
 export const putSoft = (memory, at, name, values, count) => {
-  if (Array.isArray(values) && values.length === count / 148 && typeof values[0] !== "number") {
-    for (let i = 0; i < count / 148; i++) putBurst(memory, at + 148 * i, () => `${name}[${i}]`, values[i], 148);
-  } else {
-    putBurst(memory, at, () => name, values, count);
+  if (isSoft(values, count)) {
+    memory.set(values, at);
+    return;
+  }
+  const own = count > 592 ? made(count) : (spare ?? made());
+  spare = null;
+  try {
+    if (Array.isArray(values) && values.length === count / 148 && typeof values[0] !== "number") {
+      for (let i = 0; i < count / 148; i++) readBurst(own.soft, 148 * i, name, i, values[i], 148);
+    } else {
+      readBurst(own.soft, 0, name, undefined, values, count);
+    }
+    memory.set(count === own.soft.length ? own.soft : own.soft.subarray(0, count), at);
+  } finally {
+    spare = count > 592 ? made() : own;
   }
 };
 
@@ -143,7 +184,7 @@ export const refuseHardBits = (name) => {
 /** Converts hard bits to soft bits: 127 for a 0, -127 for a 1. */
 export const softFromBits = (bits) => {
   const soft = new Int8Array(counted("bits", bits, undefined, BIT));
-  putTested(soft, 0, "bits", bits, soft.length, BIT);
+  readTested(soft, 0, "bits", bits, soft.length, BIT);
   for (let i = 0; i < soft.length; i++) soft[i] = soft[i] ? -127 : 127;
   return soft;
 };

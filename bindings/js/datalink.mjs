@@ -1,17 +1,19 @@
 // datalink.mjs - one side of a channel with its loop.
 import { integer, membersOf, octetsOf, place, putOctets } from "./arguments.mjs";
-import { END, End, restoredHead, sapiOf } from "./ends.mjs";
-import { CHANNELS, REFUSALS, Refused, ROLES, STATES } from "./words.mjs";
+import { END, End, headOf, restoredHead, sapiOf } from "./ends.mjs";
+import { CHANNELS, ESTABLISHMENTS, REFUSALS, Refused, ROLES, STATES } from "./words.mjs";
 
-// um_datalink: two um_timed_end, each a um_end with padding, 27 octets more and padding; two octets; and padding
+// um_datalink: two um_timed_end, each a um_end with padding, 28 octets more and padding; two octets; and padding
 const TIMED = 2616;
 const DATALINK = 2 * TIMED + 8;
 const PARTS = [0, TIMED].flatMap((at) => [
   [at, at + 2581],
-  [at + END, at + END + 27],
+  [at + END, at + END + 28],
 ]);
 PARTS.push([2 * TIMED, 2 * TIMED + 2]);
 const OCTETS = PARTS.reduce((sum, [from, to]) => sum + to - from, 4);
+const OWED = END + 3;
+const VERSION = "2";
 const FREE = 10;
 
 export class DataLink {
@@ -29,6 +31,9 @@ export class DataLink {
   get channel() {
     return CHANNELS[this.#state[10]];
   }
+  get establishment() {
+    return ESTABLISHMENTS[this.#state[9] === 3 ? 1 : 0];
+  }
   state(sapi) {
     return STATES[this.#state[11 + (sapiOf(sapi) ? TIMED : 0)]];
   }
@@ -36,12 +41,16 @@ export class DataLink {
     const at = sapiOf(sapi) ? TIMED : 0;
     return new End(this.#machine, this.#state.slice(at, at + END));
   }
+  get idle() {
+    const waits = (at) => this.#state[at + OWED] !== 0 || new End(this.#machine, this.#state.slice(at, at + END)).timerRuns;
+    return !waits(0) && !waits(TIMED);
+  }
   copy() {
     return new DataLink(this.#machine, this.#state.slice());
   }
   toBytes() {
     const octets = new Uint8Array(OCTETS);
-    octets.set([0x75, 0x6d, 0x4c, 0x31]);
+    octets.set(headOf("L", VERSION));
     PARTS.reduce((at, [from, to]) => (octets.set(this.#state.subarray(from, to), at), at + to - from), 4);
     return octets;
   }
@@ -49,16 +58,30 @@ export class DataLink {
   open(info) {
     this.#send("um_datalink_open", info);
   }
+  establish(sapi) {
+    this.#call("um_datalink_establish", sapiOf(sapi));
+  }
   openBare() {
-    this.#call("um_datalink_open_bare");
+    this.#call("um_datalink_establish", 3);
   }
   send(sapi, octets) {
     this.#send("um_datalink_send", octets, sapiOf(sapi));
   }
+  unacked(sapi) {
+    const m = this.#machine;
+    const number = sapiOf(sapi);
+    const messages = [];
+    m.octets.set(this.#state, m.input);
+    while (m.call("um_datalink_unacked", m.INPUT, number, messages.length, m.SECOND) === 0) {
+      messages.push(m.copy(m.second + 1, m.octets[m.second]));
+    }
+    return messages;
+  }
   unit(sapi, octets, layer1 = [0, 0]) {
     const m = this.#machine;
-    putOctets(m.octets, m.beside + 32, "layer1", layer1, 2);
+    const two = octetsOf("layer1", layer1, 2);
     m.putMessage("octets", octets);
+    m.octets.set(two, m.beside + 32);
     this.#call("um_datalink_unit", sapiOf(sapi), m.SECOND, m.BESIDE + 32n, m.BESIDE);
     return m.copy(m.beside, 23);
   }
@@ -92,23 +115,34 @@ export class DataLink {
     const m = this.#machine;
     m.octets.set(this.#state, m.input);
     const answer = m.call(name, m.INPUT, ...values);
-    if (answer !== 0 && answer !== FREE) throw new Refused(REFUSALS[answer - 1]);
+    if (answer !== 0 && answer !== FREE) throw new Refused(REFUSALS[answer - 1], this.#why(name, answer, values[0]));
     this.#state.set(m.octets.subarray(m.input, m.input + DATALINK));
     return answer;
+  }
+  // what a refusal has to say of this data link; otherwise the words of the reason
+  #why(name, answer, sapi) {
+    if (name === "um_datalink_open" && REFUSALS[answer - 1] === "nocall") {
+      const who = this.role === "network" ? "the network" : "a link of normal establishment";
+      return `open is for a mobile, by contention; ${who} is opened with establish(0)`;
+    }
+    if (name !== "um_datalink_establish") return undefined;
+    return `the link is ${this.state(sapi)}; establish expects one that is idle, open or closed`;
   }
 }
 
 export const newDataLink = (m, role, options) => {
-  const { channel = "sdcch", t200 = 4, t200Sapi3 } = membersOf("options", options, ["channel", "t200", "t200Sapi3"]);
+  const names = ["channel", "t200", "t200Sapi3", "establishment"];
+  const { channel = "sdcch", t200 = 4, t200Sapi3, establishment = "contention" } = membersOf("options", options, names);
   const first = integer("t200", t200, 1, 255);
   const third = t200Sapi3 === undefined ? Math.min(first + 2, 255) : integer("t200Sapi3", t200Sapi3, 1, 255);
   m.octets.fill(0, m.input, m.input + DATALINK);
-  m.told("um_datalink_new", m.INPUT, place("role", role, ROLES), place("channel", channel, CHANNELS), first, third);
+  const kind = place("establishment", establishment, ESTABLISHMENTS);
+  m.told("um_datalink_new_for", m.INPUT, place("role", role, ROLES), place("channel", channel, CHANNELS), kind, first, third);
   return new DataLink(m, m.copy(m.input, DATALINK));
 };
 
 export const dataLinkFromBytes = (m, values) => {
-  const octets = restoredHead("L", octetsOf("octets", values, OCTETS));
+  const octets = octetsOf("octets", restoredHead("L", octetsOf("octets", values), VERSION), OCTETS);
   const state = new Uint8Array(DATALINK);
   PARTS.reduce((at, [from, to]) => (state.set(octets.subarray(at, at + to - from), from), at + to - from), 4);
   m.octets.set(state, m.input);

@@ -7,7 +7,7 @@ export const END = 2584;
 const FIELDS = 2581;
 const HEAD = 4;
 
-const headOf = (letter) => Uint8Array.of(0x75, 0x6d, letter.charCodeAt(0), 0x31);
+export const headOf = (letter, version = "1") => Uint8Array.of(0x75, 0x6d, letter.charCodeAt(0), version.charCodeAt(0));
 const textOf = (octets) => JSON.stringify(String.fromCharCode(...octets));
 
 // the saved form of a state of some links
@@ -20,8 +20,8 @@ export const saved = (letter, state) => {
 };
 
 // tests the head of a saved form, and returns the octets
-export const restoredHead = (letter, octets) => {
-  const head = headOf(letter);
+export const restoredHead = (letter, octets, version) => {
+  const head = headOf(letter, version);
   if (head.every((octet, i) => octets[i] === octet)) return octets;
   throw new RangeError(`octets begins with ${textOf(octets.subarray(0, HEAD))}; expected ${textOf(head)}, as toBytes() writes it`);
 };

@@ -54,8 +54,16 @@ export class Machine {
 
   // a call on `count` soft bits, which refuses only -128 once the other arguments are tested
   receive(call, name, values, count, ...others) {
+    this.putSoft(name, values, count);
+    this.decode(call, name, values, count, ...others);
+  }
+
+  putSoft(name, values, count) {
     putSoft(this.signed, this.input, name, values, count);
     if (this.#areHardBits(count)) refuseHardBits(name);
+  }
+
+  decode(call, name, values, count, ...others) {
     if (!this.call(call, this.INPUT, ...others)) refuse128(name, values, count);
   }
 

@@ -13,6 +13,8 @@ export type SoftBits = Numbers | readonly Numbers[];
 export type Kind = "i" | "rr" | "rnr" | "rej" | "sabm" | "dm" | "ui" | "disc" | "ua";
 export type Channel = "sdcch" | "sacch";
 export type Role = "mobile" | "network";
+/** How the link of SAPI 0 is opened: by contention at the mobile, or without information by either side. */
+export type Establishment = "contention" | "normal";
 export type State = "idle" | "opening" | "open" | "closing" | "closed";
 /** Why 23 octets are not a frame. */
 export type Unread = "lpd" | "ea" | "control" | "el" | "length" | "empty" | "more";
@@ -22,10 +24,16 @@ export type Reason = "contention" | "failed" | "refused" | "released";
 export type Refusal = "notidle" | "notopen" | "notrunning" | "empty" | "toolong" | "full" | "noend" | "nocall" | "noframe";
 /** Why a slot refuses a frame. */
 export type SlotRefusal = "noslot" | "doubled" | "late";
-/** The channels of a time slot. "tch_f" has only the SACCH of a full rate traffic channel. */
-export type Combination = "bcch_ccch" | "bcch_ccch_sdcch4" | "sdcch8" | "tch_f";
+/** The channels of a time slot. "tch_f" and "tch_h" have only the SACCH of traffic channels. */
+export type Combination = "bcch_ccch" | "bcch_ccch_sdcch4" | "sdcch8" | "tch_f" | "tch_h";
+/** A traffic channel: full rate, or one of the two of a time slot at half rate. */
+export type TrafficChannel = "full_rate" | "half_rate_0" | "half_rate_1";
+/** "sacch"; "facch", whose CRC holds; "stolen": no CRC holds, but the flags rather say FACCH; "speech": other traffic. */
+export type TrafficKind = "sacch" | "facch" | "stolen" | "speech";
+/** Why a receiver of a traffic channel refuses a frame. */
+export type TrafficRefusal = "notraffic" | "doubled" | "late";
 export type Direction = "downlink" | "uplink";
-export type LogicalChannel = Channel | "bcch" | "ccch" | "fcch" | "sch" | "rach";
+export type LogicalChannel = Channel | "bcch" | "ccch" | "fcch" | "sch" | "rach" | "facch";
 export type Bit = 0 | 1;
 export type Sapi = 0 | 3;
 
@@ -48,7 +56,7 @@ export interface BlockReport extends Report {
 }
 /** Which burst was erased, and how well the bursts fit the training sequence. */
 export interface Erasure {
-  /** The burst that was set to zeros, 0 to 3; null if none was. */
+  /** The burst that was set to zeros, 0 to 3, of FACCH 0 to 7 as they were sent, at half rate 0 to 5; null if none was. */
   erased: number | null;
   /** Bit errors in the 26 training bits of each burst as received; 26 in a burst that never came. */
   wrongTraining: number[];
@@ -65,6 +73,23 @@ export interface SlotBlock extends BlockReport {
   /** How many of the four bursts came. */
   heard: number;
   erasure: Erasure;
+}
+/** The traffic burst of a frame. */
+export interface TrafficPlace {
+  /** Its number in the 26-multiframe: 0 to 23, at half rate 0 to 11. */
+  burst: number;
+  /** The number of the block of FACCH that begins with it: 0 to 5, at half rate 0 to 2; null: none. */
+  begins: number | null;
+  /** The number of the block of FACCH that ends with it; null: none. */
+  ends: number | null;
+}
+/** A block of a traffic channel. */
+export interface TrafficBlock extends SlotBlock {
+  kind: TrafficKind;
+  /** The sum of the eight stealing flags, negative if they rather say FACCH; not of SACCH. */
+  flags?: number;
+  /** The halves joined to the 592 soft bits of a block; not of SACCH. */
+  bursts?: Int8Array;
 }
 /** What a synchronisation burst says. */
 export interface Sch {

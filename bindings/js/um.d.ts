@@ -1,7 +1,7 @@
 import type {
   Numbers, Octets, Bits, SoftBits, Kind, Channel, Role, State, Unread, Reason, Refusal, SlotRefusal, Combination, Direction,
   LogicalChannel, Bit, Sapi, Report, BlockReport, Erasure, SlotBlock, Sch, Place, Margin, Repair, Frame, FrameFields, Notice,
-  LinkNotice, Sent, Effects, Variables,
+  LinkNotice, Sent, Effects, Variables, Establishment, TrafficChannel, TrafficKind, TrafficRefusal, TrafficPlace, TrafficBlock,
 } from "./types.js";
 
 export * from "./types.js";
@@ -11,6 +11,7 @@ export const VERSION: string;
 export const KINDS: readonly Kind[];
 export const CHANNELS: readonly Channel[];
 export const ROLES: readonly Role[];
+export const ESTABLISHMENTS: readonly Establishment[];
 export const STATES: readonly State[];
 export const NOTICES: readonly Notice["kind"][];
 export const REASONS: readonly Reason[];
@@ -20,13 +21,16 @@ export const SLOT_REFUSALS: readonly SlotRefusal[];
 export const COMBINATIONS: readonly Combination[];
 export const DIRECTIONS: readonly Direction[];
 export const LOGICAL_CHANNELS: readonly LogicalChannel[];
+export const TRAFFIC_CHANNELS: readonly TrafficChannel[];
+export const TRAFFIC_KINDS: readonly TrafficKind[];
+export const TRAFFIC_REFUSALS: readonly TrafficRefusal[];
 /** The frames of a hyperframe: frame numbers are 0 to FRAMES - 1. */
 export const FRAMES: number;
 
 /** An endpoint, a data link or a slot refused a call; its state is unchanged. */
 export class Refused extends Error {
-  readonly reason: Refusal | SlotRefusal;
-  constructor(reason: Refusal | SlotRefusal, message?: string);
+  readonly reason: Refusal | SlotRefusal | TrafficRefusal;
+  constructor(reason: Refusal | SlotRefusal | TrafficRefusal, message?: string);
 }
 
 /** Converts hard bits to soft bits: 127 for a 0, -127 for a 1. */
@@ -65,7 +69,7 @@ export class Um {
   /** The exports of the WebAssembly instance. Nothing tests the arguments of direct calls. */
   readonly exports: Readonly<Record<string, unknown>>;
 
-  /** The version of um.wasm, such as "0.2.0"; `load` takes only one with the first two numbers of VERSION. */
+  /** The version of um.wasm, such as "0.3.0"; `load` takes only one with the first two numbers of VERSION. */
   version(): string;
 
   /** Encodes a block of 23 octets into the 592 bits of four normal bursts, with training sequence 0 to 7. */
@@ -134,13 +138,44 @@ export class Um {
     subchannel: number,
     frame: number,
   ): number;
-  /** A new receiver of one time slot; words and erasures as in `receiveBlockErasing`, 1 and 0 unless the options say otherwise. */
-  slot(combination: Combination, options?: { direction?: Direction; timeslot?: number; words?: number; erasures?: number }): Slot;
+  /**
+   * A new receiver of one time slot; words and erasures as in `receiveBlockErasing`, 1 and 0 unless the options say otherwise. More words
+   * and erasures are tried only if the three best bursts have at most `limit` wrong training bits together, of 78, which is no limit.
+   */
+  slot(combination: Combination, options?: SlotOptions): Slot;
+  /** A new receiver of a traffic channel, with the options of a slot. */
+  traffic(channel: TrafficChannel, options?: SlotOptions): Traffic;
+  /** The traffic burst that a frame carries. Null: it is of SACCH, of the other half, or idle. */
+  placeTraffic(channel: TrafficChannel, direction: Direction, frame: number): TrafficPlace | null;
+  /** The first frame number, at or after `frame`, in which a block of FACCH begins. */
+  nextFacch(channel: TrafficChannel, direction: Direction, frame: number): number;
+  /**
+   * Writes a block of four bursts (`sendBlock`) into the bursts of a traffic channel that carry it, eight or at half rate six, and returns
+   * them: its halves of their bits and flags, the tail bits and the training sequence. The other halves stay as they are.
+   */
+  stealFacch(block: Bits | readonly Bits[], bursts: Bits | readonly Bits[]): Uint8Array;
+  /** Joins the halves of eight received bursts, or at half rate six, to the 592 soft bits of a block. */
+  joinFacch(bursts: SoftBits): Int8Array;
+  /**
+   * Receives a block of FACCH from the eight bursts that carry it, or at half rate six. If no word's CRC holds, decodes the block again
+   * with one of these bursts set to zeros, for each of at most `erasures` bursts (0 to 8, or 0 to 6) in turn, the one with the most wrong
+   * training bits first. The report's training bits are those of all these bursts.
+   */
+  receiveFacchErasing(bursts: SoftBits, most: number, erasures: number): BlockReport & { rank: number; erasure: Erasure };
+  /** The sum of a joined block's eight stealing flags, negative if they rather say FACCH, and how many do not say so. */
+  stealingFlags(block: SoftBits): { sum: number; wrong: number };
+  /** Ciphers or deciphers the 114 coded bits of a burst of 148 by a key stream of 114. */
+  cipherBits(burst: Bits, stream: Bits): Uint8Array;
+  /** Deciphers the 114 coded bits of a burst of 148 soft bits: changes their signs where the stream has 1. */
+  softCipher(burst: Numbers, stream: Bits): Int8Array;
   /** Restores a slot from `slot.toBytes()`. Throws Refused with the reason "noslot" if the state is not valid. */
   slotFromBytes(octets: Octets): Slot;
 
-  /** A new data link. T200 is in slots, 4 unless the options say otherwise, and 2 more for SAPI 3. */
-  dataLink(role: Role, options?: { channel?: Channel; t200?: number; t200Sapi3?: number }): DataLink;
+  /**
+   * A new data link. T200 is in slots, 4 unless the options say otherwise, and 2 more for SAPI 3. `establishment` is "contention" unless
+   * the options say "normal", for the channel of an assignment or a handover.
+   */
+  dataLink(role: Role, options?: { channel?: Channel; t200?: number; t200Sapi3?: number; establishment?: Establishment }): DataLink;
   /** Restores a data link from `link.toBytes()`. Throws Refused with the reason "noend" if the state is not valid. */
   dataLinkFromBytes(octets: Octets): DataLink;
 
@@ -235,7 +270,8 @@ export class Slot {
   readonly combination: Combination;
   readonly direction: Direction;
   readonly timeslot: number;
-  /** The state in the form that all languages read: 610 octets, for `slotFromBytes`. */
+  readonly limit: number;
+  /** The state in the form that all languages read: 611 octets, for `slotFromBytes`. */
   toBytes(): Uint8Array;
   /** An independent copy. */
   copy(): Slot;
@@ -244,31 +280,85 @@ export class Slot {
    * Refused with the reason "doubled" if the frame was taken last, "late" if it is before that one.
    */
   take(frame: number, burst?: Numbers | null): SlotBlock | null;
+  /** Ends the block being collected, at the end of a recording; null if there is none. */
+  end(): SlotBlock | null;
+  /**
+   * Forgets the frames taken and the block being collected; the settings stay. After several late frames in a row (8, say) a frame number
+   * was false, or there was a long pause: restart, and take the frame again.
+   */
+  restart(): void;
+}
+
+/** The options of receivers. */
+export interface SlotOptions {
+  direction?: Direction;
+  timeslot?: number;
+  words?: number;
+  erasures?: number;
+  limit?: number;
+}
+
+/**
+ * A receiver of a traffic channel: collects the bursts of FACCH and of SACCH by their frame numbers. The frames come as those of a `Slot`
+ * do. A block is decoded as FACCH whatever its stealing flags say.
+ */
+export class Traffic {
+  private constructor();
+  readonly channel: TrafficChannel;
+  /** The bursts of the block that was reported last, as they came, eight or at half rate six; until the next call. */
+  readonly bursts: Int8Array[];
+  /** An independent copy. */
+  copy(): Traffic;
+  /**
+   * Takes the 148 soft bits of the burst of a frame, or none if it did not come. Returns the blocks that ended before it and the one that
+   * it completes, at most three. Throws Refused with the reason "doubled" or "late" as a slot does.
+   */
+  take(frame: number, burst?: Numbers | null): TrafficBlock[];
+  /** Ends the blocks being collected, at the end of a recording. */
+  end(): TrafficBlock[];
+  /** Forgets the frames taken and the blocks being collected; the settings stay. */
+  restart(): void;
 }
 
 /**
  * One side of a channel with its loop. In each slot, the time of one block each way, call `take` with what arrived, if anything did, then
  * the calls of layer 3, then `next` for the block to send. There is no queue and no timer: T200 counts slots. It is at least 2 + 2d, where
  * a block arrives d slots later than the slot after it was sent, and the same at both sides.
+ *
+ * After the notice `closed` go on with `take` and `next`: the answer to the other side's release goes out in the next slot. Go on until
+ * `idle`, and for two T200 more where blocks are lost, since the other side repeats a release whose answer did not arrive.
  */
 export class DataLink {
   private constructor();
   readonly role: Role;
   readonly channel: Channel;
+  /** How the link of SAPI 0 is opened. A mobile that calls `establish(0)` on a link of "contention" makes it "normal". */
+  readonly establishment: Establishment;
   /** The state of a link. */
   state(sapi: Sapi): State;
-  /** A copy of the endpoint of a link. */
+  /** A copy of the endpoint of a link. A link of SAPI 0 of normal establishment has an endpoint as on SAPI 3. */
   end(sapi: Sapi): End;
-  /** The state in the form that all languages read: 5,222 octets, for `dataLinkFromBytes`. */
+  /** The state in the form that all languages read: 5,224 octets, for `dataLinkFromBytes`. */
   toBytes(): Uint8Array;
   /** An independent copy. */
   copy(): DataLink;
-  /** Opens the link of SAPI 0, at the mobile, with 1 to 20 octets of information (18 on SACCH). */
+  /** Opens the link of SAPI 0 by contention, at the mobile, with 1 to 20 octets of information (18 on SACCH). */
   open(info: Octets): void;
-  /** Opens the link of SAPI 3, at either side. If it is closed, its end starts afresh first. */
+  /**
+   * Opens the link of a SAPI without information, at either side. If it is closed or open, its end starts afresh first: fetch what is not
+   * acknowledged with `unacked` before. The other side reports "opened" again if its end is closed, or is open by contention, or is open
+   * and has received an I, RR, RNR or REJ. Refused while the link is being opened or released.
+   */
+  establish(sapi: Sapi): void;
+  /** `establish(3)`. */
   openBare(): void;
   /** Sends a message of 1 to 251 octets over the link of a SAPI, which holds at most eight that are not acknowledged. */
   send(sapi: Sapi, octets: Octets): void;
+  /**
+   * The messages that were passed to `send` and are not completely acknowledged, oldest first: what to send again over another link. The
+   * other side may have received the first of them. They can be read after the notice `closed` too, until a new opening or `closeLocal`.
+   */
+  unacked(sapi: Sapi): Uint8Array[];
   /** A UI frame with 1 to 20 octets (18 on SACCH), for a slot in which `next` says that it is free. */
   unit(sapi: Sapi, octets: Octets, layer1?: Octets): Uint8Array;
   /** Releases the link of a SAPI. */
@@ -281,4 +371,6 @@ export class DataLink {
   take(block: Octets): LinkNotice[];
   /** The block for this slot. On SACCH it begins with the two octets of `layer1`. */
   next(layer1?: Octets): Sent;
+  /** Whether nothing waits for a slot and no frame awaits an answer, so that each next slot is free until a call or a block changes it. */
+  readonly idle: boolean;
 }

@@ -7,20 +7,25 @@
 //   const bursts = um.sendBlock(octets, 7); // 592 bits, four bursts of 148
 //   const report = um.receiveBlock(softFromBits(bursts)); // report.accepted holds the 23 octets
 
-import { integer, membersOf, octetsOf, place, putBits, putOctets, shown } from "./arguments.mjs";
+import { bitsOf, integer, membersOf, octetsOf, place, putBits, putOctets, shown } from "./arguments.mjs";
 import { END, End, restored, Side } from "./ends.mjs";
 import { dataLinkFromBytes, newDataLink } from "./datalink.mjs";
 import { Machine } from "./machine.mjs";
 import { detectTraining, newSlot, receiveBlockErasing, slotFromBytes } from "./slot.mjs";
+import {
+  cipherBits, joinFacch, newTraffic, nextFacch, placeTraffic, receiveFacchErasing, softCipher, stealFacch, stealingFlags,
+} from "./traffic.mjs";
 import { frameOfTime, nextBlock, placeFrame, readBsic, readRa, readSch, timeOfFrame, writeBsic, writeRa, writeSch } from "./tdma.mjs";
 import { CHANNELS, KINDS, Refused, ROLES, SAPIS, UNREAD, VERSION } from "./words.mjs";
 
 export { softFromBits, softFromLlr, softFromSbits, softFromTrx } from "./arguments.mjs";
-export { CHANNELS, KINDS, NOTICES, REASONS, REFUSALS, Refused, ROLES, STATES, UNREAD } from "./words.mjs";
-export { COMBINATIONS, DIRECTIONS, LOGICAL_CHANNELS, SLOT_REFUSALS, VERSION } from "./words.mjs";
+export { CHANNELS, ESTABLISHMENTS, KINDS, NOTICES, REASONS, REFUSALS, Refused, ROLES, STATES, UNREAD } from "./words.mjs";
+export { COMBINATIONS, DIRECTIONS, LOGICAL_CHANNELS, SLOT_REFUSALS } from "./words.mjs";
+export { TRAFFIC_CHANNELS, TRAFFIC_KINDS, TRAFFIC_REFUSALS, VERSION } from "./words.mjs";
 export { End, Side } from "./ends.mjs";
 export { DataLink } from "./datalink.mjs";
 export { Slot } from "./slot.mjs";
+export { Traffic } from "./traffic.mjs";
 export { FRAMES } from "./tdma.mjs";
 
 const FRAME = 28;
@@ -88,16 +93,19 @@ export class Um {
 
   sendAccess(info, bsic) {
     const m = this.#machine;
-    putBits(m.octets, m.input, "info", info, 8);
+    const bits = bitsOf("info", info, 8);
     putBits(m.octets, m.second, "bsic", bsic, 6);
+    m.octets.set(bits, m.input);
     m.told("um_send_access", m.INPUT, m.SECOND, m.OUTPUT);
     return m.copy(m.output, 88);
   }
 
   receiveAccess(burst, bsic) {
     const m = this.#machine;
-    putBits(m.octets, m.second, "bsic", bsic, 6);
-    m.receive("um_receive_access", "burst", burst, 88, m.SECOND, m.OUTPUT);
+    const code = bitsOf("bsic", bsic, 6);
+    m.putSoft("burst", burst, 88);
+    m.octets.set(code, m.second);
+    m.decode("um_receive_access", "burst", burst, 88, m.SECOND, m.OUTPUT);
     return m.report(12, 8, 18);
   }
 
@@ -178,7 +186,34 @@ export class Um {
   }
 
   slot(combination, options = {}) {
-    return newSlot(this.#machine, combination, membersOf("options", options, ["direction", "timeslot", "words", "erasures"]));
+    return newSlot(this.#machine, combination, membersOf("options", options, ["direction", "timeslot", "words", "erasures", "limit"]));
+  }
+  traffic(channel, options = {}) {
+    return newTraffic(this.#machine, channel, membersOf("options", options, ["direction", "timeslot", "words", "erasures", "limit"]));
+  }
+  placeTraffic(channel, direction, frame) {
+    return placeTraffic(this.#machine, channel, direction, frame);
+  }
+  nextFacch(channel, direction, frame) {
+    return nextFacch(this.#machine, channel, direction, frame);
+  }
+  stealFacch(block, bursts) {
+    return stealFacch(this.#machine, block, bursts);
+  }
+  receiveFacchErasing(bursts, most, erasures) {
+    return receiveFacchErasing(this.#machine, bursts, most, erasures);
+  }
+  joinFacch(bursts) {
+    return joinFacch(this.#machine, bursts);
+  }
+  stealingFlags(block) {
+    return stealingFlags(this.#machine, block);
+  }
+  cipherBits(burst, stream) {
+    return cipherBits(this.#machine, burst, stream);
+  }
+  softCipher(burst, stream) {
+    return softCipher(this.#machine, burst, stream);
   }
   slotFromBytes(octets) {
     return slotFromBytes(this.#machine, octets);
@@ -238,8 +273,18 @@ const fetched = async (url) => {
   return readFile === undefined ? fetch(url) : readFile(typeof url === "string" && /^file:/i.test(url) ? new URL(url) : url);
 };
 
+// Where a bundle lies that has no import.meta, as esbuild makes it in its formats cjs and iife: node's folder, a page's script or a
+// Worker's.
+const script =
+  globalThis.document?.currentScript?.src ?? (typeof globalThis.importScripts === "function" ? globalThis.location?.href : undefined);
+const inBundle = () => {
+  if (typeof __dirname === "string") return `${__dirname}/um.wasm`;
+  if (script) return new URL("./um.wasm", script);
+  throw new Error("this bundle does not know where it lies, so um.wasm is not found; make it with --format=esm, or pass load() a URL");
+};
+
 const beside = async () => {
-  const url = new URL("./um.wasm", import.meta.url);
+  const url = typeof import.meta.url === "undefined" ? inBundle() : new URL("./um.wasm", import.meta.url);
   try {
     return await fetched(url);
   } catch (cause) {

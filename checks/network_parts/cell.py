@@ -1,28 +1,56 @@
-"""The cell: frame by frame, in real time, between the base station and twenty mobiles; and the account of what happened."""
+"""The cells: frame by frame, in real time, between the base stations and twenty mobiles; and the account of what happened."""
 import collections
 import random
+import selectors
 import time
 
 import um
 from air import SOFT, Air
 from rsl import Rsl
 from trx import Transceiver
-from watched import BSIC, TSC, Watched
+from watched import BSICS, TSCS, Watched
 
 FRAME = 60 / 13000  # seconds
-COMBINATIONS = ("bcch_ccch_sdcch4", *["sdcch8"] * 7)  # of the time slots, as in osmo-bsc.cfg
 LAG = 15  # frames from a burst's time to when it is heard, so that the base station may be late; its answer leaves 28 frames after a block
+
+
+def receivers(combination, way, tn):
+    """The receivers of a time slot's blocks; of a traffic channel, of SACCH. Those of TCH/H are where a neighbour's TCH/F has its own."""
+    return [um.Slot("tch_f", way, tn & 6 | half) for half in (0, 1)] if combination == "tch_h" else [um.Slot(combination, way, tn)]
+
+
+def taken(slots, fn, soft):
+    """The block that a burst completes, or None."""
+    return next(filter(None, [slot.take(fn, soft) for slot in slots]), None)
+
+
+class Station:
+    """A base station: what it says on Abis, its transceiver, and what it sent on each time slot in this frame: a burst, and the block that
+    it ends."""
+
+    def __init__(self, log, number, select, combinations):
+        self.rsl, self.number = Rsl(lambda who, text: log(f"{number}{who}" if number else who, text)), number
+        self.radio = Transceiver(self.rsl, number, select)
+        self.downlink, self.uplink = ([receivers(each, way, tn) for tn, each in enumerate(combinations)] for way in um.DIRECTIONS)
+        self.bursts = self.blocks = [None] * 8
+
+    def collect(self, fn):
+        """Takes this frame's bursts from the transceiver."""
+        self.bursts = [self.radio.bursts.pop((tn, fn), None) for tn in range(8)]
+        self.blocks = [taken(slots, fn, sent and sent.translate(SOFT)) for slots, sent in zip(self.downlink, self.bursts)]
 
 
 class Cell:
     def __init__(self, options):
-        self.options, self.fn, self.zero, self.trace = options, 0, time.monotonic(), open("trace.log", "w")
+        self.options, self.fn, self.zero, self.trace = options, 0, time.monotonic(), open("trace.log", "w", buffering=1)
         self.wrong, self.outcomes, self.counts, self.begun = [], collections.Counter(), collections.Counter(), 0
-        self.rsl, self.texts, self.verdicts = Rsl(self.log), set(), {}
-        self.downlink, self.uplink = ([um.Slot(each, way, tn) for tn, each in enumerate(COMBINATIONS)] for way in um.DIRECTIONS)
-        self.sent_bursts = self.sent_blocks = ()  # of each time slot, in this frame: what the base station sent, and the block that it ends
+        self.texts, self.verdicts, self.due, self.select = set(), {}, [], selectors.DefaultSelector()
+        self.combinations = options.layout.split()
+        self.stations = [Station(self.log, number, self.select, self.combinations) for number in range(options.cells)]
+        # how many more calls there may be at each rate: each takes two channels
+        self.room = {"full": self.combinations.count("tch_f") // 2, "half": self.combinations.count("tch_h")}
         self.air = Air(options.block, options.burst, options.bit, options.noise)
-        self.last_busy, self.radio, self.station = 0, Transceiver(self.rsl), None
+        self.last_busy, self.station = 0, None
         self.mobiles = [Watched(self, index) for index in range(options.mobiles)]
 
     def log(self, who, text):
@@ -35,29 +63,43 @@ class Cell:
             self.wrong.append(f"frame {self.fn}: {text}")
             self.log("WRONG", text)
 
+    def later(self, frames, act):
+        """Calls `act` in so many frames."""
+        self.due.append((self.fn + frames, act))
+
     # -- a frame
 
     def frame(self, fn):
         self.fn = fn
+        for due, act in [each for each in self.due if each[0] <= fn]:
+            self.due.remove((due, act))
+            act()
         if fn % 51 == 0:
-            self.radio.tell_time(self.now() % um.FRAMES)
             self.begin_sessions()
-            for late in [place for place in self.radio.bursts if place[1] < fn]:
-                self.counts["bursts that came too late"] += 1
-                del self.radio.bursts[late]
-        self.sent_bursts = [self.radio.bursts.pop((tn, fn), None) for tn in range(8)]
-        self.sent_blocks = [slot.take(fn, sent and sent.translate(SOFT)) for slot, sent in zip(self.downlink, self.sent_bursts)]
-        place = um.place_frame(COMBINATIONS[0], "downlink", 0, fn)
-        if self.sent_bursts[0] and place and place.channel == um.Channel.SCH:
-            self.hear_sync(self.sent_bursts[0], fn)
-        up = [[] for _ in range(8)]
+        for station in self.stations:
+            self.tell_time(station)
+            station.collect(fn)
+        place = um.place_frame(self.combinations[0], "downlink", 0, fn)
+        if self.stations[0].bursts[0] and place and place.channel == um.Channel.SCH:
+            self.hear_sync(self.stations[0].bursts[0], fn)
+        up = [[[] for _ in range(8)] for _ in self.stations]
         for mobile in self.mobiles:
             mobile.frame(fn)
-            burst = mobile.speak()
-            if burst:
-                up[mobile.tn].append((burst, mobile))
-        for tn in range(8):
-            self.send_up(tn, fn, up[tn])
+            where, burst = mobile.station, mobile.speak()
+            if burst and mobile.station is where:
+                up[where.number][mobile.tn].append((burst, mobile))
+        for station in self.stations:
+            for tn in range(8):
+                self.send_up(station, tn, fn, up[station.number][tn])
+
+    def tell_time(self, station):
+        radio = station.radio
+        if self.fn % 51 or not radio.on:
+            return
+        radio.tell_time(self.now() % um.FRAMES)
+        for late in [place for place in radio.bursts if place[1] < self.fn]:
+            self.counts["bursts that came too late"] += 1
+            del radio.bursts[late]
 
     def hear_sync(self, burst, fn):
         """SCH over the air. Ten bits of CRC do not detect all errors, so an accepted burst may be another than was sent."""
@@ -68,22 +110,28 @@ class Cell:
         self.counts["SCH accepted" if report.accepted else "SCH rejected"] += 1
         if report.accepted:
             said = um.read_sch(report.accepted)
-            self.expect(said and (said.bsic, said.frame) == (BSIC, fn), f"SCH {said}")
+            self.expect(said and (said.bsic, said.frame) == (BSICS[0], fn), f"SCH {said}")
 
-    def send_up(self, tn, fn, said):
+    def send_up(self, station, tn, fn, said):
         """One of the mobiles that send at once drowns the others for the whole block."""
         if not said:
-            return self.radio.give(tn, fn, None, 0)
-        place = um.place_frame(COMBINATIONS[tn], "uplink", tn, fn)
-        burst, mobile = random.Random(place.first).choice(said)
+            return station.radio.give(tn, fn, None, 0)
+        place = um.place_frame(self.combinations[tn], "uplink", tn, fn)
+        first = self.group(fn) if self.combinations[tn].startswith("tch") else place.first
+        burst, mobile = random.Random(first).choice(said)
         self.counts["collisions"] += len(said) > 1
-        soft = self.air.carry(burst, (tn, "up"), place.first)
-        is_access = place.channel == um.Channel.RACH
-        self.radio.give(tn, fn, soft, 0 if is_access else TSC)
-        block = None if is_access else self.uplink[tn].take(fn, soft)
-        if block and len(said) == 1 and block.first == place.first and block.channel.name.lower() in mobile.truth.active:
+        soft = self.air.carry(burst, (station.number, tn, mobile.index, "up"), first)
+        is_access = mobile.access is not None or mobile.number is None
+        station.radio.give(tn, fn, soft, 0 if is_access else TSCS[station.number])
+        block = None if is_access else taken(station.uplink[tn], fn, soft)
+        is_certain = len(said) == 1 and station is self.stations[0]
+        if block and is_certain and block.first == place.first and block.channel.name.lower() in mobile.truth.active:
             self.verdicts[tn, fn] = block.report.accepted is not None
         return None
+
+    def group(self, fn):
+        """Which frames of a traffic channel fade together: each four between those of SACCH, or `fade` frames."""
+        return fn // self.options.fade if self.options.fade else fn // 13 * 3 + fn % 13 // 4
 
     # -- the run
 
@@ -94,16 +142,31 @@ class Cell:
             if self.begun < self.options.sessions and sum(bool(mobile.kind) for mobile in self.mobiles) < self.options.busy and idle:
                 mobile = idle.pop(random.randrange(len(idle)))
                 kind = random.choice(self.options.kinds.split()) if mobile.tmsi else "update"
-                if kind == "message":
+                if mobile.partner or kind == "call" and not self.to_call(mobile, idle):
+                    continue
+                if kind == "call":
+                    mobile.call_to(random.choice(self.to_call(mobile, idle)))
+                elif kind == "message":
                     text = self.options.text.encode() or random.randbytes(random.randrange(1, 141))
                     self.texts.add(text)
-                    mobile.message("%05d" % (10000 + random.randrange(self.options.mobiles)), text)
+                    others = [other for other in self.mobiles if not other.partner]
+                    mobile.message("%05d" % (10000 + random.choice(others).index), text)
                 else:
                     getattr(mobile, kind)()
                 self.begun += 1
                 if idle and random.random() < self.options.twins:
                     idle[-1].update()
                     idle.pop().follow(mobile)
+
+    def to_call(self, mobile, idle):
+        """The mobiles that this one may call: they are idle, and speak at the same rate, for which there are channels."""
+        is_fit = lambda other: other.tmsi and other.rate == mobile.rate and not other.partner and other.idle_since < self.fn - 500
+        return list(filter(is_fit, idle)) if self.room[mobile.rate] else []
+
+    def call_over(self, rate):
+        def act():
+            self.room[rate] += 1
+        return act
 
     def now(self):
         return int((time.monotonic() - self.zero) / FRAME)
@@ -115,19 +178,28 @@ class Cell:
         if self.is_busy():
             self.last_busy = self.fn
         at_work = self.fn <= self.last_busy + self.options.linger
-        over = self.radio.over or (self.station and self.station.poll() is not None)
+        over = any(station.radio.over for station in self.stations) or (self.station and self.station.poll() is not None)
         return at_work and not over and self.now() * FRAME < self.options.seconds
 
     def run(self):
         last = -1
         while self.is_running():
-            self.radio.serve(max(0, self.zero + (last + 1 + LAG) * FRAME - time.monotonic()))
+            self.serve(max(0, self.zero + (last + 1 + LAG) * FRAME - time.monotonic()))
             for last in range(last + 1, self.now() - LAG + 1):
-                self.radio.serve(0)
-                if self.radio.on:
+                self.serve(0)
+                if all(station.radio.on for station in self.stations):
                     self.frame(last % um.FRAMES)
+                else:
+                    self.fn = last
+                    for station in self.stations:
+                        self.tell_time(station)
         self.trace.close()
         return self.account(last)
+
+    def serve(self, seconds):
+        """Serves the sockets that are readable, after at most this time."""
+        for key, _ in self.select.select(seconds):
+            key.data()
 
     def account(self, frames):
         """What happened, as numbers. `blocks` are those of the uplink by um's verdict and the base station's."""
@@ -139,7 +211,7 @@ class Cell:
                 bad.add((int(line.split(",ts=")[1][0]), int(line.split()[2].split("/")[0])))
         blocks = collections.Counter(f"{'a' if ok else 'r'}{'r' if place in bad else 'a'}" for place, ok in self.verdicts.items())
         return {
-            "ended": self.radio.over or self.station.poll() is not None, "reason": reason,
+            "ended": any(station.radio.over for station in self.stations) or self.station.poll() is not None, "reason": reason,
             "unfinished": self.is_busy(), "wrong": self.wrong, "begun": self.begun, "frames": frames, "processor": time.process_time(),
             "outcomes": [[kind, how, count] for (kind, how), count in sorted(self.outcomes.items())],
             "counts": self.counts, "blocks": blocks,

@@ -4,6 +4,7 @@ import fcntl
 import json
 import os
 import random
+import re
 import shutil
 import socket
 import sqlite3
@@ -17,6 +18,7 @@ HERE = os.path.dirname(os.path.abspath(__file__))
 ROOT = os.path.dirname(os.path.dirname(HERE))
 sys.path[:0] = [os.path.join(ROOT, "bindings", "python"), os.path.join(ROOT, "examples", "network"), HERE]
 SUBSCRIBERS = 100
+COMBINATIONS = {"bcch_ccch_sdcch4": "CCCH+SDCCH4", "sdcch8": "SDCCH8", "tch_f": "TCH/F", "tch_h": "TCH/H"}
 
 
 def raise_loopback():
@@ -25,11 +27,22 @@ def raise_loopback():
         fcntl.ioctl(any_socket, 0x8914, struct.pack("16sH14x", b"lo", 0x41))
 
 
-def start(name, preload, ahead):
+def start(name, preload, ahead, second=""):
     """Starts a program of Osmocom, with its messages in a file."""
     environment = dict(os.environ, LD_PRELOAD=":".join(filter(None, preload)))
-    with open(name + ".log", "wb") as log:
-        return subprocess.Popen([*ahead, name, "-c", os.path.join(HERE, "cfg", name + ".cfg")], stdout=log, stderr=log, env=environment)
+    config = f"{name}{second}.cfg"
+    with open(f"{name}{second}.log", "wb") as log:
+        return subprocess.Popen([*ahead, name, "-c", config], stdout=log, stderr=log, env=environment)
+
+
+def write_configurations(layout):
+    """Copies them, with what osmo-bsc calls the combinations of the time slots."""
+    for name in os.listdir(os.path.join(HERE, "cfg")):
+        with open(os.path.join(HERE, "cfg", name)) as file, open(name, "w") as out:
+            text = file.read()
+            for tn, each in enumerate(layout.split()):
+                text = re.sub(rf"(   timeslot {tn}\n    phys_chan_config) .*", rf"\1 {COMBINATIONS[each]}", text)
+            out.write(text)
 
 
 def await_line(file, text, seconds):
@@ -61,16 +74,21 @@ def main():
     random.seed(options.seed)
     raise_loopback()
     create_subscribers()
+    write_configurations(options.layout)
     ahead = realtime()
-    for name in ("osmo-stp", "osmo-hlr", "osmo-mgw", "osmo-msc", "osmo-bsc"):
-        start(name, [options.sctp], ahead)
+    # osmo-bsc and osmo-msc have a media gateway each: one takes a number of the other's transactions for a repeat of its last one
+    for name, second in (("osmo-stp", ""), ("osmo-hlr", ""), ("osmo-mgw", ""), ("osmo-mgw", "-2"), ("osmo-msc", ""), ("osmo-bsc", "")):
+        start(name, [options.sctp], ahead, second)
         time.sleep(0.3)
     if not await_line("osmo-bsc.log", "BSSMAP assocation is up", 30):  # the controller's own spelling
         sys.exit("osmo-bsc and osmo-msc did not connect")
     from cell import Cell
 
     cell = Cell(options)
-    cell.station = start("osmo-bts-trx", [options.preload if options.station else "", options.sctp], ahead)
+    preload = [options.preload if options.station else "", options.sctp]
+    cell.station = start("osmo-bts-trx", preload, ahead)
+    if options.cells > 1:
+        start("osmo-bts-trx", preload, ahead, "-2")
     print(json.dumps(cell.run()))
 
 

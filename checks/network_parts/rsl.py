@@ -2,7 +2,7 @@
 import collections
 
 # the sizes of information elements of fixed size; the others have a length
-SIZES = {0x08: 2, 0x0A: 2, 0x13: 3, **dict.fromkeys((0x01, 0x02, 0x03, 0x04, 0x0D, 0x11, 0x14, 0x18, 0x1B, 0x1E), 1)}
+SIZES = {0x08: 2, 0x09: 1, 0x0A: 2, 0x13: 3, **dict.fromkeys((0x01, 0x02, 0x03, 0x04, 0x0D, 0x11, 0x14, 0x18, 0x1B, 0x1E), 1)}
 CHANNEL, LINK, LAYER1, LAYER3, FULL_BCCH, FULL_ASSIGN = 0x01, 0x02, 0x0A, 0x0B, 0x27, 0x2B
 DATA_REQUEST, DATA_INDICATION, ESTABLISH_REQUEST, ESTABLISH_INDICATION, RELEASE_CONFIRM, RELEASE_INDICATION = 1, 2, 4, 6, 8, 9
 BCCH_INFORMATION, IMMEDIATE_ASSIGN, SACCH_FILLING, ACTIVATION, DEACTIVATE_SACCH, MEASUREMENT, CHANNEL_RELEASE = (
@@ -10,7 +10,8 @@ BCCH_INFORMATION, IMMEDIATE_ASSIGN, SACCH_FILLING, ACTIVATION, DEACTIVATE_SACCH,
 NAMES = {
     1: "DATA REQUEST", 2: "DATA INDICATION", 3: "ERROR INDICATION", 4: "ESTABLISH REQUEST", 5: "ESTABLISH CONFIRM",
     6: "ESTABLISH INDICATION", 7: "RELEASE REQUEST", 8: "RELEASE CONFIRM", 9: "RELEASE INDICATION", 0x21: "CHANNEL ACTIVATION",
-    0x22: "CHANNEL ACTIVATION ACK", 0x25: "DEACTIVATE SACCH", 0x2E: "RF CHANNEL RELEASE", 0x33: "RF CHANNEL RELEASE ACK",
+    0x22: "CHANNEL ACTIVATION ACK", 0x23: "CHANNEL ACTIVATION NACK", 0x24: "CONNECTION FAILURE", 0x25: "DEACTIVATE SACCH",
+    0x27: "HANDOVER DETECT", 0x29: "MODE MODIFY", 0x2A: "MODE MODIFY ACK", 0x2E: "RF CHANNEL RELEASE", 0x33: "RF CHANNEL RELEASE ACK",
 }
 
 
@@ -20,6 +21,7 @@ class Truth:
     def __init__(self):
         self.up, self.down, self.opened, self.results = {0: [], 3: []}, {0: [], 3: []}, {}, []
         self.reopened, self.released, self.active = set(), set(), {"sdcch", "sacch"}
+        self.events = set()  # names of what was said of the channel
 
 
 def elements(message):
@@ -48,7 +50,7 @@ class Rsl:
         if channel is not None and kind != MEASUREMENT:
             sapi = f" sapi {fields[LINK][0] & 7} {(layer3 or b'').hex()}" if about == 1 else ""
             self.log(f"x{channel:02x}", f"RSL {NAMES.get(kind, hex(kind))}{sapi}".rstrip())
-        if about == 1 and not fields[LINK][0] & 0x40:  # of SDCCH, not of SACCH
+        if about == 1 and (not fields[LINK][0] & 0x40 or fields[LINK][0] & 7):  # of SACCH only SAPI 3, beside a traffic channel
             self._link(self.truths[channel], kind, fields[LINK][0] & 7, layer3)
         elif about == 4:
             self._channel(channel, kind, fields, layer3)
@@ -75,7 +77,10 @@ class Rsl:
     def _channel(self, channel, kind, fields, layer3):
         if kind == ACTIVATION:
             self.truths[channel] = Truth()
-        elif kind in (DEACTIVATE_SACCH, CHANNEL_RELEASE):
+        self.truths[channel].events.add(NAMES.get(kind))
+        if kind == ACTIVATION:
+            return
+        if kind in (DEACTIVATE_SACCH, CHANNEL_RELEASE):
             self.truths[channel].active &= {"sdcch"} if kind == DEACTIVATE_SACCH else set()
         elif kind == MEASUREMENT and layer3:
             self.truths[channel].results.append(fields[LAYER1] + layer3)

@@ -1,6 +1,6 @@
 """Runs of the network, each in a namespace of its own: what checks/network tests, one run with options, one session to read, and a table.
 
-    checks/network [run OPTIONS | show | long SESSIONS]"""
+    checks/network [run OPTIONS | show | call | long SESSIONS | calls CALLS]"""
 import argparse
 import collections
 import concurrent.futures
@@ -15,6 +15,9 @@ import tempfile
 INSIDE = os.path.join(os.path.dirname(os.path.abspath(__file__)), "inside.py")
 MEMORY = "/dev/shm"  # the programs wait for each write of their data bases
 TRIES = 3  # of a run that the base station itself ends
+SIGNALLING = "bcch_ccch_sdcch4" + 7 * " sdcch8"
+TALKING = "bcch_ccch_sdcch4 sdcch8 tch_f tch_f tch_f tch_f tch_h tch_h"
+CROWDED = "bcch_ccch_sdcch4 tch_f tch_f tch_f tch_f tch_f tch_h tch_h"
 OPTIONS = (
     ("sessions", 40, "sessions that mobiles begin, besides answers to pages"), ("mobiles", 20, "mobiles"),
     ("busy", 12, "mobiles that have a session at a time"), ("kinds", "update message message detach", "what they choose from"),
@@ -25,6 +28,15 @@ OPTIONS = (
     ("t200", 2, "T200 of the mobiles on SAPI 0, in slots"), ("t200_sapi3", 2, "the same on SAPI 3"),
     ("among", 64, "words that a mobile tries for a block"),
     ("station", 0, "words that the base station tries, by libum_osmo.so; 0: it decodes by libosmocoding"),
+    ("layout", SIGNALLING, "the channel combinations of the time slots"),
+    ("cells", 1, "base stations, 1 or 2; the second is for handovers"),
+    ("ring", 100, "frames until a call is answered"), ("talk", 400, "frames of a talk, at least"),
+    ("speech", 1, "0: silence, nothing is sent between blocks of FACCH"),
+    ("sms", 0, "octets of a short message that each caller sends beside the call"),
+    ("handovers", 0, "handovers of each caller, to the other cell and back"),
+    ("fail", 0.0, "share of assignments and handovers whose new channel is dead"),
+    ("twice", 0, "1: a mobile says its last RR once more in the next free slot"),
+    ("fade", 0, "frames of a traffic channel that are lost together; 0: the four between those of SACCH"),
     ("show", 0, "1: print each event"),
 )
 DEFAULTS = {name: default for name, default, _ in OPTIONS}
@@ -35,6 +47,28 @@ FULL = (
     ("4 % of bits flipped, the base station with libum_osmo.so", dict(bit=0.04, station=64)),
     ("noise of sigma 0.75, the base station with libum_osmo.so", dict(noise=0.75, station=64)),
 )
+TALK = dict(layout=TALKING, kinds="call", mobiles=10, sessions=18)  # first each mobile updates its location
+MORE = dict(TALK, sessions=34)
+QUICK_CALLS = (
+    ("calls with handovers there and back", dict(TALK, cells=2, handovers=2), 0.9),
+    ("calls, 5 % of bits flipped, the base station with libum_osmo.so", dict(TALK, bit=0.05, station=64), 0.9),
+)
+CALLS = tuple((name, dict(options, sessions=34), least) for name, options, least in QUICK_CALLS) + (
+    ("calls, 5 % of bits flipped", dict(MORE, bit=0.05), 0.5),
+    ("calls, 5 % of groups of 4 frames lost", dict(MORE, block=0.05), 0.8),
+    ("calls, 5 % of multiframes lost, with handovers", dict(MORE, block=0.05, fade=26, cells=2, handovers=2), 0.5),
+    ("calls in silence, a quarter of the new channels dead", dict(MORE, fail=0.25, speech=0), 0.3),
+    ("calls with a short message beside each", dict(TALK, sms=40, talk=2500), 0.9),
+    ("calls on channels assigned at once", dict(MORE, layout=CROWDED), 0.5),
+)
+AIRS_OF_CALLS = (
+    ("clear", {}), ("clear, handovers there and back", dict(cells=2, handovers=2)),
+    ("5 % of bits flipped, osmo-bts decodes by libosmocoding", dict(bit=0.05)),
+    ("5 % of bits flipped, by `um`, 64 words", dict(bit=0.05, station=64)),
+    ("5 % of groups of 4 frames lost", dict(block=0.05)), ("5 % of multiframes lost", dict(block=0.05, fade=26)),
+    ("clear, half of the new channels dead", dict(fail=0.5)),
+)
+RATES = {"full": "F", "half": "H"}
 LONG = (
     ("clear", {}), ("10 % of blocks lost", dict(block=0.1)), ("20 % of bursts lost", dict(burst=0.2)),
     ("4 % of bits flipped", dict(bit=0.04)), ("noise, sigma 0.7", dict(noise=0.7)),
@@ -144,16 +178,44 @@ def told(name, run):
     return 0
 
 
+def told_calls(name, run, least):
+    """Prints what became of the calls. Its status: 1 if fewer than this share are complete."""
+    counts = run.total("counts")
+    complete, number = (sum(counts[f"calls at {rate} rate{what}"] for rate in RATES) for what in (" complete", ""))
+    print(f"network: {name}: " + ", ".join(calls_of(counts, rate) for rate in RATES) + f"; {counts['handovers begun']} handovers begun, "
+          f"{counts['returns to the old channel']} returns, {counts['speech frames of the other']} frames of speech heard")
+    return int(complete < least * number or number < 5)
+
+
+def calls_of(counts, rate):
+    calls = f"calls at {rate} rate"
+    return (f"{counts[calls + ' complete']} of {counts[calls]} {calls} complete "
+            f"(T200 expired {counts['T200 expired on FACCH/' + RATES[rate]]} times)")
+
+
+def calls_table(given):
+    """The rows of the table of calls in docs/INTEROP.md. The status is 1 if a run is not whole or something is wrong."""
+    rows = [(name, long_run(given, dict(MORE, sessions=10 + given.number, **options))) for name, options in AIRS_OF_CALLS]
+    print("| Air | full rate | half rate | T200 expired, full, half | handovers | returns |\n|-|-|-|-|-|-|")
+    for name, run in rows:
+        counts = run.total("counts")
+        complete = (f"{counts[f'calls at {rate} rate complete']} of {counts[f'calls at {rate} rate']}" for rate in RATES)
+        expired = ", ".join(str(counts["T200 expired on FACCH/" + letter]) for letter in RATES.values())
+        print("|", " | ".join((name, *complete, expired, str(counts["handovers begun"]), str(counts["returns to the old channel"]))), "|")
+    print(f"\n{sum(len(run.wrong) for _, run in rows)} wrong")
+    return int(any(run.wrong or not run.whole for _, run in rows))
+
+
 def check(given):
-    statuses = set()
-    for name, options in QUICK if os.environ.get("QUICK") == "quick" else FULL:
+    statuses, is_quick = set(), os.environ.get("QUICK") == "quick"
+    for name, options, *least in QUICK + QUICK_CALLS if is_quick else FULL + CALLS:
         if options.get("station") and not given.preload:
             print(f"network: skipped: {name}: no make or no cc here")
             continue
         run = Run(given, options)
-        status = told(name, run)
+        status = told(name, run) or (told_calls(name, run, *least) if least else 0)
         saved, lost = run.saved()
-        if status == 0 and options.get("station"):
+        if status == 0 and options.get("station") and not least:
             print(f"network: {name}: it accepted {saved} of the {lost} blocks that are lost with one word")
             status = int(lost < 20 or saved < 0.75 * lost)
         statuses.add(status)
@@ -195,11 +257,13 @@ def act(given):
     """The status of what is asked for."""
     if given.what == "check":
         return check(given)
-    if given.what == "long":
-        return tables(given)
+    if given.what in ("long", "calls"):
+        return tables(given) if given.what == "long" else calls_table(given)
     options = {name: getattr(given, name) for name in DEFAULTS}
     if given.what == "show":
         options.update(sessions=2, mobiles=1, kinds="message", text="hello from um", linger=2000, show=1)
+    if given.what == "call":
+        options.update(sessions=5, mobiles=4, kinds="call", busy=2, layout=TALKING, show=1)
     run = Run(given, options)
     status = told("run", run)
     for how, count in sorted((run.total("counts") + run.total("blocks")).items()):
@@ -209,11 +273,12 @@ def act(given):
 
 def main():
     signal.signal(signal.SIGTERM, lambda *_: sys.exit(1))
-    parser = argparse.ArgumentParser(prog="checks/network", usage="checks/network [run OPTIONS | show | long SESSIONS]",
-                                     formatter_class=argparse.RawDescriptionHelpFormatter, description=__doc__.split("\n")[0])
-    parser.add_argument("what", nargs="?", choices=("check", "run", "show", "long"), default="check",
-                        help="run: one run with options; show: one mobile, message by message; long: the table of docs/INTEROP.md")
-    parser.add_argument("number", nargs="?", type=int, default=2000, help="sessions of the table (2000)")
+    usage = "checks/network [run OPTIONS | show | call | long SESSIONS | calls CALLS]"
+    parser = argparse.ArgumentParser(prog="checks/network", usage=usage, formatter_class=argparse.RawDescriptionHelpFormatter,
+                                     description=__doc__.split("\n")[0])
+    parser.add_argument("what", nargs="?", choices=("check", "run", "show", "call", "long", "calls"), default="check",
+                        help="run: one run with options; show: one mobile, message by message; call: a call; long, calls: the tables")
+    parser.add_argument("number", nargs="?", type=int, help="of long: sessions of the tables (2000); of calls: calls of each row (50)")
     for name in ("own", "work", "sctp", "preload"):
         parser.add_argument("--" + name, help=argparse.SUPPRESS)
     parser.add_argument("--jobs", type=int, default=1, help="runs of the table at a time (1)")
@@ -221,6 +286,7 @@ def main():
     for name, default, text in OPTIONS:
         parser.add_argument("--" + name, type=type(default), default=default, help=f"{text} ({default})")
     given = parser.parse_args()
+    given.number = given.number or {"long": 2000, "calls": 50}.get(given.what)
     try:
         sys.exit(act(given))
     finally:

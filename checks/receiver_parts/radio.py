@@ -71,17 +71,17 @@ class Kept(gr.basic_block):
         self.octets[octets[3] & 7, int.from_bytes(octets[8:12], "big")] = octets[16:]  # behind a GSMTAP header
 
 
-def received(samples, combined, ppm, awaited, quiet, file=None):
+def received(samples, combined, ppm, awaited, quiet, file=None, receiver=None):
     """What gr-gsm's receiver hands out if it is told by how much its oscillator is too fast: the bits of the bursts and the messages of its
     decoder, by slot and frame, and the samples behind its filter. It ends when the awaited messages are there, or none came for so many
-    seconds. gr-gsm writes the bursts to a file too if its name is given."""
+    seconds. gr-gsm writes the bursts to a file too if its name is given. Another receiver may stand in for gr-gsm's."""
 
     def handled():
         if all(key in said.octets and (key[0], key[1] + 3) in heard.octets for key in awaited):
             return True
         return time.monotonic() > max(heard.last, said.last) + quiet
 
-    graph, entry, receiver = gr.top_block(), gsm.gsm_input(fc=CARRIER, ppm=ppm, samp_rate_in=RATE), gsm.receiver(4, [0], [])
+    graph, entry, receiver = gr.top_block(), gsm.gsm_input(fc=CARRIER, ppm=ppm, samp_rate_in=RATE), receiver or gsm.receiver(4, [0], [])
     first, heard, said, filtered = Samples(samples.astype(numpy.complex64), handled), Kept(), Kept(), blocks.vector_sink_c()
     graph.connect(first, entry, receiver)
     graph.connect(entry, filtered)

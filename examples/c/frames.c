@@ -1,6 +1,6 @@
 /* Decodes LAPDm frames from blocks of SDCCH and SACCH. On SACCH two layer 1 octets come first: power level and timing advance.
  *
- *   cc -Ibindings/c examples/c/frames.c dist/x86_64-linux/libum.a -o frames && ./frames */
+ *   cc -Ibindings/c examples/c/frames.c dist/$(uname -m)-linux/libum.a -o frames && ./frames */
 #include "um_more.h"
 #include <stdio.h>
 #include <string.h>

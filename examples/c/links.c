@@ -1,6 +1,6 @@
 /* 64 links over a channel that loses one block in ten: each mobile opens its link, sends a message, and closes when it is acknowledged.
  *
- *   cc -Ibindings/c examples/c/links.c dist/x86_64-linux/libum.a -o links && ./links */
+ *   cc -Ibindings/c examples/c/links.c dist/$(uname -m)-linux/libum.a -o links && ./links */
 #include "air.h"
 #include "um.h"
 #include <stdio.h>

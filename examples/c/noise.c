@@ -1,6 +1,6 @@
 /* Encodes blocks, adds noise and decodes them, once by maximum likelihood and once by list decoding with 64 words.
  *
- *   cc -Ibindings/c examples/c/noise.c dist/x86_64-linux/libum.a -o noise && ./noise */
+ *   cc -Ibindings/c examples/c/noise.c dist/$(uname -m)-linux/libum.a -o noise && ./noise */
 #include "air.h"
 #include "um.h"
 #include <stdio.h>

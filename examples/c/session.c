@@ -4,7 +4,7 @@
  * Time advances in slots of 235 ms, in which each endpoint sends one SDCCH block. T200 counts from the time at which a block that awaits
  * an answer goes on the air, and exceeds the round trip with the blocks queued before it.
  *
- *   cc -Ibindings/c examples/c/session.c dist/x86_64-linux/libum.a -o session && ./session */
+ *   cc -Ibindings/c examples/c/session.c dist/$(uname -m)-linux/libum.a -o session && ./session */
 #include "air.h"
 #include "um_more.h"
 #include <stdio.h>

@@ -1,6 +1,6 @@
 // Decodes LAPDm frames from blocks of SDCCH and SACCH. On SACCH two layer 1 octets come first: power level and timing advance.
 //
-//   c++ -std=c++17 -Ibindings/c examples/cpp/frames.cpp dist/x86_64-linux/libum.a -o frames && ./frames
+//   c++ -std=c++17 -Ibindings/c examples/cpp/frames.cpp dist/$(uname -m)-linux/libum.a -o frames && ./frames
 #include "um.hpp"
 #include <cstdio>
 #include <string>

@@ -1,6 +1,6 @@
 // 64 links over a channel that loses one block in ten: each mobile opens its link, sends a message, and closes when it is acknowledged.
 //
-//   c++ -std=c++17 -Ibindings/c examples/cpp/links.cpp dist/x86_64-linux/libum.a -o links && ./links
+//   c++ -std=c++17 -Ibindings/c examples/cpp/links.cpp dist/$(uname -m)-linux/libum.a -o links && ./links
 #include "air.hpp"
 #include <cstdio>
 #include <vector>

@@ -1,6 +1,6 @@
 // Encodes blocks, adds noise and decodes them, once by maximum likelihood and once by list decoding with 64 words.
 //
-//   c++ -std=c++17 -Ibindings/c examples/cpp/noise.cpp dist/x86_64-linux/libum.a -o noise && ./noise
+//   c++ -std=c++17 -Ibindings/c examples/cpp/noise.cpp dist/$(uname -m)-linux/libum.a -o noise && ./noise
 #include "air.hpp"
 #include <iostream>
 

@@ -4,7 +4,7 @@
 // Time advances in slots of 235 ms, in which each endpoint sends one SDCCH block. T200 counts from the time at which a block that awaits
 // an answer goes on the air, and exceeds the round trip with the blocks queued before it.
 //
-//   c++ -std=c++17 -Ibindings/c examples/cpp/session.cpp dist/x86_64-linux/libum.a -o session && ./session
+//   c++ -std=c++17 -Ibindings/c examples/cpp/session.cpp dist/$(uname -m)-linux/libum.a -o session && ./session
 #include "air.hpp"
 #include <cstdio>
 #include <deque>

@@ -19,8 +19,10 @@ FORMS = {
     "bits": (152, 0, 4, lambda bits: um.soft_from_bits(list(bits))),
     "grgsm": (174, 18, 26, lambda bits: um.soft_from_bits(list(bits))),
 }
+LATE_IN_A_ROW = 8
 # the channel types of GSMTAP
-TYPES = {"bcch_ccch_sdcch4": {"SDCCH": 7, "SACCH": 0x87}, "sdcch8": {"SDCCH": 8, "SACCH": 0x88}, "tch_f": {"SACCH": 0x89}}
+TYPES = {"bcch_ccch_sdcch4": {"SDCCH": 7, "SACCH": 0x87}, "sdcch8": {"SDCCH": 8, "SACCH": 0x88}, "tch_f": {"SACCH": 0x89},
+         "tch_h": {"SACCH": 0x8A}}
 
 
 def bursts(file, form, timeslot):
@@ -46,15 +48,30 @@ def packet(block, timeslot, kind):
     return struct.pack(">BBHHHBBH4s4s", 0x45, 0, 20 + len(udp), 0, 0, 64, 17, 0, b"\x7f\0\0\1", b"\x7f\0\0\1") + udp
 
 
-def receive(combination, timeslot, form, file, out):
-    slot = um.Slot(combination, "downlink", timeslot, words=16, erasures=4)
-    kinds = {"BCCH": 1, "CCCH": 2, **TYPES.get(combination, {})}
-    out.write(struct.pack("<IHHiIII", 0xA1B2C3D4, 2, 4, 0, 0, 65535, 101))
-    for frame, soft in bursts(file, form, timeslot):
+def blocks(slot, given):
+    """The blocks of the bursts. A doubled or late burst is left out; after many late ones in a row a frame number before them was false, or
+    another recording begins."""
+    late = 0
+    for frame, soft in given:
         try:
-            block = slot.take(frame, soft)
+            block, late = slot.take(frame, soft), 0
+        except um.Refused as refused:
+            late += refused.reason == "late"
+            if late < LATE_IN_A_ROW:
+                continue
+            slot.restart()
+            block, late = slot.take(frame, soft), 0
         except ValueError as error:
             raise ValueError(f"the burst of frame {frame}: {error}") from None
+        yield block
+    yield slot.end()
+
+
+def receive(combination, timeslot, form, file, out):
+    slot = um.Slot(combination, "downlink", timeslot, words=16, erasures=4, limit=20)
+    kinds = {"BCCH": 1, "CCCH": 2, **TYPES.get(combination, {})}
+    out.write(struct.pack("<IHHiIII", 0xA1B2C3D4, 2, 4, 0, 0, 65535, 101))
+    for block in blocks(slot, bursts(file, form, timeslot)):
         if block and block.report.accepted:
             data = packet(block, timeslot, kinds[block.channel.name])
             # a frame takes 120 / 26 ms

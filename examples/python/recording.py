@@ -72,7 +72,7 @@ def draw(soft, reports):
 
 def main(name, drawing=None):
     soft = read_recording(name)
-    reports = um.receive_blocks_among(soft, 64)
+    reports = um.receive_blocks_among(soft, 64).ravel()
     soft = soft.reshape(-1, 4, 148)
     print("block tsc training errors rank  octets")
     for number, report in enumerate(reports):

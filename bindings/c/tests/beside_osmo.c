@@ -1,6 +1,6 @@
-/* Compares um with libosmocoding on noisy blocks, access bursts and synchronisation bursts: both encode the same bits, and if both accept,
- * the octets and the count of bit errors are the same. Both count a soft bit of 0 as a bit error. And with libosmocore on frame numbers:
- * their parts, and the synchronisation bursts that say them.
+/* Compares um with libosmocoding on noisy blocks, also of FACCH, access bursts and synchronisation bursts: both encode the same bits, and
+ * if both accept, the octets and the count of bit errors are the same. Both count a soft bit of 0 as a bit error. And with libosmocore on
+ * frame numbers: their parts, and the synchronisation bursts that say them.
  *
  * If two words are equally likely, the two may choose differently; um takes the lexicographically first. This is rare: at most one in a
  * thousand may be accepted by only one of them. */
@@ -51,6 +51,33 @@ static void one_block(struct tally *tally)
 	soften(soft, a, 464, 20 + rand() % 120);
 	bool osmo = gsm0503_xcch_decode(theirs, soft, &their_errors, &bits) == 0;
 	bool um = um_xcch_decode(ours, soft, &our_errors, &bits) == 0;
+	count(tally, um, osmo, !memcmp(theirs, ours, 23), their_errors == our_errors);
+}
+
+/* FACCH: both write the same halves of bursts of other bits, and decode alike */
+static void one_facch(struct tally *tally, bool half_rate)
+{
+	enum { BITS = 8 * 116 };
+	uint8_t sent[23], theirs[128], ours[23];
+	ubit_t a[BITS], b[BITS];
+	sbit_t soft[BITS];
+	int their_errors, our_errors, bits;
+	for (int i = 0; i < 23; i++)
+		sent[i] = (uint8_t)rand();
+	for (int i = 0; i < BITS; i++)
+		a[i] = b[i] = rand() & 1;
+	if (half_rate)
+		gsm0503_tch_hr_encode(a, sent, 23);
+	else
+		gsm0503_tch_fr_encode(a, sent, 23, 1);
+	um_facch_encode(b, sent, half_rate);
+	tally->coded += memcmp(a, b, BITS) != 0;
+	soften(soft, a, BITS, 20 + rand() % 120);
+	for (int i = 0; i < 8; i++) /* libosmocoding decodes FACCH only if the flags say so */
+		soft[116 * i + 57] = soft[116 * i + 58] = -64;
+	bool osmo = (half_rate ? gsm0503_tch_hr_decode(theirs, soft, 0, &their_errors, &bits)
+		: gsm0503_tch_fr_decode(theirs, soft, 1, 0, &their_errors, &bits)) == 23;
+	bool um = um_facch_decode_among(ours, soft, half_rate, 1, &our_errors, &bits) == 0;
 	count(tally, um, osmo, !memcmp(theirs, ours, 23), their_errors == our_errors);
 }
 
@@ -134,15 +161,21 @@ static bool is_bad(const char *what, int number, const struct tally *t)
 
 int main(void)
 {
-	struct tally blocks = { 0 }, access = { 0 }, sync = { 0 };
+	struct tally blocks = { 0 }, facch_f = { 0 }, facch_h = { 0 }, access = { 0 }, sync = { 0 };
 	srand(1);
 	for (int i = 0; i < 20000; i++)
 		one_block(&blocks);
+	for (int i = 0; i < 10000; i++) {
+		one_facch(&facch_f, false);
+		one_facch(&facch_h, true);
+	}
 	for (int i = 0; i < 256 * 64; i++)
 		one_access(&access, (uint8_t)i, (uint8_t)(i >> 8));
 	for (int i = 0; i < 10000; i++)
 		one_sync(&sync);
 	bool bad = is_bad("blocks", 20000, &blocks);
+	bad |= is_bad("blocks of FACCH/F", 10000, &facch_f);
+	bad |= is_bad("blocks of FACCH/H", 10000, &facch_h);
 	bad |= is_bad("access bursts", 256 * 64, &access);
 	bad |= is_bad("synchronisation bursts", 10000, &sync);
 	bad |= are_frames_bad(100000);

@@ -84,7 +84,8 @@ static void blocks(void)
 	check(um_margin_block((const int8_t (*)[148])soft, &margin.value) && AROUND(margin) && margin.value.margin >= 254
 		&& !memcmp(margin.value.word, report.value.word, 228), "three wrong bits leave a margin of at least 254");
 	soften(sent.value[0], soft[0], 592);
-	check(um_margin_block((const int8_t (*)[148])soft, &margin.value) && margin.value.margin == 7 * 254, "the next word differs in seven coded bits");
+	check(um_margin_block((const int8_t (*)[148])soft, &margin.value) && margin.value.margin == 7 * 254,
+		"the next word differs in seven coded bits");
 	memset(soft, 0, sizeof soft);
 	check(um_margin_block((const int8_t (*)[148])soft, &margin.value) && margin.value.margin == 0 && margin.value.word[223] == 0
 		&& margin.value.next[223] == 1, "four lost bursts have margin 0, and the next word has a 1 as its last free bit");

@@ -33,6 +33,13 @@ static void start(pair *p, uint8_t channel)
 		check(um_datalink_new(&p->sides[side], (uint8_t)side, channel, 2, 4), "a new data link");
 }
 
+static void start_normal(pair *p, uint8_t channel)
+{
+	memset(p, 0, sizeof *p);
+	for (int side = 0; side < 2; side++)
+		check(um_datalink_new_for(&p->sides[side], (uint8_t)side, channel, UM_NORMAL, 2, 4), "a new data link");
+}
+
 /* What was sent in the last slot arrives. */
 static void arrive(pair *p)
 {
@@ -220,6 +227,273 @@ static void test_order_of_links(void)
 	check(um_datalink_unit(&p.sides[1], 0, &m, L1, block) == UM_END_DONE && !memcmp(block, "\x5a\xa5\x03\x03\x09\x06\x06\x2b", 8), "UI");
 }
 
+/* What a side reports of one SAPI in some slots without loss, or with the network's blocks lost: the kinds, and the octet of a message. */
+typedef struct story {
+	char said[2][128];
+} story;
+
+static void tell(story *t, int side, uint8_t sapi, const um_report *r)
+{
+	static const char kinds[] = ".ogua?e";
+	char *to = t->said[side] + strlen(t->said[side]);
+	for (int i = 0; i < r->notice_count; i++) {
+		if (r->sapis[i] != sapi)
+			continue;
+		*to++ = kinds[r->notices[i].kind];
+		if (r->notices[i].kind == UM_GOT)
+			*to++ = (char)r->notices[i].message.octets[0];
+	}
+}
+
+static void slots(pair *p, int count, int lost, uint8_t sapi, story *t)
+{
+	memset(t, 0, sizeof *t);
+	for (int i = 0; i < count; i++) {
+		slot(p, lost);
+		for (int side = 0; side < 2; side++) {
+			tell(t, side, sapi, &p->reports[side]);
+			tell(t, side, sapi, &p->given_up[side]);
+		}
+	}
+}
+
+static bool says(const story *t, const char *mobile, const char *network)
+{
+	return !strcmp(t->said[0], mobile) && !strcmp(t->said[1], network);
+}
+
+/* o opened, gX got X, a acked, e ended. The mobile gives SAPI 3 up while the network's end is open, and opens it again: that is a new
+ * opening, so what is reported as acknowledged was delivered. */
+static void test_second_opening(void)
+{
+	pair p;
+	story t;
+	um_message a = message_of('A', 1), b = message_of('B', 1), c = message_of('C', 1), d = message_of('D', 1);
+	start(&p, UM_SACCH);
+	check(um_datalink_main(&p.sides[0], true) == UM_END_DONE && um_datalink_open_bare(&p.sides[0]) == UM_END_DONE, "SAPI 3");
+	slots(&p, 4, 0, 3, &t);
+	check(says(&t, "o", "o"), "it opens");
+	check(um_datalink_send(&p.sides[0], 3, &a) == UM_END_DONE, "A");
+	slots(&p, 40, 2, 3, &t);
+	check(says(&t, "e", "gA") && p.sides[1].link3.end.state == UM_OPEN, "six answers are lost; the network's end stays open");
+	check(um_datalink_open_bare(&p.sides[0]) == UM_END_DONE, "the mobile opens it again");
+	slots(&p, 3, 0, 3, &t);
+	check(says(&t, "o", "o"), "both report a new opening");
+	check(um_datalink_send(&p.sides[0], 3, &b) == UM_END_DONE && um_datalink_send(&p.sides[1], 3, &c) == UM_END_DONE, "B, C");
+	slots(&p, 10, 0, 3, &t);
+	check(says(&t, "gCa", "gBa") || says(&t, "agC", "gBa"), "each is delivered, and then acknowledged");
+	check(um_datalink_send(&p.sides[0], 3, &d) == UM_END_DONE, "D");
+	slots(&p, 10, 0, 3, &t);
+	check(says(&t, "a", "gD"), "and so is D");
+}
+
+/* The same on SAPI 0 without any loss, after a local end release at the mobile alone. A SABM that comes before any I, RR or REJ is a
+ * repeat: the network keeps its state. */
+static void test_local_release(void)
+{
+	pair p;
+	story t;
+	um_message info = message_of('i', 2), a = message_of('A', 1), b = message_of('B', 1), c = message_of('C', 1);
+	start(&p, UM_SDCCH);
+	check(um_datalink_open(&p.sides[0], &info) == UM_END_DONE, "the mobile opens");
+	slots(&p, 3, 2, 0, &t);
+	check(says(&t, "", "o"), "the UA is lost");
+	slots(&p, 4, 0, 0, &t);
+	check(says(&t, "o", "") && !p.sides[1].link0.heard, "a repeated SABM is no new opening");
+	check(um_datalink_send(&p.sides[0], 0, &a) == UM_END_DONE, "A");
+	slots(&p, 4, 0, 0, &t);
+	check(says(&t, "a", "gA") && p.sides[1].link0.heard == 1 && p.sides[0].link0.heard == 1, "it arrives");
+	check(um_datalink_close_local(&p.sides[0], 0) == UM_END_DONE && um_datalink_open(&p.sides[0], &info) == UM_END_DONE, "opened again");
+	slots(&p, 4, 0, 0, &t);
+	check(says(&t, "o", "o") && !p.sides[1].link0.heard, "both report a new opening");
+	check(um_datalink_send(&p.sides[0], 0, &b) == UM_END_DONE && um_datalink_send(&p.sides[1], 0, &c) == UM_END_DONE, "B, C");
+	slots(&p, 6, 0, 0, &t);
+	check(says(&t, "gCa", "gBa") || says(&t, "agC", "gBa"), "each is delivered, and then acknowledged");
+	info = message_of('j', 2);
+	check(um_datalink_close_local(&p.sides[0], 0) == UM_END_DONE && um_datalink_open(&p.sides[0], &info) == UM_END_DONE, "another mobile");
+	slots(&p, 4, 0, 0, &t);
+	check(says(&t, "", ""), "is not answered");
+}
+
+/* SAPI 3 is opened again after its release, and the UA is lost: the SABM that comes again is a repeat, whatever the link heard before it
+ * was closed, so what the network sends meanwhile stays. */
+static void test_opened_after_release(void)
+{
+	pair p;
+	story t;
+	um_message a = message_of('A', 1), c = message_of('C', 1);
+	start(&p, UM_SACCH);
+	check(um_datalink_main(&p.sides[0], true) == UM_END_DONE && um_datalink_open_bare(&p.sides[0]) == UM_END_DONE, "SAPI 3");
+	slots(&p, 4, 0, 3, &t);
+	check(um_datalink_send(&p.sides[0], 3, &a) == UM_END_DONE, "A");
+	slots(&p, 6, 0, 3, &t);
+	check(says(&t, "a", "gA"), "A is delivered");
+	check(um_datalink_close(&p.sides[0], 3) == UM_END_DONE, "the mobile closes");
+	slots(&p, 6, 0, 3, &t);
+	check(says(&t, "e", "e"), "both are closed");
+	check(um_datalink_open_bare(&p.sides[0]) == UM_END_DONE, "the mobile opens it again");
+	slots(&p, 3, 2, 3, &t);
+	check(says(&t, "", "o") && !p.sides[1].link3.heard, "the UA is lost");
+	check(um_datalink_send(&p.sides[1], 3, &c) == UM_END_DONE, "C");
+	slots(&p, 12, 0, 3, &t);
+	check(says(&t, "ogC", "a"), "the repeated SABM opens nothing again; C is delivered");
+}
+
+static bool opens(pair *p, int side, uint8_t sapi)
+{
+	return um_datalink_establish(&p->sides[side], sapi) == UM_END_DONE;
+}
+
+/* Each side sends a message over SAPI 0, and nothing is lost. */
+static void exchange(pair *p)
+{
+	story t;
+	um_message m = message_of('M', 1), n = message_of('N', 1);
+	check(um_datalink_send(&p->sides[0], 0, &m) == UM_END_DONE && um_datalink_send(&p->sides[1], 0, &n) == UM_END_DONE, "M, N");
+	slots(p, 6, 0, 0, &t);
+	check((says(&t, "gNa", "gMa") || says(&t, "agN", "gMa")) && p->sides[0].link0.heard && p->sides[1].link0.heard, "M, N arrive");
+}
+
+/* A new channel, after an assignment: either side opens SAPI 0 without information, and all blocks carry SAPI 0. */
+static void test_assignment(void)
+{
+	pair p;
+	story t;
+	start_normal(&p, UM_SDCCH);
+	check(opens(&p, 0, 0), "the mobile opens");
+	fill(&p, 0);
+	check(sends(&p, 0, "\x01\x3f\x01", 3) && is_free(&p, 1), "SABM in the slot of the call");
+	slot(&p, 0);
+	check(reports(&p.reports[1], 0, UM_OPENED, 0) && sends(&p, 1, "\x01\x73\x01", 3) && is_free(&p, 0), "UA in the next slot");
+	arrive(&p);
+	check(reports(&p.reports[0], 0, UM_OPENED, 0), "the mobile reports opened");
+	exchange(&p);
+	check(um_datalink_close(&p.sides[1], 0) == UM_END_DONE, "the network releases");
+	fill(&p, 0);
+	check(sends(&p, 1, "\x03\x53\x01", 3), "DISC");
+	slots(&p, 3, 0, 0, &t);
+	check(says(&t, "e", "e"), "both are closed");
+	check(opens(&p, 1, 0), "the network opens it again");
+	slots(&p, 3, 0, 0, &t);
+	check(says(&t, "o", "o"), "both report it");
+	exchange(&p);
+}
+
+static void test_network_initiated(void)
+{
+	pair p;
+	story t;
+	start_normal(&p, UM_SACCH);
+	check(opens(&p, 1, 0), "the network opens");
+	fill(&p, 0);
+	check(sends(&p, 1, "\x03\x3f\x01", 3) && is_free(&p, 0), "SABM in the slot of the call");
+	slot(&p, 0);
+	check(reports(&p.reports[0], 0, UM_OPENED, 0) && sends(&p, 0, "\x03\x73\x01", 3), "UA in the next slot");
+	slots(&p, 1, 0, 0, &t);
+	check(says(&t, "", "o"), "the network reports opened");
+	exchange(&p);
+	start_normal(&p, UM_SDCCH);
+	check(opens(&p, 0, 0) && opens(&p, 1, 0), "both open at once");
+	fill(&p, 0);
+	check(sends(&p, 0, "\x01\x3f\x01", 3) && sends(&p, 1, "\x03\x3f\x01", 3), "two SABM");
+	slot(&p, 0);
+	check(sends(&p, 0, "\x03\x73\x01", 3) && sends(&p, 1, "\x01\x73\x01", 3), "two UA");
+	slots(&p, 2, 0, 0, &t);
+	check(says(&t, "o", "o"), "both report one opening");
+	exchange(&p);
+}
+
+/* A mobile comes back to a channel whose link is open, after an assignment that failed: what was not acknowledged is gone. */
+static void test_return(void)
+{
+	pair p;
+	story t;
+	um_message a = message_of('A', 30), got = message_of(0, 0);
+	open_both(&p, UM_SDCCH);
+	check(um_datalink_send(&p.sides[0], 0, &a) == UM_END_DONE, "A, in two segments");
+	slots(&p, 2, 0, 0, &t);
+	check(um_datalink_unacked(&p.sides[0], 0, 0, &got) == UM_END_DONE && !memcmp(&got, &a, sizeof a), "A is not acknowledged");
+	check(opens(&p, 0, 0) && p.sides[0].link0.end.sapi == 3 && p.sides[1].link0.end.sapi == 0, "the mobile opens without information");
+	check(um_datalink_unacked(&p.sides[0], 0, 0, &got) == UM_END_EMPTY && got.count == 30, "A is dropped");
+	fill(&p, 0);
+	check(sends(&p, 0, "\x01\x3f\x01", 3), "SABM without information");
+	slot(&p, 0);
+	check(reports(&p.reports[1], 0, UM_OPENED, 0) && sends(&p, 1, "\x01\x73\x01", 3), "a new opening");
+	check(p.sides[1].link0.end.sapi == 3 && !p.sides[1].link0.heard && p.sides[1].link0.end.vr == 0, "the network counts from 0");
+	slots(&p, 3, 0, 0, &t);
+	check(says(&t, "o", ""), "the mobile reports it");
+	exchange(&p);
+	check(opens(&p, 1, 0), "the network opens the open link again");
+	slots(&p, 3, 0, 0, &t);
+	check(says(&t, "o", "o"), "both report it");
+	exchange(&p);
+}
+
+/* The messages that were not acknowledged can be read after the link was given up, until it is opened again. */
+static void test_unacked(void)
+{
+	pair p;
+	story t;
+	um_message a = message_of('A', 1), b = message_of('B', 40), c = message_of('C', 251), got = message_of(0, 0);
+	start_normal(&p, UM_SACCH);
+	check(opens(&p, 0, 0) && um_datalink_unacked(&p.sides[0], 0, 0, &got) == UM_END_EMPTY, "none while it is opened");
+	slots(&p, 3, 0, 0, &t);
+	check(um_datalink_send(&p.sides[0], 0, &a) == UM_END_DONE && um_datalink_send(&p.sides[0], 0, &b) == UM_END_DONE, "A, B");
+	check(um_datalink_send(&p.sides[0], 0, &c) == UM_END_DONE, "C");
+	slots(&p, 3, 0, 0, &t);
+	check(says(&t, "a", "gA"), "A is acknowledged");
+	slots(&p, 30, 3, 0, &t);
+	check(says(&t, "e", ""), "the link is given up");
+	for (int i = 0; i < 2; i++) {
+		check(um_datalink_unacked(&p.sides[0], 0, 0, &got) == UM_END_DONE && !memcmp(&got, &b, sizeof b), "B");
+		check(um_datalink_unacked(&p.sides[0], 0, 1, &got) == UM_END_DONE && !memcmp(&got, &c, sizeof c), "C");
+	}
+	check(um_datalink_unacked(&p.sides[0], 0, 2, &got) == UM_END_EMPTY && !memcmp(&got, &c, sizeof c), "no more");
+	check(um_datalink_unacked(&p.sides[0], 0, 255, &got) == UM_END_EMPTY && um_datalink_unacked(&p.sides[0], 3, 0, &got) == UM_END_EMPTY,
+	      "none");
+	check(opens(&p, 0, 0) && um_datalink_unacked(&p.sides[0], 0, 0, &got) == UM_END_EMPTY, "an opening drops them");
+	check(um_datalink_unacked(&p.sides[0], 1, 0, &got) == UM_END_NO_CALL && !memcmp(&got, &c, sizeof c), "no such SAPI");
+	p.sides[0].link0.t200 = 0;
+	check(um_datalink_unacked(&p.sides[0], 0, 0, &got) == UM_END_NONE && um_datalink_establish(&p.sides[0], 0) == UM_END_NONE, "no data link");
+}
+
+/* A link with contention resolution keeps its rules until it is open; a UI frame of a normal link carries SAPI 0. */
+static void test_kinds(void)
+{
+	pair p;
+	um_datalink same;
+	um_report r;
+	uint8_t block[23];
+	um_message one = message_of(7, 1);
+	start(&p, UM_SDCCH);
+	check(opens(&p, 1, 3) && um_datalink_establish(&p.sides[1], 3) == UM_END_NOT_IDLE, "it is being opened");
+	check(um_datalink_establish(&p.sides[1], 2) == UM_END_NO_CALL, "no such SAPI");
+	same = p.sides[1];
+	memset(block, 0x2b, sizeof block);
+	memcpy(block, "\x01\x3f\x01", 3);
+	check(um_datalink_take(&p.sides[1], block, &r) == UM_END_DONE && r.notice_count == 0, "a SABM without information");
+	same.heard0 = 1;
+	check(!memcmp(&same, &p.sides[1], sizeof same), "is ignored by the network in Idle");
+	block[0] = 0x03;
+	check(um_datalink_take(&p.sides[0], block, &r) == UM_END_DONE && r.notice_count == 0 && p.sides[0].link0.end.state == UM_IDLE, "and");
+	fill(&p, 0);
+	check(sends(&p, 0, "\x03\x1f\x01", 3), "is answered with a DM by the mobile");
+	for (int channel = 0; channel < 2; channel++) {
+		start_normal(&p, (uint8_t)channel);
+		check(um_datalink_open(&p.sides[0], &one) == UM_END_NO_CALL, "no contention resolution on a normal link");
+		for (int side = 0; side < 2; side++) {
+			check(um_datalink_unit(&p.sides[side], 0, &one, L1, p.blocks[side]) == UM_END_DONE, "a UI frame");
+			check(sends(&p, side, side ? "\x03\x03\x05\x07" : "\x01\x03\x05\x07", 4), "has SAPI 0");
+			p.arrives[side] = true;
+		}
+		arrive(&p);
+		check(reports(&p.reports[0], 0, UM_UNIT, 1) && reports(&p.reports[1], 0, UM_UNIT, 1), "and is reported");
+	}
+	memset(&same, 0xee, sizeof same);
+	p.sides[0] = same;
+	check(!um_datalink_new_for(&same, UM_MOBILE, UM_SDCCH, 2, 2, 4) && !memcmp(&same, &p.sides[0], sizeof same), "no such kind");
+}
+
 static void test_refusals(void)
 {
 	um_datalink a, b;
@@ -267,6 +541,14 @@ int main(void)
 	test_give_up();
 	test_sapi3();
 	test_order_of_links();
+	test_second_opening();
+	test_local_release();
+	test_opened_after_release();
+	test_assignment();
+	test_network_initiated();
+	test_return();
+	test_unacked();
+	test_kinds();
 	test_refusals();
 	return failed;
 }

@@ -30,8 +30,8 @@ static void words(const char *(*name)(unsigned), const char *wanted)
 static void names(void)
 {
 	words(um_kind_name, "i rr rnr rej sabm dm ui disc ua");
-	words(um_channel_name, "sdcch sacch bcch ccch fcch sch rach");
-	words(um_combination_name, "bcch_ccch bcch_ccch_sdcch4 sdcch8 tch_f");
+	words(um_channel_name, "sdcch sacch bcch ccch fcch sch rach facch");
+	words(um_combination_name, "bcch_ccch bcch_ccch_sdcch4 sdcch8 tch_f tch_h");
 	words(um_direction_name, "downlink uplink");
 	words(um_placing_name, "placed unplaced noplace");
 	words(um_taken_name, "taken block nosoft noslot noframe doubled late");
@@ -131,8 +131,8 @@ static void saved_slots(void)
 	burst[147] = 9;
 	check(um_slot_take(&slot, 15, burst, &block) == UM_SLOT_TAKEN, "the first burst of SDCCH 0 in the uplink");
 	um_slot_to_bytes(&slot, octets);
-	check(!memcmp(octets, "umT1\x0f\0\0\0\x0f\0\0\0\2\1\3\x40\1\1\xfb", 19) && octets[18 + 147] == 9 && octets[18 + 148] == 0,
-		"last and first frame 15; SDCCH/8, uplink, time slot 3, 64 words, one erasure, one burst");
+	check(!memcmp(octets, "umT2\x0f\0\0\0\x0f\0\0\0\2\1\3\x40\1\1\xfb", 19) && octets[18 + 147] == 9 && octets[18 + 148] == 0
+		&& octets[610] == 78, "last and first frame 15; SDCCH/8, uplink, time slot 3, 64 words, one erasure, one burst, no limit");
 	check(um_slot_from_bytes(&back, octets), "it is restored");
 	um_slot_to_bytes(&back, again);
 	check(!memcmp(octets, again, sizeof octets), "and saved again");
@@ -140,8 +140,10 @@ static void saved_slots(void)
 	before = back;
 	octets[15] = 0;
 	check(!um_slot_from_bytes(&back, octets) && !memcmp(&back, &before, sizeof back), "no receiver tries no words");
-	octets[15] = 1, octets[3] = '2';
-	check(!um_slot_from_bytes(&back, octets), "another version");
+	octets[15] = 1, octets[610] = 79;
+	check(!um_slot_from_bytes(&back, octets), "no receiver has a limit of 79");
+	octets[610] = 18, octets[3] = '1';
+	check(!um_slot_from_bytes(&back, octets), "the form before the limit");
 }
 
 static void saved_links(void)
@@ -152,8 +154,11 @@ static void saved_links(void)
 	check(um_datalink_new(&link, UM_MOBILE, UM_SACCH, 4, 6) && um_datalink_main(&link, true) == UM_END_DONE
 		&& um_datalink_open(&link, &info) == UM_END_DONE, "a data link opens");
 	um_datalink_to_bytes(&link, octets);
-	check(!memcmp(octets, "umL1\0\0\0\0\0\0\0\0\0\0\1\1", 16) && octets[4 + 2581] == 4 && octets[4 + 2608 + 2581] == 6
-		&& octets[4 + 2608 + 9] == 3 && octets[5220] == 0 && octets[5221] == 1, "its ends, each T200, and what was said of SAPI 0");
+	check(!memcmp(octets, "umL2\0\0\0\0\0\0\0\0\0\0\1\1", 16) && octets[4 + 2581] == 4 && octets[4 + 2609 + 2581] == 6
+		&& octets[4 + 2609 + 9] == 3 && octets[5222] == 0 && octets[5223] == 1, "its ends, each T200, and what was said of SAPI 0");
+	octets[3] = '1';
+	check(!um_datalink_from_bytes(&back, octets), "the form without `heard` is refused");
+	octets[3] = '2';
 	check(um_datalink_from_bytes(&back, octets), "it is restored");
 	um_datalink_to_bytes(&back, again);
 	check(!memcmp(octets, again, sizeof octets), "and saved again");
@@ -165,6 +170,30 @@ static void saved_links(void)
 	check(!um_datalink_from_bytes(&back, octets), "another head");
 }
 
+/* After UM_ENDED the answer to the other side's release waits for its slot; a SABM and its answer, and a release, do too. */
+static void idle_links(void)
+{
+	um_datalink mobile, network;
+	um_message info = { 1, { 5 } };
+	um_report report;
+	uint8_t block[23];
+	const uint8_t layer1[2] = { 0, 0 };
+	check(um_datalink_new(&mobile, UM_MOBILE, UM_SDCCH, 4, 6) && um_datalink_new(&network, UM_NETWORK, UM_SDCCH, 4, 6) &&
+	      um_datalink_idle(&mobile) && um_datalink_idle(&network), "new data links are idle");
+	check(um_datalink_open(&mobile, &info) == UM_END_DONE && !um_datalink_idle(&mobile), "a SABM waits");
+	check(um_datalink_next(&mobile, layer1, block, &report) == UM_END_DONE && !um_datalink_idle(&mobile), "it awaits an answer");
+	check(um_datalink_take(&network, block, &report) == UM_END_DONE && !um_datalink_idle(&network), "the answer waits");
+	check(um_datalink_next(&network, layer1, block, &report) == UM_END_DONE && um_datalink_idle(&network), "the answer went out");
+	check(um_datalink_take(&mobile, block, &report) == UM_END_DONE && um_datalink_idle(&mobile), "the answer has arrived");
+	check(um_datalink_close(&mobile, 0) == UM_END_DONE && um_datalink_next(&mobile, layer1, block, &report) == UM_END_DONE &&
+	      um_datalink_take(&network, block, &report) == UM_END_DONE && report.notices[0].kind == UM_ENDED && !um_datalink_idle(&network),
+	      "the answer to a release waits, although the link has ended");
+	check(um_datalink_next(&network, layer1, block, &report) == UM_END_DONE && um_datalink_take(&mobile, block, &report) == UM_END_DONE &&
+	      um_datalink_idle(&network) && um_datalink_idle(&mobile), "both have ended");
+	memset(&mobile, 0xee, sizeof mobile);
+	check(!um_datalink_idle(&mobile), "no data link");
+}
+
 int main(void)
 {
 	names();
@@ -173,6 +202,7 @@ int main(void)
 	saved_sides();
 	saved_slots();
 	saved_links();
+	idle_links();
 	printf("library: um_more.h: names, hard bits, T200 and saved states%s\n", failed ? ": failed" : "");
 	return failed;
 }

@@ -154,6 +154,7 @@ static void beside_the_links(um_side *mobile, um_side *network)
 	uint8_t noise[23], sapi = 0xa5;
 	size_t at = mobile->link0.channel == UM_SACCH ? 2 : 0;
 
+	memset(&told, 0xa5, sizeof told);
 	REFUSED(mobile, &told, um_side_unit(mobile, 3, &none, &told), UM_END_EMPTY);
 	check(um_side_unit(mobile, 3, &unit, &sent) == UM_END_DONE && is_sent(mobile, &sent, ui3, 4), "a unit on SAPI 3");
 	take(network, sent.frames[0], 3, &told);

@@ -139,7 +139,7 @@ static void schedule(const char *name)
 		"after frame 88, SACCH 5 of SDCCH/8 begins in frame 87 of the next two multiframes");
 	check(um_next_block(UM_BCCH_CCCH, UM_DOWNLINK, 0, UM_BCCH, 0, UM_FRAMES - 1, &first) && first == 2, "after the last frame comes frame 0");
 	check(!um_next_block(UM_BCCH_CCCH, UM_DOWNLINK, 0, UM_SDCCH, 0, 0, &first), "BCCH and CCCH have no SDCCH");
-	check(um_place_frame(4, 0, 0, 0, &place) == UM_NO_PLACE && um_place_frame(0, 2, 0, 0, &place) == UM_NO_PLACE
+	check(um_place_frame(5, 0, 0, 0, &place) == UM_NO_PLACE && um_place_frame(0, 2, 0, 0, &place) == UM_NO_PLACE
 		&& um_place_frame(0, 0, 8, 0, &place) == UM_NO_PLACE && um_place_frame(0, 0, 0, UM_FRAMES, &place) == UM_NO_PLACE,
 		"numbers out of range have no place");
 }
@@ -204,7 +204,8 @@ static void slots(void)
 	um_slot_block block;
 	um_block_report report;
 
-	check(!um_slot_new(&slot, 4, 0, 0, 1, 0) && !um_slot_new(&slot, 2, 2, 0, 1, 0) && !um_slot_new(&slot, 2, 0, 8, 1, 0)
+	check(!um_slot_new(&slot, 5, 0, 0, 1, 0) && !um_slot_new(&slot, UM_TCH_H, 0, 0, 1, 0)
+		&& !um_slot_new(&slot, 2, 2, 0, 1, 0) && !um_slot_new(&slot, 2, 0, 8, 1, 0)
 		&& !um_slot_new(&slot, 2, 0, 0, 0, 0) && !um_slot_new(&slot, 2, 0, 0, 65, 0) && !um_slot_new(&slot, 2, 0, 0, 1, 5),
 		"numbers out of range make no receiver");
 	check(um_slot_new(&slot, UM_SDCCH8, UM_DOWNLINK, 3, 1, 0), "a receiver is made");
@@ -238,6 +239,64 @@ static void slots(void)
 	check(um_slot_new(&slot, UM_BCCH_CCCH, UM_DOWNLINK, 0, 1, 0) && um_slot_miss(&slot, UM_FRAMES - 1, &block) == UM_SLOT_TAKEN
 		&& um_slot_miss(&slot, 0, &block) == UM_SLOT_TAKEN && um_slot_miss(&slot, UM_FRAMES - 1, &block) == UM_SLOT_LATE,
 		"frame 0 follows the last of the hyperframe");
+}
+
+/* A receiver that begins again, one whose recording ends, and one with a limit. */
+static void restarted_ended_limited(void)
+{
+	static const uint8_t octets[23] = { 3, 3, 1, 0x2b };
+	uint8_t bits[4][148];
+	int8_t soft[4][148];
+	um_slot slot, before;
+	um_slot_block block;
+	um_erasure erasure;
+	um_block_report report;
+	uint32_t rank;
+	int limited = 0, tried = 0;
+
+	check(um_send_block(octets, 2, bits), "a block is sent");
+	soften(bits, soft);
+	check(um_slot_new(&slot, UM_SDCCH8, UM_DOWNLINK, 1, 64, 4) && slot.limit == 78, "a receiver has no limit at first");
+	slot.limit = 18;
+	/* one false frame number, and all true frames are late */
+	check(um_slot_miss(&slot, 51000, &block) == UM_SLOT_TAKEN && um_slot_take(&slot, 8, soft[0], &block) == UM_SLOT_LATE, "a late frame");
+	check(um_slot_restart(&slot) && slot.last == UM_FRAMES && slot.first == UM_FRAMES && slot.heard == 0 && slot.words == 64
+		&& slot.erasures == 4 && slot.limit == 18 && slot.combination == UM_SDCCH8 && slot.timeslot == 1, "the settings stay");
+	for (uint32_t i = 0; i < 3; i++)
+		check(um_slot_take(&slot, 8 + i, soft[i], &block) == UM_SLOT_TAKEN, "frames after it are taken");
+	check(um_slot_end(&slot, &block) == UM_SLOT_BLOCK && block.first == 8 && block.heard == 3 && block.subchannel == 2
+		&& block.report.accepted && !memcmp(block.report.octets, octets, 23), "the last block of a recording is ended at once");
+	before = slot;
+	check(um_slot_end(&slot, &block) == UM_SLOT_TAKEN && !memcmp(&slot, &before, sizeof slot), "then there is none");
+	slot.limit = 79;
+	before = slot;
+	check(um_slot_end(&slot, &block) == UM_SLOT_NONE && !um_slot_restart(&slot) && !memcmp(&slot, &before, sizeof slot),
+		"a limit of 79 is none");
+	/* with a limit each report is that of one word, or of all, by the three best bursts */
+	srand(78);
+	for (int round = 0; round < 400; round++) {
+		int three = 0, worst = 0;
+		check(um_slot_new(&slot, UM_SDCCH8, UM_DOWNLINK, 1, 16, 2), "a receiver");
+		slot.limit = (uint8_t)(rand() % 40);
+		soften(bits, soft);
+		for (int b = 0; b < 4; b++)
+			for (int i = 0; i < 148; i++)
+				if (rand() % 100 < round % 40)
+					soft[b][i] = (int8_t)-soft[b][i];
+		for (uint32_t i = 0; i < 4; i++)
+			check(um_slot_take(&slot, i, soft[i], &block) == (i == 3 ? UM_SLOT_BLOCK : UM_SLOT_TAKEN), "four bursts make a block");
+		for (int b = 0; b < 4; b++) {
+			three += block.erasure.wrong_training[b];
+			worst = block.erasure.wrong_training[b] > worst ? block.erasure.wrong_training[b] : worst;
+		}
+		bool all = three - worst <= slot.limit;
+		check(um_receive_block_erasing((const int8_t (*)[148])soft, all ? 16 : 1, all ? 2 : 0, &report, &rank, &erasure)
+			&& same_but_padding(&block.report, &report) && block.rank == rank && !memcmp(&block.erasure, &erasure, sizeof erasure),
+			"words and erasures are tried if the three best bursts have few wrong training bits");
+		limited += !all;
+		tried += all && (rank > 1 || erasure.erased < 4);
+	}
+	check(limited > 20 && tried > 5, "both come about");
 }
 
 /* SACCH of TCH/F, time slot 0: its bursts are in frames 12, 38, 64 and 90 of 104, with frames of traffic between them */
@@ -286,6 +345,8 @@ static void soft_bits(void)
 	check(um_soft_from_llr(halves, 1, rounded, 8) && !memcmp(rounded, even, 8), "halves to even, and infinities");
 	check(!um_soft_from_llr(halves, 0, rounded, 8) && !um_soft_from_llr(halves, INFINITY, rounded, 8)
 		&& !um_soft_from_llr(halves, NAN, rounded, 8) && !memcmp(rounded, even, 8), "a scale of 0 or without end is refused");
+	const float once[1] = {-15}; /* -15 times the float 3.3 is -49.4999993, and -49.5 as a float */
+	check(um_soft_from_llr(once, 3.3f, rounded, 1) && rounded[0] == -49, "rounded once");
 	check(um_soft_from_llr(llrs, -10, soft, 2) && soft[0] == -3 && soft[1] == 3, "a negative scale for numbers that are positive for a 1");
 	float none[2] = { 1, NAN };
 	soft[0] = 9;
@@ -302,6 +363,7 @@ int main(int argc, char **argv)
 	schedule(argv[2]);
 	erasing();
 	slots();
+	restarted_ended_limited();
 	traffic_between();
 	soft_bits();
 	return failed;

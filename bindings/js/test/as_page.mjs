@@ -5,6 +5,7 @@ import { readFileSync } from "node:fs";
 import { pathToFileURL } from "node:url";
 
 const address = pathToFileURL(process.argv[1]).href;
-Object.assign(globalThis, { self: globalThis, location: new URL(address), document: { baseURI: address, currentScript: { src: address } } });
+const document = { baseURI: address, currentScript: { src: address } };
+Object.assign(globalThis, { self: globalThis, location: new URL(address), document });
 globalThis.fetch = async (path) => new Response(readFileSync(new URL(path, address)));
 globalThis.process = undefined;

@@ -35,7 +35,73 @@ const session = (um, channel) => {
   return got;
 };
 
+// After `closed` the answer to the other side's release waits for its slot; a SABM and its answer, and a release, do too.
+const idle = (um) => {
+  const [mobile, network] = [um.dataLink("mobile"), um.dataLink("network")];
+  const both = () => [mobile.idle, network.idle];
+  assert.deepEqual(both(), [true, true]);
+  mobile.open([1]);
+  network.take(mobile.next().block);
+  assert.deepEqual(both(), [false, false]);
+  mobile.take(network.next().block);
+  assert.deepEqual(both(), [true, true]);
+  mobile.close(0);
+  const [closed] = network.take(mobile.next().block);
+  assert.deepEqual([closed.kind, ...both()], ["closed", false, false]);
+  mobile.take(network.next().block);
+  assert.deepEqual(both(), [true, true]);
+};
+
+// some slots, in which the network's blocks may be lost; what each side reports
+const told = (links, air, count, lost = false) => {
+  const said = [[], []];
+  const tell = (who, notices) => {
+    for (const { kind, message } of notices) said[who].push(kind === "got" ? kind + String.fromCharCode(...message) : kind);
+  };
+  for (let slot = 0; slot < count; slot++) {
+    const arrived = [...air];
+    links.forEach((link, who) => arrived[1 - who] && tell(who, link.take(arrived[1 - who])));
+    links.forEach((link, who) => {
+      const { block, notices } = link.next();
+      tell(who, notices);
+      air[who] = lost && who === 1 ? null : block;
+    });
+  }
+  return said.map((kinds) => kinds.sort().join(" "));
+};
+
+// a link that is open at the other side is opened again: a new opening at both sides
+const tryOpenedAgain = (um) => {
+  const air = [null, null];
+  const links = ["mobile", "network"].map((role) => um.dataLink(role, { channel: "sacch", t200: 4, t200Sapi3: 6 }));
+  links[0].main(true);
+  links[0].openBare();
+  assert.deepEqual(told(links, air, 4), ["opened", "opened"]);
+  links[0].send(3, [65]);
+  assert.deepEqual(told(links, air, 40, true), ["closed", "gotA"]);
+  links[0].openBare();
+  assert.deepEqual(told(links, air, 3), ["opened", "opened"]);
+  links[0].send(3, [66]);
+  links[1].send(3, [67]);
+  assert.deepEqual(told(links, air, 10), ["acked gotC", "acked gotB"]);
+
+  const pair = ["mobile", "network"].map((role) => um.dataLink(role, { t200: 2 }));
+  const between = [null, null];
+  pair[0].open([1, 2]);
+  assert.deepEqual(told(pair, between, 4), ["opened", "opened"]);
+  pair[0].send(0, [65]);
+  assert.deepEqual(told(pair, between, 4), ["acked", "gotA"]);
+  pair[0].closeLocal(0);
+  pair[0].open([1, 2]);
+  assert.deepEqual(told(pair, between, 4), ["opened", "opened"]);
+  pair[0].send(0, [66]);
+  pair[1].send(0, [67]);
+  assert.deepEqual(told(pair, between, 6), ["acked gotC", "acked gotB"]);
+};
+
 export const tryDataLinks = (um) => {
+  idle(um);
+  tryOpenedAgain(um);
   for (const channel of ["sdcch", "sacch"]) {
     const all = { 0: [0, 1, 2], 3: [0, 1, 2] };
     assert.deepEqual(session(um, channel), [all, all]);
@@ -47,7 +113,7 @@ export const tryDataLinks = (um) => {
   assert.deepEqual([...um.readFrame(link.unit(0, [104, 105]), "sacch").info], [104, 105]);
   link.open([1]);
   const octets = link.toBytes();
-  assert.deepEqual([octets.length, ...octets.subarray(0, 4)], [5222, 0x75, 0x6d, 0x4c, 0x31]);
+  assert.deepEqual([octets.length, ...octets.subarray(0, 4)], [5224, 0x75, 0x6d, 0x4c, 0x32]);
   assert.deepEqual(um.dataLinkFromBytes(octets).toBytes(), octets);
   const other = link.copy();
   other.closeLocal(0);
@@ -55,6 +121,9 @@ export const tryDataLinks = (um) => {
   const refused = (reason) => (error) => error instanceof Refused && error.reason === reason;
   assert.throws(() => link.send(3, [1]), refused("notopen"));
   assert.throws(() => um.dataLink("network").open([1]), refused("nocall"));
+  const older = octets.slice(0, 5222);
+  older[3] = 0x31;
+  assert.throws(() => um.dataLinkFromBytes(older), /octets begins with "umL1"; expected "umL2"/);
   assert.throws(() => um.dataLinkFromBytes(octets.fill(255, 4)), refused("noend"));
   assert.throws(() => um.dataLink("mobile", { t200: 0 }), /t200 is 0; expected an integer from 1 to 255/);
 };

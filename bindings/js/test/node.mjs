@@ -7,6 +7,7 @@ import { load } from "../um.mjs";
 import { compare, times } from "./compare.mjs";
 import { tryArguments, tryVersions } from "./arguments.mjs";
 import { tryDataLinks } from "./datalinks.mjs";
+import { tryEstablishments } from "./establishments.mjs";
 import { tryHostile } from "./hostile.mjs";
 import { trySlots } from "./slots.mjs";
 
@@ -37,6 +38,7 @@ if (!isMainThread) {
   trySlots(um);
   console.log("js: time slots, SCH and random access are as the standard's tables have them");
   tryDataLinks(um);
+  tryEstablishments(um);
   console.log("js: two data links deliver every message over a path that loses one block in ten");
   if (timed) console.log("js: us per call in node:", JSON.stringify(times(um)));
   process.exitCode = wrong.length ? 1 : 0;

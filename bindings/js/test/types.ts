@@ -27,6 +27,12 @@ const use = async (): Promise<void> => {
   if (block?.accepted && block.channel === "sacch") facts.push(um.readFrame(block.accepted, block.channel).unread === "ea");
   if (block) facts.push(block.erasure.erased === 1, block.erasure.wrongTraining.length === um.detectTraining(bursts).wrongTraining.length);
   facts.push(um.placeFrame("bcch_ccch", "uplink", 0, 7)?.channel === "rach", um.readSch([])?.bsic === 1);
+  facts.push(um.dataLink("mobile").idle);
+  const assigned = um.dataLink("network", { establishment: "normal" });
+  assigned.establish(0);
+  facts.push(assigned.establishment === "normal", assigned.unacked(0).every((message) => message.length > 0));
+  // @ts-expect-error no such kind of establishment
+  um.dataLink("mobile", { establishment: "handover" });
   // @ts-expect-error no such combination
   um.slot("sdcch");
   // @ts-expect-error no such SAPI

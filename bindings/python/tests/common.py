@@ -2,6 +2,8 @@
 import os
 import pathlib
 import sys
+import threading
+import time
 import unittest
 
 HERE = pathlib.Path(__file__).resolve()
@@ -26,6 +28,27 @@ class Case(unittest.TestCase):
         self.assertIs(error, type(caught.exception), caught.exception)
         for word in words:
             self.assertIn(word, str(caught.exception))
+
+
+    def together(self, seconds, *bodies):
+        """Runs each body with a count in a thread of its own, for some seconds. A call may refuse, but not for its state."""
+        wrong, end = [], time.monotonic() + seconds
+
+        def loop(body):
+            count = 0
+            while time.monotonic() < end:
+                count += 1
+                try:
+                    body(count)
+                except um.Refused as error:
+                    wrong.extend([error] if error.reason in ("noend", "noslot") else [])
+
+        threads = [threading.Thread(target=loop, args=(body,)) for body in bodies]
+        for thread in threads:
+            thread.start()
+        for thread in threads:
+            thread.join()
+        self.assertEqual(0, len(wrong), wrong[:1])
 
 
 def digits(text):

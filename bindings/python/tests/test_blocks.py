@@ -5,7 +5,7 @@ import ctypes
 import pickle
 
 from common import FILL, ROOT, Case, digits, noisy, numpy, um
-from um import _values, blocks, effects, frames
+from um import blocks, effects, frames
 
 
 class Vectors(Case):

@@ -1,11 +1,32 @@
 """Endpoints and sides."""
 import copy
 import pickle
+import weakref
 
 from common import Case, um
 
 
 class Ends(Case):
+    def test_threads(self):
+        """Endpoints and sides that threads share are changed by one call at a time."""
+        mobile, network = self.opened()
+        send = lambda count: (mobile.send(bytes(count % 250 + 1)), network.send(bytes(count % 200 + 1)))
+        frame = lambda count: um.write_frame(um.Frame("i", cr=count & 1, ns=count >> 1 & 7, nr=count >> 4 & 7, info=bytes(count % 20 + 1)))
+        side = um.Side("network")
+        take = lambda count: (mobile.take(frame(count)), network.take(frame(count)), side.take(frame(count)), side.timer(0))
+        self.together(1, send, take, send, take)
+
+    def test_subclass(self):
+        class Named(um.End):
+            def __init__(self, name):
+                super().__init__("mobile")
+                self.name = name
+
+        end = Named("first")
+        for other in (copy.copy(end), copy.deepcopy(end)):
+            self.assertEqual((Named, "first", end), (type(other), other.name, other))
+        self.assertEqual([end, None], [weakref.ref(end)(), weakref.ref(um.Side("mobile"))()])
+
     def opened(self, sapi=0, channel=um.SDCCH):
         mobile, network = um.End("mobile", sapi, channel), um.End("network", sapi, channel)
         answer = network.take((mobile.open_bare() if sapi else mobile.open(b"\1\2")).frames[0])

@@ -48,6 +48,32 @@ class Arrays(Case):
         self.assertTrue((um.send_blocks(octets, codes) == self.bursts.reshape(10, 20, 4, 148)).all())
         self.assertEqual((4, 148), um.send_blocks(self.octets[0], 3).shape)
 
+    def test_new_axis(self):
+        """An axis of one that x[None] adds has a stride of 0."""
+        burst, access, word = self.soft[0, 0], self.soft[0, 0, :88], numpy.zeros(224, "u1")
+        for call, item in (
+            (um.receive_blocks, self.soft[0]), (um.receive_blocks, self.soft[0].reshape(592)), (um.margin_blocks, self.soft[0]),
+            (lambda soft: um.receive_blocks_among(soft, 4), self.soft[0]), (um.receive_syncs, burst), (um.repair_words, word),
+            (lambda soft: um.receive_accesses(soft, [0] * 6), access), (um.read_frames, self.octets[0]),
+            (lambda octets: um.send_blocks(octets, 1), self.octets[0]),
+        ):
+            self.assertEqual(call(item).tobytes(), call(item[None]).tobytes())
+
+    def test_masks(self):
+        """What a mask hides is not taken for values."""
+        ma = numpy.ma.masked_array
+        for name, call, values in (
+            ("bursts", um.receive_blocks, self.soft), ("bursts", um.receive_block, self.soft[0]),
+            ("bursts", um.receive_block, list(map(ma, self.soft[0]))),
+            ("octets", lambda octets: um.send_blocks(octets, 1), self.octets),
+            ("octets", lambda octets: um.send_block(octets, 1), self.octets[0]),
+            ("values", um.soft_from_llr, self.soft), ("bits", um.soft_from_bits, self.bursts), ("sbits", um.soft_from_sbits, self.soft),
+            ("octets", um.soft_from_trx, self.octets),
+        ):
+            masked = values if type(values) is list else ma(values)
+            self.refused(TypeError, [name, "a masked array; expected one without a mask"], call, masked)
+        self.refused(TypeError, ["sbits: memoryview of format '4x'"], um.soft_from_sbits, memoryview(numpy.zeros(4, "V4")))
+
     def test_margins(self):
         margins = um.margin_blocks(self.soft[:50])
         for i in range(50):

@@ -117,6 +117,15 @@ class Refusals(Case):
         self.refused(ValueError, ["role: 'phone'; expected one of 'mobile', 'network'"], um.End, "phone")
         self.refused(ValueError, ["sapi: 1; expected 0 or 3"], um.End, "mobile", 1)
         self.refused(ValueError, ["channel: 5; expected um.SDCCH or um.SACCH"], um.End, "mobile", 0, 5)
+        for channel in (8, -1, "sdcch", None, True):
+            said = [f"channel: {channel!r}; expected a um.Channel"]
+            self.refused(ValueError, said, um.next_block, "sdcch8", "downlink", 0, channel, 0, 0)
+        if numpy:
+            many = numpy.zeros(2, "u1")
+            self.refused(ValueError, ["role: array([0, 0], dtype=uint8); expected one of 'mobile'"], um.End, many)
+            self.refused(ValueError, ["sapi: array([0, 0], dtype=uint8); expected 0 or 3"], um.End, "mobile", many)
+            self.refused(ValueError, ["channel: array([0, 0], dtype=uint8); expected um.SDCCH"], um.End, "mobile", 0, many)
+            self.assertEqual(3, um.End("mobile", numpy.uint8(3)).sapi)
         self.refused(ValueError, ["frame.kind: 'xx'; expected one of 'i', 'rr'"], um.write_frame, um.Frame("xx"))
         self.refused(ValueError, ["frame.ns: 8; expected 0 to 7"], um.write_frame, um.Frame("i", ns=8, info=b"a"))
         self.refused(ValueError, ["frame.info: 21 octets; expected at most 20 on SDCCH"], um.write_frame, um.Frame("ui", info=bytes(21)))

@@ -1,9 +1,11 @@
 """TDMA frames, the channels of a time slot and its receiver, beside worked values of 3GPP TS 45.002 and TS 44.018."""
+import array
 import copy
 import pickle
 import random
+import weakref
 
-from common import FILL, Case, numpy, um
+from common import FILL, Case, um
 
 
 def digits(number, places):
@@ -65,7 +67,18 @@ class Slots(Case):
         self.assertEqual(block, again.take(3, bursts[3]))
         self.assertEqual(again, slot)
         self.assertNotEqual(copy.copy(slot), um.Slot("sdcch8"))
-        self.assertEqual((610, b"umT1"), (len(slot.to_bytes()), slot.to_bytes()[:4]))
+        self.assertEqual((611, b"umT2"), (len(slot.to_bytes()), slot.to_bytes()[:4]))
+
+    def test_subclass(self):
+        class Named(um.Slot):
+            name = "?"
+
+        slot = Named("sdcch8")
+        slot.name = "first"
+        again = pickle.loads(pickle.dumps(um.Slot("sdcch8")))
+        for other in (copy.copy(slot), copy.deepcopy(slot)):
+            self.assertEqual((Named, "first", slot), (type(other), other.name, other))
+        self.assertIs(again, weakref.ref(again)())
 
     def test_missing_and_late(self):
         slot, bursts = um.Slot("sdcch8", words=64, erasures=4), self.bursts()
@@ -87,14 +100,54 @@ class Slots(Case):
         self.refused(ValueError, ["burst: 147 soft bits; expected 148"], slot.take, 0, bytes(147))
         self.refused(ValueError, ["burst[5]: -128"], slot.take, 0, [0] * 5 + [-128] + [0] * 142)
         self.refused(ValueError, ["frame: -1; expected 0 to 2715647"], slot.take, -1, bytes(148))
-        self.refused(ValueError, ["octets: begins with b'umS1'; expected b'umT1'"], um.Slot.from_bytes, b"umS1" + bytes(606))
-        self.assertRaises(um.Refused, um.Slot.from_bytes, b"umT1" + b"\xff" * 606)
+        self.refused(ValueError, ["octets: begins with b'umS1'; expected b'umT2'"], um.Slot.from_bytes, b"umS1" + bytes(607))
+        self.assertRaises(um.Refused, um.Slot.from_bytes, b"umT2" + b"\xff" * 607)
         hard = um.send_block(FILL, 5)
         for frame in range(3):
             slot.take(frame, hard[frame])
         before = slot.to_bytes()
         self.refused(ValueError, ["burst: each value is 0 or 1", "soft_from_bits"], slot.take, 3, hard[3])
         self.assertEqual(before, slot.to_bytes())
+
+    def test_nearly_lost(self):
+        # Of a block one burst came, all 0 but a single 1. The next block ends it, and each burst of it is taken.
+        for words, erasures in ((1, 0), (16, 4)):
+            slot, bursts = um.Slot("sdcch8", timeslot=3, words=words, erasures=erasures), self.bursts()
+            self.assertIsNone(slot.take(518, bytes(70) + b"\1" + bytes(77)))
+            ended = slot.take(522, bursts[0])
+            self.assertEqual((518, None, 1), (ended.first, ended.report.accepted, ended.heard))
+            self.assertEqual([None, None], [slot.take(522 + at, bursts[at]) for at in (1, 2)])
+            self.assertEqual((522, FILL, 4), (lambda block: (block.first, block.report.accepted, block.heard))(slot.take(525, bursts[3])))
+
+    def test_restart_end_and_limit(self):
+        slot, bursts = um.Slot("sdcch8", words=16, erasures=4, limit=20), self.bursts()
+        self.assertEqual((20, 78), (slot.limit, um.Slot("sdcch8").limit))
+        self.refused(ValueError, ["limit: 79; expected 0 to 78"], um.Slot, "sdcch8", "downlink", 0, 1, 0, 79)
+        self.assertIsNone(slot.end())
+        # after a false frame number all true ones are late, until it is restarted
+        slot.take(51000, bursts[0])
+        self.assertRaisesRegex(um.Refused, "late", slot.take, 0, bursts[0])
+        slot.restart()
+        self.assertEqual(um.Slot("sdcch8", words=16, erasures=4, limit=20), slot)
+        self.assertEqual([None] * 3, [slot.take(frame, bursts[frame]) for frame in range(3)])
+        block = slot.end()
+        self.assertEqual((0, 3, FILL), (block.first, block.heard, block.report.accepted))
+        self.assertIsNone(slot.end())
+        self.assertEqual(20, um.Slot.from_bytes(slot.to_bytes()).limit)
+        self.refused(ValueError, ["octets: begins with b'umT1'; expected b'umT2'"], um.Slot.from_bytes, b"umT1" + bytes(606))
+
+    def test_limit(self):
+        """A block with a burst of another: its first word fails, and with a limit below its wrong training bits nothing more is tried."""
+        bursts = um.soft_from_bits(um.send_block(FILL, 5), 60)
+        bursts[1] = um.soft_from_bits(um.send_block(bytes(23), 2))[1]
+        self.assertIsNone(um.receive_block(bursts).accepted)
+        # the three best bursts have no wrong training bit, so each limit lets erasures be tried; with one wrong bit 0 does not
+        for place, limit, wanted in ((None, 0, FILL), (70, 0, None), (70, 1, FILL)):
+            rows = [array.array("b", row) for row in bursts]
+            if place:
+                rows[0][place] = -rows[0][place]
+            slot = um.Slot("sdcch8", erasures=4, limit=limit)
+            self.assertEqual(wanted, [slot.take(frame, rows[frame]) for frame in range(4)][3].report.accepted, (place, limit))
 
     def test_erasing(self):
         draw = random.Random(3)

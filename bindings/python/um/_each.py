@@ -1,5 +1,6 @@
 """Loops over a call of the library for the rows of arrays: in C if the extension is there, else in Python."""
 import ctypes
+import functools
 from itertools import repeat, takewhile
 from typing import Any, Iterable, NamedTuple, Optional, Union
 
@@ -12,9 +13,14 @@ except ImportError:  # not built: the package is used from its sources, or there
 
 
 def _address(array: Any) -> int:
-    # a third of the time of array.ctypes.data
-    address: int = array.__array_interface__["data"][0]
+    # of an array of records, __array_interface__ takes ten times as long
+    address: int = array.ctypes.data
     return address
+
+
+@functools.lru_cache(None)
+def _address_of_call(name: str) -> int:
+    return ctypes.cast(getattr(lib, name), ctypes.c_void_p).value or 0
 
 
 class Rows(NamedTuple):
@@ -27,7 +33,7 @@ class Rows(NamedTuple):
 
     def arguments(self, count: int) -> Iterable[Any]:
         address, step = self.column()
-        return range(address, address + step * count, step)
+        return range(address, address + step * count, step) if step else repeat(address, count)  # the step of x[None] is 0
 
 
 class Numbers(NamedTuple):
@@ -46,10 +52,10 @@ class Numbers(NamedTuple):
 def each(name: str, count: int, *columns: Union[Rows, Numbers], answers: Optional[Any] = None) -> int:
     """Makes `count` calls. Returns how many answered true before one answered false; or, if there is an array for the answers, writes them
     to it and returns `count`."""
-    call = getattr(lib, name)
     if _in_c is not None:
         given = columns if answers is None else (*columns, Rows(answers))
-        return _in_c(name, ctypes.cast(call, ctypes.c_void_p).value or 0, count, tuple(column.column() for column in given))
+        return _in_c(name, _address_of_call(name), count, tuple([column.column() for column in given]))
+    call = getattr(lib, name)
     results = map(call, *(column.arguments(count) for column in columns)) if count else iter(())
     if answers is None:
         return sum(1 for _ in takewhile(bool, results))

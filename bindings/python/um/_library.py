@@ -2,6 +2,7 @@
 import ctypes
 import os
 import platform
+import sys
 from typing import Any, Dict, List, Tuple
 
 from ._version import __version__
@@ -11,6 +12,7 @@ _SYSTEMS = {"Windows": ("um.dll", "windows"), "Darwin": ("libum.0.dylib", "macos
 _NAME, _SYSTEM = _SYSTEMS.get(platform.system(), ("libum.so.0", "linux"))
 _FOLDER = platform.machine().replace("AMD64", "x86_64") + "-" + _SYSTEM
 _MAKE = (
+    ("" if sys.maxsize > 2**32 else "\nThis Python has 32 bits, and the libraries of dist/ have 64.") +
     "\nA release has it in dist/" + _FOLDER + ", and the wheel contains it. To build it in the repository, on Linux with the Rattle kit on"
     " the PATH:"
     "\n    (cd crates/um_c && rt lib)"
@@ -65,11 +67,32 @@ _CALLS: Dict[str, Tuple[Any, Tuple[Any, ...]]] = {
     "um_slot_new": (_BOOL, (_POINTER, _U8, _U8, _U8, _U8, _U8)),
     "um_slot_take": (_U8, (_POINTER, _U32, _POINTER, _POINTER)),
     "um_slot_miss": (_U8, (_POINTER, _U32, _POINTER)),
+    "um_slot_restart": (_BOOL, (_POINTER,)),
+    "um_slot_end": (_U8, (_POINTER, _POINTER)),
+    "um_place_traffic": (_U8, (_U8, _U8, _U32, _POINTER)),
+    "um_next_facch": (_BOOL, (_U8, _U8, _U32, _POINTER)),
+    "um_traffic_new": (_BOOL, (_POINTER, _U8, _U8, _U8, _U8, _U8)),
+    "um_traffic_take": (_U8, (_POINTER, _U32, _POINTER, _POINTER)),
+    "um_traffic_miss": (_U8, (_POINTER, _U32, _POINTER)),
+    "um_traffic_restart": (_BOOL, (_POINTER,)),
+    "um_traffic_end": (_U8, (_POINTER, _POINTER)),
+    "um_steal_facch_f": (_BOOL, (_POINTER, _POINTER)),
+    "um_steal_facch_h": (_BOOL, (_POINTER, _POINTER)),
+    "um_join_facch_f": (_BOOL, (_POINTER, _POINTER)),
+    "um_join_facch_h": (_BOOL, (_POINTER, _POINTER)),
+    "um_receive_facch_f_erasing": (_BOOL, (_POINTER, _U32, _U8, _POINTER, _POINTER, _POINTER)),
+    "um_receive_facch_h_erasing": (_BOOL, (_POINTER, _U32, _U8, _POINTER, _POINTER, _POINTER)),
+    "um_stealing_flags": (_BOOL, (_POINTER, _POINTER, _POINTER)),
+    "um_cipher_bits": (_BOOL, (_POINTER, _POINTER)),
+    "um_soft_cipher": (_BOOL, (_POINTER, _POINTER)),
     "um_datalink_new": (_BOOL, (_POINTER, _U8, _U8, _U8, _U8)),
+    "um_datalink_new_for": (_BOOL, (_POINTER, _U8, _U8, _U8, _U8, _U8)),
     "um_datalink_valid": (_BOOL, (_POINTER,)),
     "um_datalink_open": (_U8, (_POINTER, _POINTER)),
+    "um_datalink_establish": (_U8, (_POINTER, _U8)),
     "um_datalink_open_bare": (_U8, (_POINTER,)),
     "um_datalink_send": (_U8, (_POINTER, _U8, _POINTER)),
+    "um_datalink_unacked": (_U8, (_POINTER, _U8, _U8, _POINTER)),
     "um_datalink_unit": (_U8, (_POINTER, _U8, _POINTER, _POINTER, _POINTER)),
     "um_datalink_close": (_U8, (_POINTER, _U8)),
     "um_datalink_close_local": (_U8, (_POINTER, _U8)),
@@ -87,15 +110,24 @@ def _places() -> List[str]:
     return [os.path.join(here, _NAME), os.path.normpath(os.path.join(here, "..", "..", "..", "dist", _FOLDER, _NAME)), _NAME]
 
 
+# Calls that decode give up the interpreter's lock. All others take a fraction of a microsecond, and keep it: so those that change a state
+# are one step for other threads.
+_DECODING = (
+    "um_receive", "um_margin", "um_detect", "um_slot_take", "um_slot_miss", "um_slot_end", "um_traffic_take", "um_traffic_miss",
+    "um_traffic_end",
+)
+
+
 def _declared(place: str) -> ctypes.CDLL:
-    library = ctypes.CDLL(place)
+    library, keeping = ctypes.CDLL(place), ctypes.PyDLL(place)
     found = version_of(library)
     # below 1.0 each minor version may lay out its structs otherwise
     if found.split(".")[:2] != __version__.split(".")[:2]:
         raise ImportError(f"the library has version {found}; expected {__version__}, as the package")
     for name, (result, arguments) in _CALLS.items():
-        call = getattr(library, name)
+        call = getattr(library if name.startswith(_DECODING) else keeping, name)
         call.restype, call.argtypes = result, arguments
+        setattr(library, name, call)
     return library
 
 
@@ -119,5 +151,5 @@ lib = _load()
 
 
 def version() -> str:
-    """The version of the library that the package runs, such as "0.2.0"; `__version__` is that of the package."""
+    """The version of the library that the package runs, such as "0.3.0"; `__version__` is that of the package."""
     return version_of(lib)

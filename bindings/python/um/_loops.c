@@ -4,6 +4,7 @@
 #define Py_LIMITED_API 0x03080000
 #define PY_SSIZE_T_CLEAN
 #include <Python.h>
+#include <stdlib.h>
 #include <string.h>
 #include "um.h"
 
@@ -94,7 +95,13 @@ static PyObject *each(PyObject *self, PyObject *arguments)
 static PyMethodDef METHODS[] = {{"each", each, METH_VARARGS, "Calls a call of libum for each row of some columns."}, {NULL, NULL, 0, NULL}};
 static struct PyModuleDef MODULE = {PyModuleDef_HEAD_INIT, "_loops", NULL, 0, METHODS, NULL, NULL, NULL, NULL};
 
+/* The module has no state, so each interpreter may have its own lock, or none. These slots are of Python 3.12 and 3.13, and an earlier one
+ * refuses a slot that it does not know; their names are not in the stable interface of 3.8. */
+static PyModuleDef_Slot SLOTS[] = {{3, (void *)2}, {4, (void *)1}, {0, NULL}};
+
 PyMODINIT_FUNC PyInit__loops(void)
 {
-	return PyModule_Create(&MODULE);
+	int minor = atoi(strchr(Py_GetVersion(), '.') + 1);
+	MODULE.m_slots = minor >= 13 ? SLOTS : SLOTS + 2;
+	return PyModuleDef_Init(&MODULE);
 }

@@ -23,13 +23,20 @@ def name_of(values: Any) -> str:
     return f"{type(values).__name__} {text if len(text) <= 40 else text[:37] + '...'}"
 
 
-def view_of(values: Any) -> Optional[memoryview]:
+def view_of(name: str, values: Any) -> Optional[memoryview]:
     """The memory of an array or another buffer; None if the value has no buffer."""
+    refuse_mask(name, values)
     try:
         view = memoryview(values)
     except (TypeError, ValueError, BufferError):
         return None
     return view if view.ndim else None
+
+
+def refuse_mask(name: str, values: Any) -> None:
+    """Refuses numpy's masked arrays: what the mask hides would be taken for values."""
+    if hasattr(values, "filled"):
+        raise TypeError(f"{name}: a masked array; expected one without a mask, such as {name}.filled(0)")
 
 
 def form_of(view: memoryview) -> str:
@@ -53,10 +60,21 @@ def number(name: str, value: Any, low: int, high: int) -> int:
     return whole
 
 
+def one_of(name: str, value: Any, numbers: Iterable[int], wanted: str) -> int:
+    """An integer among some, which is no bool."""
+    try:
+        whole = None if isinstance(value, bool) or getattr(value, "shape", None) else operator.index(value)
+    except TypeError:
+        whole = None
+    if whole is None or whole not in numbers:
+        raise ValueError(f"{name}: {value!r}; expected {wanted}")
+    return whole
+
+
 def choice(name: str, value: Any, names: Iterable[str]) -> int:
     """The index of a name among names."""
     names = tuple(names)
-    if value not in names:
+    if not isinstance(value, str) or value not in names:
         raise ValueError(f"{name}: {value!r}; expected one of {', '.join(map(repr, names))}")
     return names.index(value)
 
@@ -72,7 +90,7 @@ def octets(name: str, values: Any, count: Optional[int] = None) -> bytes:
 
 def bits(name: str, values: Any, count: int) -> bytes:
     """`count` bits, one octet per bit."""
-    view = view_of(values)
+    view = view_of(name, values)
     if view is not None and form_of(view) in ("?", "b") and view.ndim == 1:
         values = view.tobytes()
     wanted = f"{count} bits, each 0 or 1"
@@ -95,7 +113,7 @@ def soft(name: str, values: Any, rows: int, places: int) -> bytes:
 
 def soft_values(name: str, values: Any, rows: int, places: int) -> bytes:
     """Soft bits, also if they may be hard bits."""
-    view = view_of(values)
+    view = view_of(name, values)
     if view is None:
         return _soft_rows(name, values, rows, places)
     if not isinstance(values, (bytes, bytearray)):
@@ -156,7 +174,7 @@ def _soft_rows(name: str, values: Any, rows: int, places: int) -> bytes:
 
 
 def _soft_row(name: str, row: Any, places: int) -> bytes:
-    view = view_of(row)
+    view = view_of(name, row)
     if view is None:
         data = _numbers(name, row, "b", f"{places} soft bits, ints from -127 to 127").tobytes()
     elif form_of(view) != "b" and not isinstance(row, (bytes, bytearray)):
@@ -172,7 +190,7 @@ def _octets(name: str, values: Any, wanted_buffer: str, wanted_list: str) -> byt
     """Octets from bytes, a buffer of unsigned octets, or a list of ints."""
     if type(values) is bytes:
         return values
-    view = view_of(values)
+    view = view_of(name, values)
     if view is None:
         return _numbers(name, values, "B", wanted_list).tobytes()
     if form_of(view) != "B" or view.ndim != 1:

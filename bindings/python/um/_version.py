@@ -1,2 +1,2 @@
 """The version; equal to the repository's VERSION."""
-__version__ = "0.2.0"
+__version__ = "0.3.0.dev0"

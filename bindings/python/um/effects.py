@@ -7,12 +7,13 @@ if TYPE_CHECKING:
 
     Reason = Literal["contention", "failed", "refused", "released"]
     Refusal = Literal["notidle", "notopen", "notrunning", "empty", "toolong", "full", "noend", "nocall", "noframe"]
-    SlotRefusal = Literal["noslot", "doubled", "late"]
+    SlotRefusal = Literal["noslot", "notraffic", "doubled", "late"]
 
 REASONS: "Tuple[Reason, ...]" = ("contention", "failed", "refused", "released")
 NOTICES = ("opened", "got", "unit", "acked", "oversize", "closed")
 REFUSALS: "Tuple[Refusal, ...]" = ("notidle", "notopen", "notrunning", "empty", "toolong", "full", "noend", "nocall", "noframe")
 SLOT_REFUSALS: "Tuple[SlotRefusal, ...]" = ("noslot", "doubled", "late")
+TRAFFIC_REFUSALS: "Tuple[SlotRefusal, ...]" = ("notraffic", "doubled", "late")
 _WHY = {
     "notidle": "the link was opened already",
     "notopen": "the link is not open",
@@ -24,6 +25,7 @@ _WHY = {
     "nocall": "the mobile opens the link of SAPI 0 with open; either end opens the link of SAPI 3 with open_bare",
     "noframe": "the octets are not an LAPDm frame",
     "noslot": "the state is not valid",
+    "notraffic": "the state is not valid",
     "doubled": "this frame was taken last",
     "late": "this frame is before the one that was taken last",
 }

@@ -5,7 +5,8 @@ import struct
 from typing import TYPE_CHECKING, Any, Tuple, Type, TypeVar
 
 from ._library import lib
-from ._values import choice, octets as octets_of
+from ._saved import Saved
+from ._values import choice, octets as octets_of, one_of
 from .effects import EFFECTS_SIZE, REFUSALS, Effects, Refused, effects_of
 from .frames import SDCCH, Channel, NoFrame, channel_number, read_frame
 
@@ -28,11 +29,10 @@ _END_SIZE, _END_FIELDS = 2584, 2581
 _Any = TypeVar("_Any", bound="_Endpoint")
 
 
-class _Endpoint:
+class _Endpoint(Saved):
     """The state of one or two links as the library lays it out, and the calls on it."""
 
-    __slots__ = ("_state",)
-    __hash__ = None  # type: ignore[assignment]
+    __slots__ = ()
     _calls, _links, _head = "", 0, b""
 
     def __init__(self) -> None:
@@ -62,12 +62,6 @@ class _Endpoint:
         """The state in the form that all languages read, for `from_bytes`."""
         raw = self._state.raw
         return self._head + b"".join(raw[at : at + _END_FIELDS] for at in range(0, len(raw), _END_SIZE))
-
-    def __reduce__(self) -> Any:
-        return type(self).from_bytes, (self.to_bytes(),)
-
-    def __eq__(self, other: object) -> bool:
-        return isinstance(other, type(self)) and self.to_bytes() == other.to_bytes()
 
     @property
     def role(self) -> "Role":
@@ -111,7 +105,8 @@ class End(_Endpoint):
 
     The caller sends the frames that each call returns, passes each received block to `take`, and calls `timer` on T200 expiry. An
     endpoint is a value: copy, deepcopy and pickle copy it, and endpoints with the same state compare equal. A call that is refused
-    raises Refused, a ValueError."""
+    raises Refused, a ValueError. Each call keeps the interpreter's lock, so threads that share an endpoint never see it half changed; a
+    Python without that lock needs a lock of yours."""
 
     __slots__ = ()
     _calls, _links, _head = "um_end_", 1, b"umE1"
@@ -170,7 +165,8 @@ class End(_Endpoint):
 class Side(_Endpoint):
     """The endpoints of a "mobile" or the "network" for both links of a channel, SAPI 0 and SAPI 3.
 
-    Each call acts on the endpoint of its SAPI, as the call of End does, and leaves the other one unchanged. Each link has its own T200."""
+    Each call acts on the endpoint of its SAPI, as the call of End does, and leaves the other one unchanged. Each link has its own T200.
+    What End says of threads holds here too."""
 
     __slots__ = ()
     _calls, _links, _head = "um_side_", 2, b"umS1"
@@ -224,9 +220,7 @@ class Side(_Endpoint):
 
 def sapi_number(sapi: Any) -> int:
     """The number of a SAPI, 0 or 3."""
-    if isinstance(sapi, bool) or not hasattr(sapi, "__index__") or sapi not in (0, 3):
-        raise ValueError(f"sapi: {sapi!r}; expected 0 or 3")
-    return int(sapi)
+    return one_of("sapi", sapi, (0, 3), "0 or 3")
 
 
 def message_of(name: str, values: Any) -> bytes:

@@ -5,7 +5,7 @@ import struct
 from typing import TYPE_CHECKING, Any, NamedTuple, Tuple
 
 from ._library import lib
-from ._values import choice, name_of, number, octets as octets_of
+from ._values import choice, name_of, number, octets as octets_of, one_of
 
 if TYPE_CHECKING:
     from typing import Literal
@@ -40,6 +40,7 @@ class Channel(enum.IntEnum):
     FCCH = 4
     SCH = 5
     RACH = 6
+    FACCH = 7
 
 
 SDCCH, SACCH = Channel.SDCCH, Channel.SACCH
@@ -76,9 +77,7 @@ class NoFrame(ValueError):
 
 def channel_number(channel: Any) -> int:
     """The number of a Channel, 0 or 1."""
-    if isinstance(channel, bool) or not hasattr(channel, "__index__") or channel not in (0, 1):
-        raise ValueError(f"channel: {channel!r}; expected um.SDCCH or um.SACCH")
-    return int(channel)
+    return one_of("channel", channel, (0, 1), "um.SDCCH or um.SACCH")
 
 
 def read_frame(octets: "Octets", channel: int = SDCCH) -> Frame:

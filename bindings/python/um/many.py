@@ -4,11 +4,11 @@ import functools
 from typing import TYPE_CHECKING, Any, Dict, Tuple
 
 from ._each import Numbers, Rows, each
-from ._values import bits as bits_of, hard_bits, name_of, no_soft, number
+from ._values import bits as bits_of, hard_bits, name_of, no_soft, number, refuse_mask
 from .frames import KINDS, SDCCH, UNREAD, channel_number
 
 if TYPE_CHECKING:
-    from ._types import Array, Bits, Octets, Records, SoftArray
+    from ._types import Array, Bits, Records, SoftArray
 
 # the structs of um.h: for each field its type and offset, and the size
 _Fields = Dict[str, Tuple[Any, int]]
@@ -137,6 +137,7 @@ def _empty(name: str, count: int) -> "Records":
 def _items(name: str, values: Any, kind: Any, wanted: str, *shapes: Tuple[int, ...]) -> Any:
     """The values with one row for each item, C-contiguous, and the axes before the item's."""
     numpy = _numpy()
+    refuse_mask(name, values)
     array = numpy.asarray(values)
     if array.dtype != kind:
         raise TypeError(f"{name}: {name_of(values if hasattr(values, 'dtype') else array)}; expected .. x {wanted} of {kind.__name__}")
@@ -154,6 +155,7 @@ def _product(sizes: Tuple[int, ...]) -> int:
 def _soft(name: str, bursts: Any, wanted: str, *shapes: Tuple[int, ...]) -> Any:
     """Soft bits with one row for each call, and the axes before. Hard bits are refused."""
     numpy = _numpy()
+    refuse_mask(name, bursts)
     array = numpy.asarray(bursts)
     if array.dtype != numpy.int8:
         raise no_soft(name, bursts if hasattr(bursts, "dtype") else array, array.dtype.char, f".. x {wanted}")

@@ -14,18 +14,21 @@ yields array('b'), a list of rows a list of them.
     (array('b', [-127, 127]), array('b', [127, 0, -127]))
 """
 import array
+import functools
 import math
 import numbers
 from typing import TYPE_CHECKING, Any, Callable, List, Sequence, Union, overload
 
 from ._values import bits as _bits
-from ._values import is_row, name_of, number, octets, view_of
+from ._values import form_of, is_row, name_of, number, octets, refuse_mask, view_of
 
 if TYPE_CHECKING:
     from ._types import Array, Integers, Reals, SoftArray
 
     Row = array.array[int]
 
+# the types of a buffer's elements that memoryview can list
+_LISTED = tuple("?bBhHiIlLqQnNfdc")
 # How many numbers soft_from_llr works on at a time: their floats stay in the cache.
 _AT_ONCE = 1 << 14
 
@@ -60,6 +63,7 @@ def soft_from_bits(bits: Any, sure: int = 127) -> Any:
     number("sure", sure, 1, 127)
     if not hasattr(bits, "dtype"):
         return _rows("bits", bits, "bits", lambda name, row: _soft_row(name, row, sure))
+    refuse_mask("bits", bits)
     kind, size = bits.dtype.kind, bits.dtype.itemsize
     if kind not in "bui" or bits.size and (bits.max() > 1 or kind == "i" and bits.min() < 0):
         raise ValueError(f"bits: {name_of(bits)}; expected only 0 and 1")
@@ -67,8 +71,7 @@ def soft_from_bits(bits: Any, sure: int = 127) -> Any:
 
     octets = bits.astype(numpy.int8) if size > 1 else numpy.asarray(bits).view(numpy.int8)
     # sure - 2 * sure * bit, modulo 256
-    soft: Any = numpy.empty(octets.shape, numpy.int8)
-    numpy.multiply(octets, numpy.int8((128 - 2 * sure) % 256 - 128), out=soft)
+    soft: Any = numpy.asarray(numpy.multiply(octets, numpy.int8((128 - 2 * sure) % 256 - 128), order="C"))
     return numpy.add(soft, numpy.int8(sure), out=soft)
 
 
@@ -84,6 +87,7 @@ def soft_from_sbits(sbits: Any) -> Any:
         return _rows("sbits", sbits, "sbit_t", _sbit_row)
     import numpy
 
+    refuse_mask("sbits", sbits)
     if sbits.dtype != numpy.int8:
         raise TypeError(f"sbits: {name_of(sbits)}; expected int8")
     return numpy.maximum(sbits, numpy.int8(-127))
@@ -101,6 +105,7 @@ def soft_from_trx(octets: Any) -> Any:
         return _rows("octets", octets, "octets", _trx_row)
     import numpy
 
+    refuse_mask("octets", octets)
     if octets.dtype != numpy.uint8:
         raise TypeError(f"octets: {name_of(octets)}; expected uint8")
     return (numpy.uint8(127) - numpy.minimum(octets, numpy.uint8(254))).view(numpy.int8)
@@ -119,7 +124,9 @@ def _scale(scale: Any) -> float:
 
 
 def _rows(name: str, values: Any, what: str, row_of: "Callable[[str, Any], Row]") -> "Union[Row, List[Row]]":
-    view = view_of(values)
+    view = view_of(name, values)
+    if view is not None and form_of(view) not in _LISTED:
+        raise TypeError(f"{name}: {name_of(values)}; expected {what}, or rows of them")
     if view is not None and view.ndim > 1:
         values = view.tolist()
     elif view is not None:
@@ -169,9 +176,18 @@ def _scaled(name: str, value: Any, factor: float) -> int:
     return round(max(-127.0, min(127.0, real)))
 
 
+@functools.lru_cache(None)
+def _bounds(form: Any) -> Any:
+    """Arrays, because numpy.clip and scalars take five times as long."""
+    import numpy
+
+    return numpy.full(_AT_ONCE, -127, form), numpy.full(_AT_ONCE, 127, form)
+
+
 def _scaled_array(values: Any, factor: float) -> Any:
     import numpy
 
+    refuse_mask("values", values)
     if values.dtype.kind not in "fiu":
         raise TypeError(f"values: {name_of(values)}; expected floats or ints")
     # Floats of four octets hold each product with a power of two; with others it would be rounded twice, and small integers would overflow.
@@ -180,9 +196,7 @@ def _scaled_array(values: Any, factor: float) -> Any:
     soft: Any = numpy.empty(values.shape, numpy.int8)
     given, made = values.reshape(-1), soft.reshape(-1)
     work = numpy.empty(min(_AT_ONCE, given.size), form)
-    # arrays, because numpy.clip and scalars take five times as long
-    most = numpy.full(work.size, 127, form)
-    least = -most
+    least, most = _bounds(form)
     with numpy.errstate(over="ignore", invalid="ignore"):  # clipped or refused below
         for at in range(0, given.size, _AT_ONCE):
             part = given[at : at + _AT_ONCE]

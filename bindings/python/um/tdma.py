@@ -5,7 +5,7 @@ import struct
 from typing import TYPE_CHECKING, Any, NamedTuple, Optional, Tuple
 
 from ._library import lib
-from ._values import bits, choice, number
+from ._values import bits, choice, number, one_of
 from .frames import Channel
 
 if TYPE_CHECKING:
@@ -13,12 +13,12 @@ if TYPE_CHECKING:
 
     from ._types import Bits
 
-    Combination = Literal["bcch_ccch", "bcch_ccch_sdcch4", "sdcch8", "tch_f"]
+    Combination = Literal["bcch_ccch", "bcch_ccch_sdcch4", "sdcch8", "tch_f", "tch_h"]
     Direction = Literal["downlink", "uplink"]
 
 FRAMES = 2715648
 """The frames of a hyperframe: frame numbers are 0 to FRAMES - 1."""
-COMBINATIONS: "Tuple[Combination, ...]" = ("bcch_ccch", "bcch_ccch_sdcch4", "sdcch8", "tch_f")
+COMBINATIONS: "Tuple[Combination, ...]" = ("bcch_ccch", "bcch_ccch_sdcch4", "sdcch8", "tch_f", "tch_h")
 DIRECTIONS: "Tuple[Direction, ...]" = ("downlink", "uplink")
 
 # the structs of um.h
@@ -127,7 +127,7 @@ def read_bsic(code: "Bits") -> int:
 
 def place_frame(combination: "Combination", direction: "Direction", timeslot: int, frame: int) -> Optional[Place]:
     """The channel and the burst that a frame of a time slot carries. None if it has none of these channels: it is idle, or carries traffic.
-    The time slot matters only for "tch_f"."""
+    The time slot matters only for "tch_f" and "tch_h"."""
     raw = ctypes.create_string_buffer(_PLACE.size)
     if lib.um_place_frame(*combined(combination, direction, timeslot), frame_number("frame", frame), raw):
         return None
@@ -140,7 +140,7 @@ def next_block(
 ) -> int:
     """The first frame number, at or after `frame`, of a block (or burst) of this channel and subchannel. ValueError if the combination has
     no such channel in this direction."""
-    first, wanted = ctypes.c_uint32(), Channel(channel)
+    first, wanted = ctypes.c_uint32(), Channel(one_of("channel", channel, range(len(Channel)), "a um.Channel"))
     arguments = (*combined(combination, direction, timeslot), int(wanted), number("subchannel", subchannel, 0, 255))
     if not lib.um_next_block(*arguments, frame_number("frame", frame), ctypes.byref(first)):
         raise ValueError(f"channel: {wanted.name}, subchannel {subchannel}; expected a channel of {combination} in the {direction}")

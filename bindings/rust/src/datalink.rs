@@ -1,18 +1,32 @@
 //! Data links.
 
-use crate::effects::{notice_of, Message, PlainNotice, NO_NOTICE};
+use crate::effects::{notice_of, Listed, Message, PlainNotice, NO_MESSAGE, NO_NOTICE};
 use crate::saved::{self, Reader, Writer, FIELDS};
+use crate::words::words;
 use crate::{Channel, End, Invalid, NotSaved, Notice, Refused, Role, Sapi, State};
+use core::fmt;
 
-const AFTER_END: usize = 27;
+const AFTER_END: usize = 28;
 
 /// The octets of a saved [`DataLink`].
 pub const DATALINK_OCTETS: usize = 4 + 2 * (FIELDS + AFTER_END) + 2;
 
-const HEAD: &[u8; 4] = b"umL1";
+const HEAD: &[u8; 4] = b"umL2";
+
+/// How the link of SAPI 0 is opened.
+#[derive(Clone, Copy, Debug, PartialEq, Eq, Hash)]
+pub enum Establishment {
+    /// By the mobile, with [`DataLink::open`] and contention resolution: on the channel of an immediate assignment.
+    Contention,
+    /// By either side, with [`DataLink::establish`] and no information: on the channel of an assignment or a handover, and at the return to
+    /// the channel that the mobile left.
+    Normal,
+}
+
+words!(Establishment: Contention "contention", Normal "normal");
 
 #[repr(C)]
-#[derive(Clone, Copy, Debug, PartialEq, Eq, Hash)]
+#[derive(Clone, Copy, PartialEq, Eq, Hash)]
 struct TimedEnd {
     end: End,
     t200: u8,
@@ -20,6 +34,7 @@ struct TimedEnd {
     clock: u8,
     owed: u8,
     answer: [u8; 23],
+    heard: u8,
 }
 
 /// One side of a channel with its loop: both ends of the side, T200 counted in slots, and what goes into each slot.
@@ -29,6 +44,10 @@ struct TimedEnd {
 /// timer. T200 is at least 2 + 2d slots, where a block arrives d slots later than the slot after it was sent, and the same at both sides;
 /// for SAPI 3 take two slots more. At a mobile, a frame of SAPI 3 is dropped while SAPI 0 is not established: on SDCCH the data link knows;
 /// on SACCH say it with [`main`](DataLink::main). A copy is independent of the original.
+///
+/// After [`Notice::Closed`] go on with `take` and `next`: the answer to the other side's release goes out in the next slot. Go on until
+/// [`is_idle`](DataLink::is_idle), and for two T200 more where blocks are lost, since the other side repeats a release whose answer did not
+/// arrive.
 ///
 /// ```
 /// use um::{Channel, DataLink, Notice, Role, Sapi};
@@ -43,7 +62,7 @@ struct TimedEnd {
 /// # }
 /// ```
 #[repr(C)]
-#[derive(Clone, Copy, Debug, PartialEq, Eq, Hash)]
+#[derive(Clone, Copy, PartialEq, Eq, Hash)]
 pub struct DataLink {
     link0: TimedEnd,
     link3: TimedEnd,
@@ -53,11 +72,47 @@ pub struct DataLink {
 
 /// What a received block, or a slot, brought.
 #[repr(C)]
-#[derive(Clone, Copy, Debug, PartialEq, Eq, Hash)]
+#[derive(Clone, Copy, PartialEq, Eq, Hash)]
 pub struct Report {
     notices: [PlainNotice; 3],
     sapis: [u8; 3],
     notice_count: u8,
+}
+
+/// The messages that a link sent and that are not completely acknowledged, oldest first.
+#[derive(Clone, Copy, PartialEq, Eq, Hash)]
+pub struct Unacked {
+    messages: [Message; 8],
+    count: usize,
+}
+
+impl Unacked {
+    /// At most eight messages, in order.
+    pub fn iter(&self) -> impl ExactSizeIterator<Item = &[u8]> + DoubleEndedIterator {
+        self.messages[..self.count].iter().map(Message::octets)
+    }
+}
+
+/// As the list of its messages.
+impl fmt::Debug for Unacked {
+    fn fmt(&self, f: &mut fmt::Formatter<'_>) -> fmt::Result {
+        Listed(|| self.iter()).fmt(f)
+    }
+}
+
+/// As the list of [`notices`](Report::notices).
+impl fmt::Debug for Report {
+    fn fmt(&self, f: &mut fmt::Formatter<'_>) -> fmt::Result {
+        Listed(|| self.notices()).fmt(f)
+    }
+}
+
+/// The role, the channel and the state of each link.
+impl fmt::Debug for DataLink {
+    fn fmt(&self, f: &mut fmt::Formatter<'_>) -> fmt::Result {
+        let states = (self.state(Sapi::Signalling), self.state(Sapi::ShortMessages));
+        f.debug_struct("DataLink").field("role", &self.role()).field("channel", &self.channel()).field("states", &states).finish()
+    }
 }
 
 const NO_REPORT: Report = Report { notices: [NO_NOTICE; 3], sapis: [0; 3], notice_count: 0 };
@@ -87,11 +142,12 @@ pub struct Sent {
 }
 
 extern "C" {
-    fn um_datalink_new(link: &mut DataLink, role: u8, channel: u8, t200: u8, t200_sapi3: u8) -> bool;
+    fn um_datalink_new_for(link: &mut DataLink, role: u8, channel: u8, establishment: u8, t200: u8, t200_sapi3: u8) -> bool;
     fn um_datalink_valid(link: &DataLink) -> bool;
     fn um_datalink_open(link: &mut DataLink, info: &Message) -> u8;
-    fn um_datalink_open_bare(link: &mut DataLink) -> u8;
+    fn um_datalink_establish(link: &mut DataLink, sapi: u8) -> u8;
     fn um_datalink_send(link: &mut DataLink, sapi: u8, message: &Message) -> u8;
+    fn um_datalink_unacked(link: &DataLink, sapi: u8, index: u8, message: &mut Message) -> u8;
     fn um_datalink_unit(link: &DataLink, sapi: u8, message: &Message, layer1: &[u8; 2], block: &mut [u8; 23]) -> u8;
     fn um_datalink_close(link: &mut DataLink, sapi: u8) -> u8;
     fn um_datalink_close_local(link: &mut DataLink, sapi: u8) -> u8;
@@ -107,25 +163,48 @@ fn accepted(answer: u8) -> Result<(), Refused> {
 // SAFETY, for each call below: as in ends.rs.
 
 impl DataLink {
-    /// A new data link, with T200 of SAPI 0 and of SAPI 3 in slots.
+    /// A new data link of [`Establishment::Contention`], with T200 of SAPI 0 and of SAPI 3 in slots.
     ///
     /// # Errors
     ///
     /// [`Invalid::T200`] if a T200 is 0.
     pub fn new(role: Role, channel: Channel, t200: u8, t200_sapi3: u8) -> Result<DataLink, Invalid> {
+        DataLink::new_for(role, channel, Establishment::Contention, t200, t200_sapi3)
+    }
+
+    /// A new data link whose link of SAPI 0 is opened in this way.
+    ///
+    /// ```
+    /// use um::{Channel, DataLink, Establishment, Notice, Role, Sapi};
+    ///
+    /// # fn main() -> Result<(), Box<dyn std::error::Error>> {
+    /// let new = |role| DataLink::new_for(role, Channel::Sdcch, Establishment::Normal, 4, 6);
+    /// let (mut mobile, mut network) = (new(Role::Mobile)?, new(Role::Network)?);
+    /// network.establish(Sapi::Signalling)?; // either side may
+    /// let report = mobile.take(&network.next([0, 0]).block)?;
+    /// assert_eq!(report.notices().next(), Some((Sapi::Signalling, Notice::Opened(&[]))));
+    /// # Ok(())
+    /// # }
+    /// ```
+    ///
+    /// # Errors
+    ///
+    /// [`Invalid::T200`] if a T200 is 0.
+    pub fn new_for(role: Role, channel: Channel, kind: Establishment, t200: u8, t200_sapi3: u8) -> Result<DataLink, Invalid> {
         let timed = |sapi, t200| {
             let end = match role {
                 Role::Mobile => End::mobile(sapi, channel),
                 Role::Network => End::network(sapi, channel),
             };
-            TimedEnd { end, t200, sent: 0, clock: 0, owed: 0, answer: [0; 23] }
+            TimedEnd { end, t200, sent: 0, clock: 0, owed: 0, answer: [0; 23], heard: 0 }
         };
         let (link0, link3) = (timed(Sapi::Signalling, t200), timed(Sapi::ShortMessages, t200_sapi3));
         let mut link = DataLink { link0, link3, heard0: 0, main: 0 };
-        unsafe { um_datalink_new(&mut link, role as u8, channel as u8, t200, t200_sapi3) }.then_some(link).ok_or(Invalid::T200)
+        let made = unsafe { um_datalink_new_for(&mut link, role as u8, channel as u8, kind as u8, t200, t200_sapi3) };
+        made.then_some(link).ok_or(Invalid::T200)
     }
 
-    /// Opens the link of SAPI 0, at the mobile, with 1 to 20 octets of information (18 on SACCH).
+    /// Opens the link of SAPI 0 by contention, at the mobile, with 1 to 20 octets of information (18 on SACCH).
     ///
     /// # Errors
     ///
@@ -134,13 +213,24 @@ impl DataLink {
         accepted(unsafe { um_datalink_open(self, &Message::new(info)) })
     }
 
-    /// Opens the link of SAPI 3, at either side. If it is closed, its end starts afresh first.
+    /// Opens the link of a SAPI without information, at either side. If it is closed or open, its end starts afresh first: fetch what is
+    /// not acknowledged with [`unacked`](DataLink::unacked) before. The other side reports `Opened` again if its end is closed, or is open
+    /// by contention, or is open and has received an I, RR, RNR or REJ.
     ///
     /// # Errors
     ///
-    /// [`Refused::NotIdle`].
+    /// [`Refused::NotIdle`] while the link is being opened or released.
+    pub fn establish(&mut self, sapi: Sapi) -> Result<(), Refused> {
+        accepted(unsafe { um_datalink_establish(self, sapi as u8) })
+    }
+
+    /// [`establish`](DataLink::establish) of SAPI 3.
+    ///
+    /// # Errors
+    ///
+    /// As those of `establish`.
     pub fn open_bare(&mut self) -> Result<(), Refused> {
-        accepted(unsafe { um_datalink_open_bare(self) })
+        self.establish(Sapi::ShortMessages)
     }
 
     /// Sends a message of 1 to 251 octets over the link of a SAPI, which holds at most eight that are not acknowledged.
@@ -150,6 +240,21 @@ impl DataLink {
     /// [`Refused::NotOpen`], [`Refused::Empty`], [`Refused::TooLong`] or [`Refused::Full`].
     pub fn send(&mut self, sapi: Sapi, message: &[u8]) -> Result<(), Refused> {
         accepted(unsafe { um_datalink_send(self, sapi as u8, &Message::new(message)) })
+    }
+
+    /// The messages that were passed to [`send`](DataLink::send) and are not completely acknowledged, oldest first: what to send again over
+    /// another link. The other side may have received the first of them. They can be read after [`Notice::Closed`] too, until a new opening
+    /// or [`close_local`](DataLink::close_local).
+    #[must_use]
+    pub fn unacked(&self, sapi: Sapi) -> Unacked {
+        let mut unacked = Unacked { messages: [NO_MESSAGE; 8], count: 0 };
+        for (index, message) in (0..).zip(&mut unacked.messages) {
+            if unsafe { um_datalink_unacked(self, sapi as u8, index, message) } != 0 {
+                break;
+            }
+            unacked.count += 1;
+        }
+        unacked
     }
 
     /// A UI frame with 1 to 20 octets (18 on SACCH), for a slot that is free. On SACCH `layer1` are its layer 1 octets.
@@ -198,10 +303,25 @@ impl DataLink {
         sent
     }
 
+    /// Whether nothing waits for a slot and no frame awaits an answer, so that each next slot is free until a call or a block changes it.
+    #[must_use]
+    pub fn is_idle(&self) -> bool {
+        [&self.link0, &self.link3].iter().all(|link| link.owed == 0 && !link.end.timer_runs())
+    }
+
     /// The mobile or the network.
     #[must_use]
     pub fn role(&self) -> Role {
         self.link0.end.role()
+    }
+
+    /// How the link of SAPI 0 is opened. A mobile that calls `establish` on a link of contention makes it normal.
+    #[must_use]
+    pub fn establishment(&self) -> Establishment {
+        match self.link0.end.sapi() {
+            Sapi::Signalling => Establishment::Contention,
+            Sapi::ShortMessages => Establishment::Normal,
+        }
     }
 
     /// The channel of both links.
@@ -229,6 +349,7 @@ impl DataLink {
             fields.put(&link.end.to_bytes()[4..]);
             fields.put(&[link.t200, link.sent, link.clock, link.owed]);
             fields.put(&link.answer);
+            fields.put(&[link.heard]);
         }
         fields.put(&[self.heard0, self.main]);
         octets
@@ -244,7 +365,9 @@ impl DataLink {
         let mut timed = || {
             let end = End::read(&fields.take::<FIELDS>())?;
             let [t200, sent, clock, owed] = fields.take();
-            Ok(TimedEnd { end, t200, sent, clock, owed, answer: fields.take() })
+            let answer = fields.take();
+            let [heard] = fields.take();
+            Ok(TimedEnd { end, t200, sent, clock, owed, answer, heard })
         };
         let (link0, link3) = (timed()?, timed()?);
         let [heard0, main] = fields.take();

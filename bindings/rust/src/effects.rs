@@ -2,6 +2,7 @@
 
 use crate::words::words;
 use crate::Refused;
+use core::fmt;
 
 /// Why a link was closed.
 #[derive(Clone, Copy, Debug, PartialEq, Eq, Hash)]
@@ -51,7 +52,7 @@ impl Notice<'_> {
 }
 
 #[repr(C)]
-#[derive(Clone, Copy, Debug, PartialEq, Eq, Hash)]
+#[derive(Clone, Copy, PartialEq, Eq, Hash)]
 pub(crate) struct Message {
     pub(crate) count: u8,
     pub(crate) octets: [u8; 255],
@@ -69,13 +70,13 @@ impl Message {
         message
     }
 
-    fn octets(&self) -> &[u8] {
+    pub(crate) fn octets(&self) -> &[u8] {
         &self.octets[..usize::from(self.count)]
     }
 }
 
 #[repr(C)]
-#[derive(Clone, Copy, Debug, PartialEq, Eq, Hash)]
+#[derive(Clone, Copy, PartialEq, Eq, Hash)]
 pub(crate) struct PlainNotice {
     number: u64,
     kind: u8,
@@ -88,12 +89,31 @@ pub(crate) const NO_NOTICE: PlainNotice = PlainNotice { number: 0, kind: 0, reas
 /// The result of a call: blocks to send, and notices. A block that is not sent is lost, which costs T200.
 #[must_use]
 #[repr(C)]
-#[derive(Clone, Copy, Debug, PartialEq, Eq, Hash)]
+#[derive(Clone, Copy, PartialEq, Eq, Hash)]
 pub struct Effects {
     notices: [PlainNotice; 3],
     notice_count: u8,
     frame_count: u8,
     frames: [[u8; 23]; 2],
+}
+
+/// As the lists of [`frames`](Effects::frames) and [`notices`](Effects::notices).
+impl fmt::Debug for Effects {
+    fn fmt(&self, f: &mut fmt::Formatter<'_>) -> fmt::Result {
+        f.debug_struct("Effects").field("frames", &self.frames()).field("notices", &Listed(|| self.notices())).finish()
+    }
+}
+
+/// What an iterator yields, as a list.
+pub(crate) struct Listed<F>(pub(crate) F);
+
+impl<F: Fn() -> I, I: Iterator> fmt::Debug for Listed<F>
+where
+    I::Item: fmt::Debug,
+{
+    fn fmt(&self, f: &mut fmt::Formatter<'_>) -> fmt::Result {
+        f.debug_list().entries((self.0)()).finish()
+    }
 }
 
 impl Effects {

@@ -23,6 +23,8 @@ pub enum Invalid {
     HardBits,
     /// The number of words to try is 0 or above 64.
     Words,
+    /// A limit of wrong training bits above 78.
+    Limit,
     /// An octet that should be a bit is neither 0 nor 1.
     Bit,
     /// The fields describe no frame that fits the channel.
@@ -60,6 +62,7 @@ impl fmt::Display for Invalid {
             Invalid::SoftValue => "a soft bit of -128; expected -127 to 127",
             Invalid::HardBits => "each value is 0 or 1, so these are hard bits; soft_from_bits makes soft bits of them",
             Invalid::Words => "an invalid number of words; expected 1 to 64",
+            Invalid::Limit => "an invalid limit of wrong training bits; expected 0 to 78",
             Invalid::Bit => "an octet above 1; expected bits, 0 or 1",
             Invalid::Frame => "the fields describe no LAPDm frame that fits the channel",
             Invalid::Sapi => "an invalid SAPI; expected 0 or 3",
@@ -120,7 +123,7 @@ impl Error for NoFrame {}
 /// Why an endpoint refuses a call. Its state is then unchanged.
 #[derive(Clone, Copy, Debug, PartialEq, Eq, Hash)]
 pub enum Refused {
-    /// The link was opened already.
+    /// The link was opened already; for [`DataLink::establish`](crate::DataLink::establish): it is being opened or released.
     NotIdle,
     /// The link is not open.
     NotOpen,
@@ -132,7 +135,8 @@ pub enum Refused {
     TooLong,
     /// Eight messages are not completely acknowledged yet.
     Full,
-    /// The mobile opens the link of SAPI 0 with `open`; either end opens the link of SAPI 3 with `open_bare`.
+    /// The mobile opens the link of SAPI 0 with `open`, unless it is of normal establishment; either end opens the link of SAPI 3 with
+    /// `open_bare`, and either side of a data link both with `establish`.
     NoCall,
     /// The octets are not a frame: [`crate::read_frame`] returns the reason.
     NoFrame,
@@ -162,14 +166,15 @@ impl Refused {
 impl fmt::Display for Refused {
     fn fmt(&self, f: &mut fmt::Formatter<'_>) -> fmt::Result {
         f.write_str(match self {
-            Refused::NotIdle => "the link was opened already",
+            Refused::NotIdle => "the link was opened already, or is being opened or released",
             Refused::NotOpen => "the link is not open",
             Refused::NotRunning => "no frame awaits an answer",
             Refused::Empty => "the message is empty; expected at least one octet",
             Refused::TooLong => "the message is too long; send takes at most 251 octets, open and unit 20 (18 on SACCH)",
             Refused::Full => "eight messages are not completely acknowledged yet",
             Refused::NoCall => {
-                "the mobile opens the link of SAPI 0 with open; either end opens the link of SAPI 3 with open_bare"
+                "the mobile opens the link of SAPI 0 with open, unless it is of normal establishment; either end opens SAPI 3 with \
+                 open_bare, and either side of a data link both with establish"
             }
             Refused::NoFrame => "the octets are not an LAPDm frame",
         })

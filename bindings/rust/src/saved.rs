@@ -14,14 +14,18 @@ pub const END_OCTETS: usize = HEAD + FIELDS;
 /// The octets of a saved [`Side`](crate::Side).
 pub const SIDE_OCTETS: usize = HEAD + 2 * FIELDS;
 
-/// Tests the length and the head. Returns the fields.
+/// Tests the head and the length; a head of um's comes first, so that another form is refused by its name. Returns the fields.
 pub(crate) fn fields<'a>(octets: &'a [u8], expected: &'static [u8; HEAD], length: usize) -> Result<&'a [u8], NotSaved> {
-    if octets.len() != length {
+    let is_named = octets.len() > HEAD && octets.starts_with(b"um");
+    if octets.len() != length && !is_named {
         return Err(NotSaved::Length { found: octets.len(), expected: length });
     }
     let (head, fields) = octets.split_at(HEAD);
     if head != expected {
         return Err(NotSaved::Head { found: [head[0], head[1], head[2], head[3]], expected });
+    }
+    if octets.len() != length {
+        return Err(NotSaved::Length { found: octets.len(), expected: length });
     }
     Ok(fields)
 }

@@ -4,6 +4,7 @@ use crate::blocks::{not_hard, BlockReport, NO_BLOCK};
 use crate::saved::{self, Reader, Writer};
 use crate::tdma::{in_time, place_frame, Carried, Combination, Direction, FRAMES};
 use crate::{Invalid, NotSaved};
+use core::fmt;
 
 /// Which burst was erased, and how well the bursts fit the training sequence.
 #[derive(Clone, Copy, Debug, PartialEq, Eq, Hash)]
@@ -50,7 +51,7 @@ impl PlainErasure {
 /// # }
 /// ```
 #[repr(C)]
-#[derive(Clone, Copy, Debug, PartialEq, Eq, Hash)]
+#[derive(Clone, Copy, PartialEq, Eq, Hash)]
 pub struct Slot {
     last: u32,
     first: u32,
@@ -61,6 +62,16 @@ pub struct Slot {
     erasures: u8,
     heard: u8,
     bursts: [[i8; 148]; 4],
+    limit: u8,
+}
+
+/// The settings.
+impl fmt::Debug for Slot {
+    fn fmt(&self, f: &mut fmt::Formatter<'_>) -> fmt::Result {
+        let mut fields = f.debug_struct("Slot");
+        fields.field("combination", &self.combination()).field("direction", &self.direction()).field("timeslot", &self.timeslot);
+        fields.field("words", &self.words).field("erasures", &self.erasures).field("limit", &self.limit).finish()
+    }
 }
 
 /// A block of a time slot.
@@ -83,7 +94,7 @@ pub struct SlotBlock {
 }
 
 #[repr(C)]
-struct PlainBlock {
+pub(crate) struct PlainBlock {
     report: BlockReport,
     rank: u32,
     first: u32,
@@ -93,10 +104,23 @@ struct PlainBlock {
     erasure: PlainErasure,
 }
 
-/// The octets of a saved [`Slot`].
-pub const SLOT_OCTETS: usize = 610;
+pub(crate) const NO_PLAIN_BLOCK: PlainBlock =
+    PlainBlock { report: NO_BLOCK, rank: 0, first: 0, channel: 0, subchannel: 0, heard: 0, erasure: NO_ERASURE };
 
-const HEAD: &[u8; 4] = b"umT1";
+impl PlainBlock {
+    pub(crate) fn view(&self) -> SlotBlock {
+        let PlainBlock { report, rank, first, channel, subchannel, heard, erasure } = *self;
+        SlotBlock { report, rank, first, channel: Carried::of(channel), subchannel, heard, erasure: erasure.view() }
+    }
+}
+
+/// The octets of a saved [`Slot`].
+pub const SLOT_OCTETS: usize = 611;
+
+const HEAD: &[u8; 4] = b"umT2";
+
+/// All wrong training bits of three bursts: no limit.
+const NO_LIMIT: u8 = 78;
 
 extern "C" {
     fn um_receive_block_erasing(
@@ -106,6 +130,8 @@ extern "C" {
     fn um_slot_new(slot: &mut Slot, combination: u8, direction: u8, timeslot: u8, words: u8, erasures: u8) -> bool;
     fn um_slot_take(slot: &mut Slot, frame: u32, burst: &[i8; 148], block: &mut PlainBlock) -> u8;
     fn um_slot_miss(slot: &mut Slot, frame: u32, block: &mut PlainBlock) -> u8;
+    fn um_slot_restart(slot: &mut Slot) -> bool;
+    fn um_slot_end(slot: &mut Slot, block: &mut PlainBlock) -> u8;
 }
 
 // SAFETY, for each call below: as in blocks.rs.
@@ -149,14 +175,19 @@ impl Slot {
     ///
     /// # Errors
     ///
+    /// [`Invalid::Channel`] of [`Combination::TchH`]: subchannel s of time slot t is [`Combination::TchF`] with time slot (t & 6) + s.
     /// [`Invalid::TimeSlot`] if `timeslot` is above 7, [`Invalid::Words`] if `words` is 0 or above 64, [`Invalid::Erasures`] if `erasures`
     /// is above 4.
     pub fn new(combination: Combination, direction: Direction, timeslot: u8, words: u8, erasures: u8) -> Result<Slot, Invalid> {
         let (combination, direction) = (combination as u8, direction as u8);
         let none = FRAMES;
+        let bursts = [[0; 148]; 4];
         let mut slot =
-            Slot { last: none, first: none, combination, direction, timeslot, words, erasures, heard: 0, bursts: [[0; 148]; 4] };
+            Slot { last: none, first: none, combination, direction, timeslot, words, erasures, heard: 0, bursts, limit: NO_LIMIT };
         in_time(timeslot, 0)?;
+        if combination == Combination::TchH as u8 {
+            return Err(Invalid::Channel);
+        }
         match unsafe { um_slot_new(&mut slot, combination, direction, timeslot, words, erasures) } {
             true => Ok(slot),
             false if erasures > 4 => Err(Invalid::Erasures),
@@ -174,19 +205,23 @@ impl Slot {
     pub fn take(&mut self, frame: u32, burst: &[i8; 148]) -> Result<Option<SlotBlock>, Invalid> {
         let before = *self;
         let block = self.taken(|slot, block| unsafe { um_slot_take(slot, frame, burst, block) })?;
-        if let Some(block) = &block {
-            // the soft bits of the block: those held, and this burst if it is one of the block
-            let mut bursts = if before.first == block.first { before.bursts } else { [[0; 148]; 4] };
-            match place_frame(self.combination(), self.direction(), self.timeslot, frame)? {
-                Some(place) if place.first == block.first => bursts[usize::from(place.burst)] = *burst,
-                _ => {}
-            }
-            if let Err(hard) = not_hard(&bursts) {
-                *self = before;
-                return Err(hard);
-            }
+        if let Some(hard) = block.as_ref().and_then(|block| before.hard_bits(block.first, frame, burst)) {
+            *self = before;
+            return Err(hard);
         }
         Ok(block)
+    }
+
+    /// Whether the soft bits of the block that this burst completes are hard bits: those held, and this burst. If the frame is of a later
+    /// block, its burst is not to blame, and if it were refused, so would be every later one.
+    fn hard_bits(&self, first: u32, frame: u32, burst: &[i8; 148]) -> Option<Invalid> {
+        let place = place_frame(self.combination(), self.direction(), self.timeslot, frame).ok()??;
+        if place.first != first {
+            return None;
+        }
+        let mut bursts = if self.first == first { self.bursts } else { [[0; 148]; 4] };
+        bursts[usize::from(place.burst)] = *burst;
+        not_hard(&bursts).err()
     }
 
     /// Takes a frame whose burst did not come.
@@ -198,14 +233,40 @@ impl Slot {
         self.taken(|slot, block| unsafe { um_slot_miss(slot, frame, block) })
     }
 
+    /// Ends the block being collected, at the end of a recording.
+    pub fn end(&mut self) -> Option<SlotBlock> {
+        let mut plain = NO_PLAIN_BLOCK;
+        (unsafe { um_slot_end(self, &mut plain) } == 1).then(|| plain.view())
+    }
+
+    /// Forgets the frames taken and the block being collected; the settings stay. After several late frames in a row (8, say) a frame
+    /// number was false, or there was a long pause: restart, and take the frame again.
+    pub fn restart(&mut self) {
+        unsafe { um_slot_restart(self) };
+    }
+
+    /// More words and erasures are tried only if the three best bursts of a block have at most this many wrong training bits together, of
+    /// 78, which is no limit. With 20 an idle channel costs what one word costs.
+    ///
+    /// # Errors
+    ///
+    /// [`Invalid::Limit`] if it is above 78.
+    pub fn set_limit(&mut self, limit: u8) -> Result<(), Invalid> {
+        self.limit = if limit > NO_LIMIT { return Err(Invalid::Limit) } else { limit };
+        Ok(())
+    }
+
+    /// The limit of wrong training bits.
+    #[must_use]
+    pub fn limit(&self) -> u8 {
+        self.limit
+    }
+
     fn taken(&mut self, call: impl FnOnce(&mut Slot, &mut PlainBlock) -> u8) -> Result<Option<SlotBlock>, Invalid> {
-        let mut plain = PlainBlock { report: NO_BLOCK, rank: 0, first: 0, channel: 0, subchannel: 0, heard: 0, erasure: NO_ERASURE };
+        let mut plain = NO_PLAIN_BLOCK;
         match call(self, &mut plain) {
             0 => Ok(None),
-            1 => {
-                let PlainBlock { report, rank, first, channel, subchannel, heard, erasure } = plain;
-                Ok(Some(SlotBlock { report, rank, first, channel: Carried::of(channel), subchannel, heard, erasure: erasure.view() }))
-            }
+            1 => Ok(Some(plain.view())),
             2 => Err(Invalid::SoftValue),
             4 => Err(Invalid::FrameNumber),
             5 => Err(Invalid::Doubled),
@@ -221,7 +282,8 @@ impl Slot {
             0 => Combination::BcchCcch,
             1 => Combination::BcchCcchSdcch4,
             2 => Combination::Sdcch8,
-            _ => Combination::TchF,
+            3 => Combination::TchF,
+            _ => Combination::TchH,
         }
     }
 
@@ -243,6 +305,7 @@ impl Slot {
         for burst in &self.bursts {
             fields.put(&burst.map(|soft| soft as u8));
         }
+        fields.put(&[self.limit]);
         octets
     }
 
@@ -256,9 +319,10 @@ impl Slot {
         let (last, first) = (u32::from_le_bytes(fields.take()), u32::from_le_bytes(fields.take()));
         let [combination, direction, timeslot, words, erasures, heard] = fields.take();
         let bursts = core::array::from_fn(|_| fields.take::<148>().map(|octet| octet as i8));
-        let slot = Slot { last, first, combination, direction, timeslot, words, erasures, heard, bursts };
+        let [limit] = fields.take();
+        let slot = Slot { last, first, combination, direction, timeslot, words, erasures, heard, bursts, limit };
         // a call on a copy tests the state
-        let mut plain = PlainBlock { report: NO_BLOCK, rank: 0, first: 0, channel: 0, subchannel: 0, heard: 0, erasure: NO_ERASURE };
+        let mut plain = NO_PLAIN_BLOCK;
         let answer = unsafe { um_slot_miss(&mut { slot }, last.wrapping_add(1) % FRAMES, &mut plain) };
         if answer == 3 { Err(NotSaved::NoSlot) } else { Ok(slot) }
     }

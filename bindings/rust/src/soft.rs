@@ -18,12 +18,13 @@ pub fn soft_from_bits<const N: usize>(bits: &[u8; N]) -> [i8; N] {
 ///
 /// [`Invalid::Ratio`] if a number is not a number, or if `scale` is 0 or not finite.
 pub fn soft_from_llr<const N: usize>(ratios: &[f32; N], scale: f32) -> Result<[i8; N], Invalid> {
-    // adding 1.5 * 2^23 leaves no bits after the point, and rounds as the processor does, halves to even
-    const ROUNDING: f32 = 12_582_912.0;
+    // adding 1.5 * 2^52 leaves no bits after the point, and rounds as the processor does, halves to even
+    const ROUNDING: f64 = 6_755_399_441_055_744.0;
     if scale == 0.0 || !scale.is_finite() || ratios.iter().any(|ratio| ratio.is_nan()) {
         return Err(Invalid::Ratio);
     }
-    Ok(ratios.map(|ratio| ((ratio * scale).clamp(-127.0, 127.0) + ROUNDING - ROUNDING) as i8))
+    // the product of two floats of four octets is exact
+    Ok(ratios.map(|ratio| ((f64::from(ratio) * f64::from(scale)).clamp(-127.0, 127.0) + ROUNDING - ROUNDING) as i8))
 }
 
 /// From libosmocore's `sbit_t`: -128 becomes -127.

@@ -44,9 +44,11 @@ pub enum Combination {
     Sdcch8,
     /// The SACCH of a full rate traffic channel; all other frames carry traffic or are idle.
     TchF,
+    /// The SACCH of the two half rate traffic channels of a time slot, subchannels 0 and 1; all other frames carry traffic.
+    TchH,
 }
 
-words!(Combination: BcchCcch "bcch_ccch", BcchCcchSdcch4 "bcch_ccch_sdcch4", Sdcch8 "sdcch8", TchF "tch_f");
+words!(Combination: BcchCcch "bcch_ccch", BcchCcchSdcch4 "bcch_ccch_sdcch4", Sdcch8 "sdcch8", TchF "tch_f", TchH "tch_h");
 
 /// From the network to the mobile, or back.
 #[derive(Clone, Copy, Debug, PartialEq, Eq, Hash)]
@@ -76,9 +78,11 @@ pub enum Carried {
     Sch,
     /// An access burst.
     Rach,
+    /// A fast associated control channel, in stolen halves of traffic bursts.
+    Facch,
 }
 
-words!(Carried: Sdcch "sdcch", Sacch "sacch", Bcch "bcch", Ccch "ccch", Fcch "fcch", Sch "sch", Rach "rach");
+words!(Carried: Sdcch "sdcch", Sacch "sacch", Bcch "bcch", Ccch "ccch", Fcch "fcch", Sch "sch", Rach "rach", Facch "facch");
 
 impl Carried {
     /// The dedicated channel, if it is one: its blocks carry LAPDm frames of formats A and B.
@@ -99,7 +103,8 @@ impl Carried {
             3 => Carried::Ccch,
             4 => Carried::Fcch,
             5 => Carried::Sch,
-            _ => Carried::Rach,
+            6 => Carried::Rach,
+            _ => Carried::Facch,
         }
     }
 }

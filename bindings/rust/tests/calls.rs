@@ -170,7 +170,7 @@ fn errors_say_what_was_wrong() {
     let errors: [(Box<dyn Error>, &str); 5] = [
         (Box::new(Invalid::SoftValue), "-128"), (Box::new(NoFrame::Ea), "address"), (Box::new(Refused::Empty), "at least one octet"),
         (Box::new(Refused::TooLong), "at most 251 octets, open and unit 20 (18 on SACCH)"),
-        (Box::new(Refused::NoCall), "the mobile opens the link of SAPI 0 with open; either end opens the link of SAPI 3 with open_bare"),
+        (Box::new(Refused::NoCall), "open, unless it is of normal establishment; either end opens SAPI 3 with open_bare"),
     ];
     for (error, words) in errors {
         assert!(error.to_string().contains(words), "{error}");

@@ -42,14 +42,96 @@ fn session() -> Result<(), Box<dyn Error>> {
     Ok(())
 }
 
+/// Some slots, in which the network's blocks may be lost; what each side reports.
+fn told(links: &mut [DataLink; 2], air: &mut [Option<[u8; 23]>; 2], count: usize, lost: bool) -> Result<[String; 2], Refused> {
+    let mut said = [Vec::new(), Vec::new()];
+    let word = |notice: Notice<'_>| match notice {
+        Notice::Got(message) => format!("got {}", String::from_utf8_lossy(message)),
+        other => other.word().to_string(),
+    };
+    for _ in 0..count {
+        let arrived = *air;
+        for who in 0..2 {
+            if let Some(block) = arrived[1 - who] {
+                said[who].extend(links[who].take(&block)?.notices().map(|(_, notice)| word(notice)));
+            }
+        }
+        for who in 0..2 {
+            let sent = links[who].next([0, 0]);
+            said[who].extend(sent.report.notices().map(|(_, notice)| word(notice)));
+            air[who] = if lost && who == 1 { None } else { Some(sent.block) };
+        }
+    }
+    said.iter_mut().for_each(|words| words.sort());
+    Ok([said[0].join(", "), said[1].join(", ")])
+}
+
+/// A link that is open at the other side is opened again: a new opening at both sides.
+#[test]
+fn opened_again() -> Result<(), Box<dyn Error>> {
+    let new = |role| DataLink::new(role, Channel::Sacch, 4, 6);
+    let (mut links, mut air) = ([new(Role::Mobile)?, new(Role::Network)?], [None; 2]);
+    links[0].main(true);
+    links[0].open_bare()?;
+    assert_eq!(told(&mut links, &mut air, 4, false)?, ["opened", "opened"]);
+    links[0].send(Sapi::ShortMessages, b"A")?;
+    assert_eq!(told(&mut links, &mut air, 40, true)?, ["closed", "got A"]);
+    links[0].open_bare()?;
+    assert_eq!(told(&mut links, &mut air, 3, false)?, ["opened", "opened"]);
+    links[0].send(Sapi::ShortMessages, b"B")?;
+    links[1].send(Sapi::ShortMessages, b"C")?;
+    assert_eq!(told(&mut links, &mut air, 10, false)?, ["acked, got C", "acked, got B"]);
+
+    let new = |role| DataLink::new(role, Channel::Sdcch, 2, 4);
+    let (mut links, mut air) = ([new(Role::Mobile)?, new(Role::Network)?], [None; 2]);
+    links[0].open(b"id")?;
+    assert_eq!(told(&mut links, &mut air, 4, false)?, ["opened", "opened"]);
+    links[0].send(Sapi::Signalling, b"A")?;
+    assert_eq!(told(&mut links, &mut air, 4, false)?, ["acked", "got A"]);
+    links[0].close_local(Sapi::Signalling);
+    links[0].open(b"id")?;
+    assert_eq!(told(&mut links, &mut air, 4, false)?, ["opened", "opened"]);
+    links[0].send(Sapi::Signalling, b"B")?;
+    links[1].send(Sapi::Signalling, b"C")?;
+    assert_eq!(told(&mut links, &mut air, 6, false)?, ["acked, got C", "acked, got B"]);
+    Ok(())
+}
+
+/// After `Closed` the answer to the other side's release waits for its slot; a SABM and its answer, and a release, do too.
+#[test]
+fn idle() -> Result<(), Box<dyn Error>> {
+    let mut mobile = DataLink::new(Role::Mobile, Channel::Sdcch, 4, 6)?;
+    let mut network = DataLink::new(Role::Network, Channel::Sdcch, 4, 6)?;
+    assert!(mobile.is_idle() && network.is_idle());
+    mobile.open(&[1])?;
+    let report = network.take(&mobile.next([0, 0]).block)?;
+    assert_eq!(format!("{report:?}"), "[(Signalling, Opened([1]))]");
+    assert!(!mobile.is_idle() && !network.is_idle());
+    let sent = network.next([0, 0]);
+    assert!(format!("{sent:?}").ends_with("is_free: false, report: [] }"));
+    mobile.take(&sent.block)?;
+    assert!(mobile.is_idle() && network.is_idle());
+    mobile.close(Sapi::Signalling)?;
+    let report = network.take(&mobile.next([0, 0]).block)?;
+    assert_eq!(report.notices().next(), Some((Sapi::Signalling, Notice::Closed(Reason::Released))));
+    assert!(!mobile.is_idle() && !network.is_idle());
+    assert_eq!(format!("{network:?}"), "DataLink { role: Network, channel: Sdcch, states: (Closed, Idle) }");
+    mobile.take(&network.next([0, 0]).block)?;
+    assert!(mobile.is_idle() && network.is_idle());
+    Ok(())
+}
+
 #[test]
 fn given_up_and_saved() -> Result<(), Box<dyn Error>> {
     let mut mobile = DataLink::new(Role::Mobile, Channel::Sacch, 4, 6)?;
     mobile.main(true);
     mobile.open(&[5])?;
     let saved = mobile.to_bytes();
-    assert_eq!((saved.len(), &saved[..4], &saved[5220..]), (5222, &b"umL1"[..], &[0, 1][..]));
-    assert_eq!((saved[4 + 2581], saved[4 + 2581 + 27 + 2581]), (4, 6)); // T200
+    assert_eq!((saved.len(), &saved[..4], &saved[5222..]), (5224, &b"umL2"[..], &[0, 1][..]));
+    assert_eq!((saved[4 + 2581], saved[4 + 2581 + 28 + 2581]), (4, 6)); // T200
+    let mut older = saved[..5222].to_vec();
+    older[3] = b'1';
+    assert_eq!(DataLink::from_bytes(&older), Err(NotSaved::Head { found: *b"umL1", expected: b"umL2" }));
     assert_eq!(DataLink::from_bytes(&saved)?, mobile);
     let mut wrong = saved;
     wrong[4 + 2581] = 0;

@@ -88,7 +88,7 @@ fn slots() -> Result<(), Box<dyn Error>> {
         assert_eq!(slot.take(frame, &soft[frame as usize - 518])?, None);
     }
     let saved = slot.to_bytes();
-    assert_eq!((saved.len(), &saved[..18]), (610, &b"umT1\x08\x02\0\0\x06\x02\0\0\x02\0\x03\x01\0\x03"[..]));
+    assert_eq!((saved.len(), &saved[..18]), (611, &b"umT2\x08\x02\0\0\x06\x02\0\0\x02\0\x03\x01\0\x03"[..]));
     assert_eq!(Slot::from_bytes(&saved)?, slot);
     let mut wrong = saved;
     wrong[15] = 0; // no words
@@ -110,6 +110,22 @@ fn slots() -> Result<(), Box<dyn Error>> {
     assert_eq!((slot.take(526, &soft[0])?, slot.take(527, &soft[1])?), (None, None));
     let ended = slot.miss(530)?.expect("the block that began at 526");
     assert_eq!((ended.first, ended.heard, ended.erasure.wrong_training), (526, 2, [0, 0, 26, 26]));
+    Ok(())
+}
+
+/// Of a block one burst came, all 0 but a single 1. The next block ends it, and each burst of it is taken.
+#[test]
+fn nearly_lost() -> Result<(), Box<dyn Error>> {
+    let (soft, mut weak) = (burst(), [0; 148]);
+    weak[70] = 1;
+    let mut slot = Slot::new(Combination::Sdcch8, Direction::Downlink, 3, 1, 0)?;
+    assert_eq!(slot.take(518, &weak)?, None);
+    let ended = slot.take(522, &soft[0])?.expect("the block that began at 518");
+    assert_eq!((ended.first, ended.heard, ended.report.accepted()), (518, 1, None));
+    assert_eq!((slot.take(523, &soft[1])?, slot.take(524, &soft[2])?), (None, None));
+    let block = slot.take(525, &soft[3])?.expect("the fourth burst");
+    assert_eq!((block.first, block.heard, block.report), (522, 4, um::receive_block(&soft)?));
+    assert!(block.report.accepted().is_some());
     Ok(())
 }
 

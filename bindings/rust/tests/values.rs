@@ -23,7 +23,19 @@ fn hard_bits_are_refused() -> Result<(), Invalid> {
 #[test]
 fn version_of_the_library() {
     let (major, minor, patch) = um::version();
-    assert_eq!(format!("{major}.{minor}.{patch}"), env!("CARGO_PKG_VERSION"));
+    assert_eq!(format!("{major}.{minor}.{patch}"), env!("CARGO_PKG_VERSION").trim_end_matches("-dev"));
+}
+
+#[test]
+fn debug() -> Result<(), Box<dyn Error>> {
+    let mut mobile = End::mobile(Sapi::ShortMessages, Channel::Sacch);
+    let effects = mobile.open_bare()?;
+    assert_eq!(format!("{mobile:?}"), "End { role: Mobile, sapi: ShortMessages, channel: Sacch, state: Opening }");
+    let (before, after) = (format!("{effects:?}"), format!("{:?}", effects.frames()));
+    assert_eq!(before, format!("Effects {{ frames: {after}, notices: [] }}"));
+    let slot = um::Slot::new(um::Combination::TchF, um::Direction::Uplink, 5, 16, 4)?;
+    assert_eq!(format!("{slot:?}"), "Slot { combination: TchF, direction: Uplink, timeslot: 5, words: 16, erasures: 4, limit: 78 }");
+    Ok(())
 }
 
 #[test]
@@ -36,6 +48,7 @@ fn soft_bits() -> Result<(), Invalid> {
     assert_eq!(um::soft_from_llr(&ratios, 1.0)?, [0, 2, 2, 0, -2, -2, 126, 127, -127, 127, -127, 0, 3]);
     assert_eq!(um::soft_from_llr(&[1.0, -31.75, 40.0], um::LLR_SCALE)?, [4, -127, 127]);
     assert_eq!(um::soft_from_llr(&[1.0], -50.0)?, [-50]);
+    assert_eq!(um::soft_from_llr(&[-15.0], 3.3)?, [-49]); // -49.4999993, and -49.5 as a float
     for (ratio, scale) in [(f32::NAN, 1.0), (1.0, 0.0), (1.0, f32::NAN), (1.0, f32::INFINITY)] {
         assert_eq!(um::soft_from_llr(&[ratio], scale), Err(Invalid::Ratio));
     }

@@ -447,10 +447,6 @@ unfolding crc_of_rach
 rach_crc_word d b ed bd eb bb =
     rach_word d (check_bits 6 61 d) b ed bd (IsCrc-check_bits 6 61 d (lit< tt) (lit< tt) bd) eb bb
 
-pub some_rach_crc : (d b : List ℕ) → length d ≡ 8 → AllBits d → length b ≡ 6 → AllBits b →
-    (p : List ℕ) × IsRachCodeword (d ++ p) b
-some_rach_crc d b ed bd eb bb = (crc_of_rach d b, rach_crc_word d b ed bd eb bb)
-
 pub one_rach_crc : (d p p' b : List ℕ) → length d ≡ 8 → IsRachCodeword (d ++ p) b → IsRachCodeword (d ++ p') b → p ≡ p'
 one_rach_crc d p p' b ed word word' =
     let crc = rach_crc d p b ed word in
@@ -476,12 +472,27 @@ pub sch_crc_word : (d : List ℕ) → length d ≡ 25 → AllBits d → IsSchCod
 unfolding sch_crc
 sch_crc_word d ed bits = sch_word d (check_bits 10 698 d) ed bits (IsCrc-check_bits 10 698 d (lit< tt) (lit< tt) bits)
 
-pub some_sch_crc : (d : List ℕ) → length d ≡ 25 → AllBits d → (p : List ℕ) × IsSchCodeword (d ++ p)
-some_sch_crc d ed bits = (sch_crc d, sch_crc_word d ed bits)
-
 pub one_sch_crc : (d p p' : List ℕ) → length d ≡ 25 → IsSchCodeword (d ++ p) → IsSchCodeword (d ++ p') → p ≡ p'
 unfolding low_bits
 one_sch_crc d p p' ed w w' = one_word 25 10 698 d ed p p' (assumption) (assumption)
+
+-- ## ComputedCrcs: The check bits that the definitions compute make information bits a codeword, and no others do.
+
+pub is_xcch_crc : (d p : List ℕ) → length d ≡ 184 → AllBits d → (p ≡ xcch_crc d) ↔ IsXcchCodeword (d ++ p)
+is_xcch_crc d p ed bits =
+    let word = xcch_crc_word d ed bits in
+    (λ e. rw e word, λ is. one_xcch_crc d p (xcch_crc d) ed is word)
+
+pub is_rach_crc : (d p b : List ℕ) → length d ≡ 8 → AllBits d → length b ≡ 6 → AllBits b →
+    (p ≡ crc_of_rach d b) ↔ IsRachCodeword (d ++ p) b
+is_rach_crc d p b ed bits eb bb =
+    let word = rach_crc_word d b ed bits eb bb in
+    (λ e. rw e word, λ is. one_rach_crc d p (crc_of_rach d b) b ed is word)
+
+pub is_sch_crc : (d p : List ℕ) → length d ≡ 25 → AllBits d → (p ≡ sch_crc d) ↔ IsSchCodeword (d ++ p)
+is_sch_crc d p ed bits =
+    let word = sch_crc_word d ed bits in
+    (λ e. rw e word, λ is. one_sch_crc d p (sch_crc d) ed is word)
 
 -- ## WorkedWords: The definitions of codewords, checked on worked examples.
 

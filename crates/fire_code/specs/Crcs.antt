@@ -1,5 +1,6 @@
--- The check bits as functions of the information bits: the remainder of a division by the generator, inverted. The definitions in `Words`
--- are their law: these check bits, and no others, make a codeword.
+-- The check bits as functions of the information bits: the remainder of a division by the generator, inverted. A shift register divides,
+-- one bit of the dividend at a time. The definition of check bits without a division is that of a codeword in `Words`;
+-- `law_check_bits_make_the_codeword` says that these check bits, and no others, make one.
 use Rattle.std.specs.Prelude.{ℕ, ◌/◌, ◌*◌, List, replicate, bit_xor, bit_and}
 use Rattle.std.proofs.Common.{fold}
 use Rattle.bit_blocks.specs.Bits.{xor_bits}

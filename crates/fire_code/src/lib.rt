@@ -3,6 +3,7 @@
 #![tactic(auto)]
 
 mod division;
+mod laws;
 mod octets;
 mod rach;
 mod registers;
@@ -10,6 +11,7 @@ mod sch;
 mod xcch;
 
 pub use bit_blocks::Bits;
+pub use laws::law_check_bits_make_the_codeword;
 pub use octets::octet_remainder;
 pub use rach::{rach_holds, rach_parity};
 pub use sch::{sch_holds, sch_parity};

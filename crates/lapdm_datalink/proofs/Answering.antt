@@ -10,8 +10,7 @@ use Rattle.lapdm_end.specs.lapdm_window.Ends.{EndpointState, vr, awaits_answer}
 use Rattle.lapdm_end.specs.lapdm_window.Calls.{t200_expiry}
 use Rattle.lapdm_datalink.specs.Links.{LinkState, SlotOutcome, after_slot, slot_outcome, slot_outcome_owing, sabm_goes_first, is_due}
 use Rattle.lapdm_datalink.specs.Links.{keeps_back, is_opening, sends_due_frame, sends_nothing, sends_answer, sends_awaited, expires}
-use Rattle.lapdm_datalink.specs.Progress.{answer_goes, expires_in}
-use Rattle.lapdm_datalink.specs.Slots.{IsStepOfEndpoint, nr_in, nr_of, took}
+use Rattle.lapdm_datalink.specs.Slots.{IsStepOfEndpoint, nr_in, nr_of, took, answer_goes, expires_in}
 
 pub owes_nothing : (l : LinkState) → sabm_goes_first l ≡ false → (slot_outcome l).link.answer ≡ None
 owes_nothing l h = by_answer l.answer refl

@@ -1,5 +1,6 @@
 -- Lemmas about links and data links.
-use Rattle.std.proofs.Common.{◌≡◌, ◌≢◌, ◌≤◌, ◌∙◌, refl, sym, arith, ap, ℕ, Bool, true, false, List, []}
+use Rattle.std.proofs.Common.{◌≡◌, ◌≢◌, ◌≤◌, ◌∙◌, refl, sym, arith, ap, ℕ, Bool, true, false, not, ◌&&◌, List}
+use Rattle.std.proofs.Common.{[]}
 use Rattle.std.proofs.Common.{◌∷◌, map, length, get_or}
 use Rattle.std.proofs.Common.{All, if◌then◌else◌}
 use Rattle.std.proofs.Common.{Option, Some, None, Result, Ok, Err, OnOk, OnErr}
@@ -13,10 +14,12 @@ use Rattle.lapdm_frame.specs.Content.{Frame}
 use Rattle.lapdm_frame.specs.Frames.{FrameFits, octets_of}
 use Rattle.lapdm_frame.specs.Readings.{IsOnlyEncodedFrame}
 use Rattle.lapdm_end.specs.lapdm_window.declared.effects.Effects.{Effects}
-use Rattle.lapdm_end.specs.lapdm_window.Ends.{EndpointState, Outcome, awaits_answer, IsValidEndpoint, Role}
+use Rattle.lapdm_end.specs.lapdm_window.declared.State.{State}
+use Rattle.lapdm_end.specs.lapdm_window.declared.Refused.TheVariants.{NotIdle}
+use Rattle.lapdm_end.specs.lapdm_window.Ends.{EndpointState, Outcome, awaits_answer, IsValidEndpoint, Role, sapi_number}
 use Rattle.lapdm_end.specs.Addresses.{spec_role_of}
-use Rattle.lapdm_end.specs.lapdm_window.Calls.{Call, T200Expires, refusal_of, call_outcome, IsCallAllowedForEndpoint}
-use Rattle.lapdm_link.specs.Worlds.{rej_replaced_by_rr}
+use Rattle.lapdm_end.specs.lapdm_window.Calls.{Call, OpensWithoutInfo, T200Expires, refusal_of, call_outcome, IsCallAllowedForEndpoint}
+use Rattle.lapdm_end.specs.lapdm_window.Calls.{awaited_frame}
 use Rattle.lapdm_end.specs.lapdm_window.Steps.{HasEffects}
 use Rattle.lapdm_link.proofs.lapdm_window.Lemmas.{Keeps, keeps-call, keeps-frame, IsValidEndpoint-initial}
 use Rattle.lapdm_end.specs.declared.ends.Endpoint.{Endpoint}
@@ -24,9 +27,11 @@ use Rattle.lapdm_end.specs.Abstraction as E
 use Rattle.lapdm_datalink.specs.declared.links.Link.{Link}
 use Rattle.lapdm_datalink.specs.Links.{LinkState, is_awaiting_kind, with_frame, with_frames, with_outcome, without_needless_answer, is_due}
 use Rattle.lapdm_datalink.specs.Links.{SlotOutcome, sends_due_frame, expires, sends_awaited, sends_nothing, sends_answer, keeps_back}
-use Rattle.lapdm_datalink.specs.Links.{slot_outcome_owing}
+use Rattle.lapdm_datalink.specs.Links.{slot_outcome_owing, renewed_for, after_received, as_normal, as_taken, is_opened_again, is_return}
+use Rattle.lapdm_datalink.specs.Links.{is_sapi3}
+use Rattle.lapdm_datalink.specs.Links.{may_be_established, for_establishment, after_establishment}
 use Rattle.lapdm_datalink.specs.DataLinks.{DataLinkState, IsDataLink, with_sapi3, link_with_sapi, with_link, having_heard}
-use Rattle.lapdm_datalink.specs.DataLinks.{with_clocks_moved}
+use Rattle.lapdm_datalink.specs.DataLinks.{with_clocks_moved, on_sapi0}
 use Rattle.lapdm_datalink.specs.DataLinks.{data_link_outcome}
 use Rattle.lapdm_end.specs.lapdm_window.declared.Sapi.TheVariants.{Zero, Three}
 use Rattle.lapdm_datalink.specs.Links.{afresh, for_call, for_frame, after_call, after_frame, ignores, received_outcome, slot_outcome}
@@ -95,6 +100,7 @@ endpoint_replaced m e l o k h does = record {
   is_answer = rw (k.role, k.sapi, k.channel) h.is_answer;
   is_sent = h.is_sent;
   clock = h.clock;
+  heard = h.heard;
 }
 
 -- the Rust link represents the outcome of its endpoint once it has kept the frames of this outcome
@@ -107,9 +113,9 @@ outcome_kept m n e effects l o k r h does kept =
     (rw k.channel does.1.frames)
     (endpoint_replaced m e l o k h does.0)
 
--- a frame still fits once it counts as an RR
-pub rr_fits : (c : Channel) (f : Frame) → FrameFits c f → FrameFits c (record f { content = rej_replaced_by_rr f.content })
-rr_fits c f h = grind arith
+-- a frame still fits as the endpoint takes it
+pub taken_fits : (c : Channel) (f : Frame) (e : EndpointState) → FrameFits c f → FrameFits c (as_taken f e)
+taken_fits c f e h = grind arith
 
 -- T200 expiry is refused only if no frame awaits an answer
 pub t200_is_allowed : (e : EndpointState) → awaits_answer e ≡ true → refusal_of T200Expires e ≡ None
@@ -136,7 +142,12 @@ due_first l due sent = rw (due, sent) refl
 
 pub sapi0_sends : (o : SlotOutcome) (sent : Option Frame) (s : DataLinkState) (c : Channel) (block : List ℕ) →
     Some block ≡ option_map (octets_of c) sent →
-    with_sapi3 o sent s ≡ record { new_state = record s { link0 = o.link }; frame = sent; notices0 = o.notices; notices3 = [] }
+    with_sapi3 o sent s ≡ record {
+      new_state = record s { link0 = o.link };
+      frame = option_map (on_sapi0 s.link0.endpoint.sapi) sent;
+      notices0 = o.notices;
+      notices3 = [];
+    }
 sapi0_sends o (Some f) s c block h = refl
 sapi0_sends o None s c block h = absurd cc
 
@@ -196,8 +207,22 @@ pub some_link : (x : LinkValues) → P.SomeEndpointHasValues x.endpoint → HasA
 some_link x e h =
     let at = address_of_values x.endpoint e.0 e.1 in
     let a = answer_in_block e.0.role e.0.sapi e.0.channel x.answer (rw (at.role, at.sapi, at.channel) at h) in
-    let l : LinkState = record { endpoint = e.0; t200 = x.t200; answer = a.0; is_sent = x.is_sent; clock = x.clock } in
-    let m : Link = record { endpoint = e.1.endpoint; t200 = x.t200; answer = x.answer; is_sent = x.is_sent; clock = x.clock } in (
+    let l : LinkState = record {
+      endpoint = e.0;
+      t200 = x.t200;
+      answer = a.0;
+      is_sent = x.is_sent;
+      clock = x.clock;
+      heard = x.heard;
+    } in
+    let m : Link = record {
+      endpoint = e.1.endpoint;
+      t200 = x.t200;
+      answer = x.answer;
+      is_sent = x.is_sent;
+      clock = x.clock;
+      heard = x.heard;
+    } in (
       l,
       record {
         link = m;
@@ -209,13 +234,21 @@ some_link x e h =
           is_answer = a.2;
           is_sent = refl;
           clock = refl;
+          heard = refl;
         };
       },
     )
 
 -- a Rust link with these values and an endpoint that represents that of the link represents the link
 pub link_with_values : (x : LinkValues) (e : Endpoint) (l : LinkState) → ValuesRepresent x l → E.Represents e l.endpoint →
-    Represents (record { endpoint = e; t200 = x.t200; answer = x.answer; is_sent = x.is_sent; clock = x.clock }) l
+    Represents (record {
+      endpoint = e;
+      t200 = x.t200;
+      answer = x.answer;
+      is_sent = x.is_sent;
+      clock = x.clock;
+      heard = x.heard;
+    }) l
 link_with_values x e l h end = record {
   endpoint = end;
   t200 = sym (ap (λ (y : LinkValues). y.t200) h.values_match) ∙ h.represents.t200;
@@ -223,6 +256,7 @@ link_with_values x e l h end = record {
   is_answer = h.represents.is_answer;
   is_sent = sym (ap (λ (y : LinkValues). y.is_sent) h.values_match) ∙ h.represents.is_sent;
   clock = sym (ap (λ (y : LinkValues). y.clock) h.values_match) ∙ h.represents.clock;
+  heard = sym (ap (λ (y : LinkValues). y.heard) h.values_match) ∙ h.represents.heard;
 }
 
 one_link_values : (x y : LinkValues) (l : LinkState) → ValuesRepresent x l → ValuesRepresent y l → x ≡ y
@@ -236,6 +270,7 @@ one_link_values x y l h g =
       answer = (m.answer ∙ sym n.answer) i;
       is_sent = (m.is_sent ∙ sym n.is_sent) i;
       clock = (m.clock ∙ sym n.clock) i;
+      heard = (m.heard ∙ sym n.heard) i;
     })
     ∙ g.values_match
 
@@ -248,11 +283,11 @@ one_data_link_values x y s h g = λ i. record {
   is_main_established = (h.is_main_established ∙ sym g.is_main_established) i;
 }
 
--- ## Addresses: No step changes the role, SAPI, channel or T200 of a link, or makes its clock longer than T200.
+-- ## Addresses: No step changes the role, channel or T200 of a link, makes its clock longer than T200, or ends normal establishment.
 
 pub record IsSameLink (l m : LinkState) : Type 0 where
   pub role : m.endpoint.role ≡ l.endpoint.role
-  pub sapi : m.endpoint.sapi ≡ l.endpoint.sapi
+  pub normal : l.endpoint.sapi ≡ Three → m.endpoint.sapi ≡ Three
   pub channel : m.endpoint.channel ≡ l.endpoint.channel
   pub t200 : m.t200 ≡ l.t200
   pub clock : l.clock ≤ l.t200 → m.clock ≤ m.t200
@@ -281,32 +316,38 @@ same_outcome l o k =
     let e = endpoint_with_frames o.frames m in
     record {
       role = ap (λ (x : EndpointState). x.role) e ∙ k.role;
-      sapi = ap (λ (x : EndpointState). x.sapi) e ∙ k.sapi;
+      normal = λ h. ap (λ (x : EndpointState). x.sapi) e ∙ k.sapi ∙ h;
       channel = ap (λ (x : EndpointState). x.channel) e ∙ k.channel;
       t200 = t200_with_frames o.frames m;
       clock = clock_with_frames o.frames m;
     }
 
 same_itself : (l : LinkState) → IsSameLink l l
-same_itself l = record { role = refl; sapi = refl; channel = refl; t200 = refl; clock = λ h. h }
+same_itself l = record { role = refl; normal = λ h. h; channel = refl; t200 = refl; clock = λ h. h }
 
 same_trans : {l m n : LinkState} → IsSameLink l m → IsSameLink m n → IsSameLink l n
 same_trans h g = record {
   role = g.role ∙ h.role;
-  sapi = g.sapi ∙ h.sapi;
+  normal = λ x. g.normal (h.normal x);
   channel = g.channel ∙ h.channel;
   t200 = g.t200 ∙ h.t200;
   clock = λ x. g.clock (h.clock x);
 }
 
 pub same_afresh : (l : LinkState) → IsSameLink l (afresh l)
-same_afresh l = record { role = refl; sapi = refl; channel = refl; t200 = refl; clock = λ h. omega arith }
+same_afresh l = record { role = refl; normal = λ h. h; channel = refl; t200 = refl; clock = λ h. omega arith }
+
+same_normal : (l : LinkState) → IsSameLink l (as_normal l)
+same_normal l = record { role = refl; normal = λ h. refl; channel = refl; t200 = refl; clock = λ h. omega arith }
 
 pub same_for_call : (call : Call) (l : LinkState) → IsSameLink l (for_call call l)
 same_for_call call l = grind arith
 
 same_for_frame : (f : Frame) (l : LinkState) → IsSameLink l (for_frame f l)
 same_for_frame f l = grind arith
+
+sapi_for_call : (call : Call) (l : LinkState) → (for_call call l).endpoint.sapi ≡ l.endpoint.sapi
+sapi_for_call call l = grind arith
 
 valid_for_call : (call : Call) (l : LinkState) → IsValidEndpoint l.endpoint → IsValidEndpoint (for_call call l).endpoint
 valid_for_call call l h = grind (arith, IsValidEndpoint-initial l.endpoint.role l.endpoint.sapi l.endpoint.channel)
@@ -320,22 +361,83 @@ same_after_call call l h allowed ok =
     let s = same_for_call call l in
     let m = for_call call l in
     same_trans s (same_outcome m (call_outcome call m.endpoint)
-    (keeps-call call m.endpoint (valid_for_call call l h) (rw (s.role, s.sapi) allowed) ok))
+    (keeps-call call m.endpoint (valid_for_call call l h) (rw (s.role, sapi_for_call call l) allowed) ok))
+
+pub not_three : (s : Sapi) → (s ≡ Three → ⊥) → s ≡ Zero
+not_three Zero h = refl
+not_three Three h = absurd (h refl)
+
+-- layer 3 establishes a link as it is, or afresh
+module _ (l : LinkState) where
+  by_establishment : (P : LinkState → Type 0) → P (as_normal l) → P (for_call OpensWithoutInfo l) → P (for_establishment l)
+  by_establishment P normal called = by (not (is_sapi3 l.endpoint.sapi) && may_be_established l.endpoint.state)
+    where
+      by : (b : Bool) → P (if b then as_normal l else for_call OpensWithoutInfo l)
+      by true = normal
+      by false = called
+
+  pub found_normal : l.endpoint.sapi ≡ Zero → may_be_established l.endpoint.state ≡ true → for_establishment l ≡ as_normal l
+  found_normal h g = rw (h, g) refl
+
+  pub found_called : l.endpoint.sapi ≡ Three → for_establishment l ≡ for_call OpensWithoutInfo l
+  found_called h = rw h refl
+
+  pub found_busy : l.endpoint.sapi ≡ Zero → may_be_established l.endpoint.state ≡ false →
+      refusal_of OpensWithoutInfo (for_establishment l).endpoint ≡ Some NotIdle
+  found_busy h g = grind (arith, h, g)
+
+  allowed_establishment : refusal_of OpensWithoutInfo (for_establishment l).endpoint ≡ None →
+      (for_establishment l).endpoint.sapi ≡ Three
+  allowed_establishment ok = grind (arith, ok)
+
+  pub same_after_establishment : IsValidEndpoint l.endpoint → refusal_of OpensWithoutInfo (for_establishment l).endpoint ≡ None →
+      IsSameLink l (after_establishment l)
+  same_after_establishment h ok =
+      let m = for_establishment l in
+      same_trans (by_establishment (IsSameLink l) (same_normal l) (same_for_call OpensWithoutInfo l))
+      (same_outcome m (call_outcome OpensWithoutInfo m.endpoint)
+      (keeps-call OpensWithoutInfo m.endpoint
+      (by_establishment (λ m. IsValidEndpoint m.endpoint) (IsValidEndpoint-initial l.endpoint.role Three l.endpoint.channel)
+      (valid_for_call OpensWithoutInfo l h)) (allowed_establishment ok) ok))
 
 pub same_after_frame : (f : Frame) (l : LinkState) → IsValidEndpoint l.endpoint → FrameFits l.endpoint.channel f →
     IsSameLink l (after_frame f l)
 same_after_frame f l h fits =
     let s = same_for_frame f l in
     let m = for_frame f l in
-    let heard : Frame = record f { content = rej_replaced_by_rr f.content } in
     by_test (ignores f l)
     (same_trans s (same_outcome m (received_outcome f m)
-    (keeps-frame heard m.endpoint (valid_for_frame f l h) (rw s.channel (rr_fits l.endpoint.channel f fits)))))
+    (keeps-frame (as_taken f m.endpoint) m.endpoint (valid_for_frame f l h)
+    (rw s.channel (taken_fits l.endpoint.channel f m.endpoint fits)))))
   where
     by_test : (b : Bool) → IsSameLink l (let m = for_frame f l in with_outcome (received_outcome f m) m) →
         IsSameLink l (if b then l else (let m = for_frame f l in with_outcome (received_outcome f m) m))
     by_test true h = same_itself l
     by_test false h = h
+
+-- a link that a received frame of a new opening finds is the link itself, or afresh
+pub by_renewal : (P : LinkState → Type 0) (f : Frame) (l : LinkState) → P l → P (afresh l) → P (as_normal l) → P (renewed_for f l)
+by_renewal P f l itself fresh normal = by (is_opened_again f l) (is_return f l)
+  where
+    by : (again return : Bool) → P (if again then afresh l else (if return then as_normal l else l))
+    by true return = fresh
+    by false true = normal
+    by false false = itself
+
+pub same_renewed : (f : Frame) (l : LinkState) → IsSameLink l (renewed_for f l)
+same_renewed f l = by_renewal (IsSameLink l) f l (same_itself l) (same_afresh l) (same_normal l)
+
+valid_renewed : (f : Frame) (l : LinkState) → IsValidEndpoint l.endpoint → IsValidEndpoint (renewed_for f l).endpoint
+valid_renewed f l h = by_renewal (λ m. IsValidEndpoint m.endpoint) f l h
+    (IsValidEndpoint-initial l.endpoint.role l.endpoint.sapi l.endpoint.channel)
+    (IsValidEndpoint-initial l.endpoint.role Three l.endpoint.channel)
+
+pub same_after_received : (f : Frame) (l : LinkState) → IsValidEndpoint l.endpoint → FrameFits l.endpoint.channel f →
+    IsSameLink l (after_received f l)
+same_after_received f l h fits =
+    let s = same_renewed f l in
+    let t = same_trans s (same_after_frame f (renewed_for f l) (valid_renewed f l h) (rw s.channel fits)) in
+    record { role = t.role; normal = t.normal; channel = t.channel; t200 = t.t200; clock = t.clock }
 
 pub either : (P : SlotOutcome → Type 0) (b : Bool) (x y : SlotOutcome) → P x → P y → P (if b then x else y)
 either P true x y h g = h
@@ -348,7 +450,7 @@ same_expires : (l : LinkState) → IsSameLink l (expires l).link
 same_expires l = grind arith
 
 same_awaited : (l : LinkState) → IsSameLink l (sends_awaited l).link
-same_awaited l = record { role = refl; sapi = refl; channel = refl; t200 = refl; clock = λ h. omega arith }
+same_awaited l = record { role = refl; normal = λ h. h; channel = refl; t200 = refl; clock = λ h. omega arith }
 
 same_due : (l : LinkState) → IsSameLink l (sends_due_frame l).link
 same_due l =
@@ -360,7 +462,7 @@ same_due l =
 same_owing : (answer : Option Frame) (l : LinkState) → IsSameLink l (slot_outcome_owing answer l).link
 same_owing None l = same_due l
 same_owing (Some f) l = either (λ o. IsSameLink l o.link) (keeps_back f l) (sends_due_frame l) (sends_answer f l) (same_due l)
-    (record { role = refl; sapi = refl; channel = refl; t200 = refl; clock = λ h. h })
+    (record { role = refl; normal = λ h. h; channel = refl; t200 = refl; clock = λ h. h })
 
 pub same_slot : (l : LinkState) → IsSameLink l (slot_outcome l).link
 same_slot l = same_owing l.answer l
@@ -372,7 +474,6 @@ replaced sapi l s h g = grind arith
 pub valid_with_flags : (heard main : Bool) (s : DataLinkState) → IsDataLink s →
     IsDataLink (record s { heard_sapi0 = heard; is_main_established = main })
 valid_with_flags heard main s h = record {
-  sapi0 = h.sapi0;
   sapi3 = h.sapi3;
   role = h.role;
   channel = h.channel;
@@ -427,3 +528,7 @@ pub slot_keeping_back : (m : Link) (l : LinkState) (block : List ℕ) (kept : Bo
 slot_keeping_back m l block kept h some is true_now =
     let o = owes_one l.endpoint.role l.endpoint.sapi l.endpoint.channel l.answer block (sym some ∙ h.answer) h.is_answer in
     rw (o.1, sym (is o.0 l o.3 o.2 h) ∙ true_now) refl
+
+-- the frame that awaits an answer has the endpoint's SAPI
+pub awaited-own : (p : Bool) (st : State) (e : EndpointState) → (awaited_frame p st e).sapi ≡ sapi_number e.sapi
+awaited-own p st e = grind arith

@@ -53,6 +53,7 @@ pub record Represents (m : Link) (l : LinkState) : Type 0 where
   pub is_answer : IfSome l.answer (MayWait l.endpoint.role l.endpoint.sapi l.endpoint.channel)
   pub is_sent : m.is_sent ≡ l.is_sent
   pub clock : m.clock ≡ l.clock
+  pub heard : m.heard ≡ l.heard
 
 -- the notices of a link in a slot, in which it may be given up
 abbrev pub notices_if : (gave_up : Bool) → List Notice

@@ -10,7 +10,11 @@ use Rattle.lapdm_end.specs.lapdm_window.declared.State.{State}
 use Rattle.lapdm_end.specs.lapdm_window.declared.State.TheVariants.{Open, Closing}
 use Rattle.lapdm_end.specs.lapdm_window.declared.Notice.{Notice}
 use Rattle.lapdm_end.specs.lapdm_window.Ends.{Role, Mobile, Network, initial_endpoint}
-use Rattle.lapdm_datalink.specs.Links.{LinkState, link_with, after_frame, frame_notices, after_slot, SlotOutcome, slot_outcome}
+use Rattle.lapdm_end.specs.lapdm_window.segmenting.Segments.{Message}
+use Rattle.lapdm_datalink.specs.declared.data_links.Establishment.{Establishment}
+use Rattle.lapdm_datalink.specs.declared.data_links.Establishment.TheVariants.{Contention, Normal}
+use Rattle.lapdm_datalink.specs.Links.{LinkState, link_with, after_received, received_notices, after_slot, SlotOutcome, slot_outcome}
+use Rattle.lapdm_datalink.specs.Links.{ui_frame}
 
 -- the state of a data link
 pub record DataLinkState : Type 0 where
@@ -21,9 +25,9 @@ pub record DataLinkState : Type 0 where
   -- on SACCH, whether the link of SAPI 0 on the main channel is established, as layer 3 said last
   pub is_main_established : Bool
 
--- the two links have SAPI 0 and SAPI 3, the same role and the same channel; neither T200 is 0, and neither clock is longer than T200
+-- The two links have the same role and the same channel; neither T200 is 0, and neither clock is longer than T200. The endpoint of the link
+-- of SAPI 0 has SAPI 0 or, with normal establishment, SAPI 3.
 pub record IsDataLink (s : DataLinkState) : Type 0 where
-  pub sapi0 : s.link0.endpoint.sapi ≡ Zero
   pub sapi3 : s.link3.endpoint.sapi ≡ Three
   pub role : s.link3.endpoint.role ≡ s.link0.endpoint.role
   pub channel : s.link3.endpoint.channel ≡ s.link0.endpoint.channel
@@ -32,10 +36,15 @@ pub record IsDataLink (s : DataLinkState) : Type 0 where
   pub clock : s.link0.clock ≤ s.link0.t200
   pub clock_sapi3 : s.link3.clock ≤ s.link3.t200
 
+-- the SAPI of the endpoint of the link of SAPI 0, by its kind of establishment
+abbrev pub endpoint_sapi : Establishment → Sapi
+endpoint_sapi Contention = Zero
+endpoint_sapi Normal = Three
+
 -- the initial state of a data link
-abbrev pub initial_data_link : (role : Role) (channel : Channel) (t200 t200_sapi3 : ℕ) → DataLinkState
-initial_data_link role channel t t3 = record {
-  link0 = link_with (initial_endpoint role Zero channel) t;
+abbrev pub initial_data_link : (role : Role) (channel : Channel) (establishment : Establishment) (t200 t200_sapi3 : ℕ) → DataLinkState
+initial_data_link role channel establishment t t3 = record {
+  link0 = link_with (initial_endpoint role (endpoint_sapi establishment) channel) t;
   link3 = link_with (initial_endpoint role Three channel) t3;
   heard_sapi0 = false;
   is_main_established = false;
@@ -88,7 +97,7 @@ sapi_for_frame f s =
 -- the data link after the link of this SAPI, if any, takes a received frame
 abbrev pub taken_by : (sapi : Option Sapi) (frame : Frame) (state : DataLinkState) → DataLinkState
 taken_by None f s = having_heard f s
-taken_by (Some sapi) f s = with_link sapi (after_frame f (link_with_sapi sapi s)) (having_heard f s)
+taken_by (Some sapi) f s = with_link sapi (after_received f (link_with_sapi sapi s)) (having_heard f s)
 
 -- the data link after it receives a frame
 abbrev pub after_arrival : Frame → DataLinkState → DataLinkState
@@ -97,7 +106,7 @@ after_arrival f s = taken_by (sapi_for_frame f s) f s
 -- the notices that the link of this SAPI, if any, reports when it takes a received frame
 abbrev pub notices_of_taking : (sapi : Option Sapi) (frame : Frame) (state : DataLinkState) → List Notice
 notices_of_taking None f s = []
-notices_of_taking (Some sapi) f s = frame_notices f (link_with_sapi sapi s)
+notices_of_taking (Some sapi) f s = received_notices f (link_with_sapi sapi s)
 
 -- the notices that the data link reports when it receives a frame
 abbrev pub arrival_notices : Frame → DataLinkState → List Notice
@@ -111,6 +120,16 @@ with_clocks_moved s = record s {
   heard_sapi0 = false;
 }
 
+-- a frame of an endpoint with this SAPI as the link of SAPI 0 sends it: with SAPI 0
+abbrev pub on_sapi0 : (endpoint_sapi : Sapi) (frame : Frame) → Frame
+on_sapi0 Zero f = f
+on_sapi0 Three f = record f { sapi = 0 }
+
+-- the UI frame that the link of this SAPI sends with this message
+abbrev pub unit_frame : Sapi → Message → DataLinkState → Frame
+unit_frame Zero m s = on_sapi0 s.link0.endpoint.sapi (ui_frame m s.link0.endpoint)
+unit_frame Three m s = ui_frame m s.link3.endpoint
+
 -- what a data link does in a slot: its state afterwards, the frame sent, or `None` for the fill frame, and the notices of each link
 pub record DataLinkOutcome : Type 0 where
   pub new_state : DataLinkState
@@ -120,7 +139,12 @@ pub record DataLinkOutcome : Type 0 where
 
 -- SAPI 3 has the slot if SAPI 0 sends nothing in it
 abbrev pub with_sapi3 : (sapi0 : SlotOutcome) (sent : Option Frame) (state : DataLinkState) → DataLinkOutcome
-with_sapi3 o (Some f) s = record { new_state = record s { link0 = o.link }; frame = Some f; notices0 = o.notices; notices3 = [] }
+with_sapi3 o (Some f) s = record {
+  new_state = record s { link0 = o.link };
+  frame = Some (on_sapi0 s.link0.endpoint.sapi f);
+  notices0 = o.notices;
+  notices3 = [];
+}
 with_sapi3 o None s =
     let p = slot_outcome s.link3 in
     record { new_state = record s { link0 = o.link; link3 = p.link }; frame = p.frame; notices0 = o.notices; notices3 = p.notices }

@@ -5,8 +5,3 @@ pub mod Abstraction
 pub mod Sides
 pub mod Parts
 pub mod Slots
-pub mod Channels
-pub mod Progress
-pub mod Runs
-pub mod Lockstep
-pub mod Sapi3

@@ -1,18 +1,21 @@
 -- One link of a data link: an endpoint, the answer that it owes, and T200 in slots. A link has no queue: what it sends in a slot is a
 -- function of this state. T200 is that of GSM 04.06, section 5.8.1; all other rules here are this project's own.
 use Rattle.std.specs.Prelude.{ℕ, ◌-◌, Bool, true, false, not, ◌&&◌, ◌||◌, if◌then◌else◌, nat_eq, List, [], ◌∷◌}
+use Rattle.std.specs.Prelude.{drop}
+use Rattle.std.specs.Str.{bytes_eq}
 use Rattle.std.specs.Prelude.{Option, Some}
 use Rattle.std.specs.Prelude.{None}
-use Rattle.lapdm_frame.specs.Content.{Content, I, Rr, Sabm, Dm, Ui, Disc, Ua, Frame}
+use Rattle.lapdm_frame.specs.Content.{Content, I, Rr, Rnr, Rej, Sabm, Dm, Ui, Disc, Ua, Frame}
 use Rattle.lapdm_end.specs.lapdm_window.declared.Sapi.{Sapi}
 use Rattle.lapdm_end.specs.lapdm_window.declared.Sapi.TheVariants.{Zero, Three}
 use Rattle.lapdm_end.specs.lapdm_window.declared.State.{State}
 use Rattle.lapdm_end.specs.lapdm_window.declared.State.TheVariants.{Opening, Closing, Closed}
 use Rattle.lapdm_end.specs.lapdm_window.declared.Notice.{Notice}
 use Rattle.lapdm_end.specs.lapdm_window.segmenting.Segments.{Message}
-use Rattle.lapdm_end.specs.lapdm_window.Ends.{EndpointState, Outcome, initial_endpoint, awaits_answer, command_frame}
+use Rattle.lapdm_end.specs.lapdm_window.Ends.{Role, Network, EndpointState, Outcome, initial_endpoint, awaits_answer, command_frame}
+use Rattle.lapdm_end.specs.lapdm_window.Ends.{sapi_number, acked_message_count}
 use Rattle.lapdm_end.specs.lapdm_window.Rules.{is_open}
-use Rattle.lapdm_end.specs.lapdm_window.Tables.{frame_outcome, is_command}
+use Rattle.lapdm_end.specs.lapdm_window.Tables.{frame_outcome, is_command, answers_repeated_sabm}
 use Rattle.lapdm_end.specs.lapdm_window.Calls.{Call, Opens, OpensWithoutInfo, Sends, Closes, awaited_frame}
 use Rattle.lapdm_end.specs.lapdm_window.Calls.{t200_expiry, call_outcome}
 use Rattle.lapdm_link.specs.Worlds.{rej_replaced_by_rr}
@@ -28,14 +31,29 @@ pub record LinkState : Type 0 where
   pub is_sent : Bool
   -- the slots until that frame is due; it is due at 0
   pub clock : ℕ
+  -- whether the other side, since this link is open, has sent what it sends in Open alone: an I, RR, RNR or REJ
+  pub heard : Bool
 
--- a link with this endpoint and T200 that has sent nothing
+-- a link with this endpoint and T200 that has sent and heard nothing
 abbrev pub link_with : (endpoint : EndpointState) (t200 : ℕ) → LinkState
-link_with e t = record { endpoint = e; t200 = t; answer = None; is_sent = false; clock = 0 }
+link_with e t = record { endpoint = e; t200 = t; answer = None; is_sent = false; clock = 0; heard = false }
+
+-- the link but for what it has heard, which plays no part while each link is opened once
+abbrev pub unheard : LinkState → LinkState
+unheard l = record l { heard = false }
 
 -- the link afresh: with the initial endpoint of its role, SAPI and channel
 abbrev pub afresh : LinkState → LinkState
 afresh l = link_with (initial_endpoint l.endpoint.role l.endpoint.sapi l.endpoint.channel) l.t200
+
+-- The link afresh as one of normal establishment: either side opens it without information, as section 5.4.1.2 has it for SAPI 3. So the
+-- endpoint of a link of SAPI 0 is one of SAPI 3, and only its frames carry SAPI 0; with contention resolution it is one of SAPI 0.
+abbrev pub as_normal : LinkState → LinkState
+as_normal l = link_with (initial_endpoint l.endpoint.role Three l.endpoint.channel) l.t200
+
+-- the messages that layer 3 passed to the endpoint and that the other side has not acknowledged whole, in order
+abbrev pub unacked_messages : EndpointState → List Message
+unacked_messages e = drop (acked_message_count e) e.messages
 
 -- ---- what the endpoint returns
 
@@ -59,14 +77,14 @@ with_frames (f ∷ fs) l = with_frames fs (with_frame f l)
 abbrev pub with_outcome : Outcome → LinkState → LinkState
 with_outcome o l = with_frames o.frames (record l { endpoint = o.new_state })
 
--- ---- a second opening of SAPI 3 finds the link afresh
+-- ---- a second opening without information finds the link afresh
 
 -- whether the state is Closed
 abbrev pub is_closed : State → Bool
 is_closed Closed = true
 is_closed other = false
 
--- whether the call or frame opens the link of SAPI 3
+-- whether the call or frame opens a link without information
 abbrev pub is_opening_call : Call → Bool
 is_opening_call OpensWithoutInfo = true
 is_opening_call other = false
@@ -79,9 +97,9 @@ abbrev pub is_sapi3 : Sapi → Bool
 is_sapi3 Zero = false
 is_sapi3 Three = true
 
--- whether a link is closed and opened again by this call, or by this received frame
+-- whether a link that is closed or open is opened again by this call, or one that is closed by this received frame
 abbrev pub is_reopened_by_call : Call → LinkState → Bool
-is_reopened_by_call call l = is_closed l.endpoint.state && is_opening_call call
+is_reopened_by_call call l = (is_closed l.endpoint.state || is_open l.endpoint.state) && is_opening_call call
 
 abbrev pub is_reopened_by_frame : Frame → LinkState → Bool
 is_reopened_by_frame f l =
@@ -108,6 +126,21 @@ IsLinkCall other = ⊥
 abbrev pub after_call : Call → LinkState → LinkState
 after_call call l = let m = for_call call l in with_outcome (call_outcome call m.endpoint) m
 
+-- whether layer 3 may establish a link in this state: it is neither being opened nor being released
+abbrev pub may_be_established : State → Bool
+may_be_established Opening = false
+may_be_established Closing = false
+may_be_established other = true
+
+-- the link as normal establishment finds it: one with contention resolution becomes one of normal establishment
+abbrev pub for_establishment : LinkState → LinkState
+for_establishment l =
+    if not (is_sapi3 l.endpoint.sapi) && may_be_established l.endpoint.state then as_normal l else for_call OpensWithoutInfo l
+
+-- the link after layer 3 begins to establish it without information
+abbrev pub after_establishment : LinkState → LinkState
+after_establishment l = let m = for_establishment l in with_outcome (call_outcome OpensWithoutInfo m.endpoint) m
+
 -- the UI frame that an endpoint sends with this message, which changes nothing
 abbrev pub ui_frame : (m : Message) (endpoint : EndpointState) → Frame
 ui_frame m e = command_frame e (Ui false m)
@@ -128,17 +161,71 @@ awaits_unnumbered_answer other = false
 abbrev pub ignores : Frame → LinkState → Bool
 ignores f l = is_unnumbered_answer f.content && awaits_unnumbered_answer l.endpoint.state && not l.is_sent
 
--- what the endpoint does with a received frame; a REJ counts as an RR
-abbrev pub received_outcome : Frame → LinkState → Outcome
-received_outcome f l = frame_outcome (record f { content = rej_replaced_by_rr f.content }) l.endpoint
+-- the frame as the endpoint takes it: with the SAPI of the endpoint, and a REJ counts as an RR
+abbrev pub as_taken : Frame → EndpointState → Frame
+as_taken f e = record f { sapi = sapi_number e.sapi; content = rej_replaced_by_rr f.content }
 
--- the link after it receives a frame of its SAPI
+-- what the endpoint does with a received frame
+abbrev pub received_outcome : Frame → LinkState → Outcome
+received_outcome f l = frame_outcome (as_taken f l.endpoint) l.endpoint
+
+-- the link after it takes a frame of its SAPI, unless the frame opens an open link again
 abbrev pub after_frame : Frame → LinkState → LinkState
 after_frame f l = if ignores f l then l else (let m = for_frame f l in with_outcome (received_outcome f m) m)
 
--- the notices that the link reports then
+-- the notices that it reports then
 abbrev pub frame_notices : Frame → LinkState → List Notice
 frame_notices f l = if ignores f l then [] else (received_outcome f (for_frame f l)).notices
+
+-- ---- the other side opens again a link that is open here
+
+-- whether a side sends a frame with this content in Open alone, where N(R) has a meaning: an I frame, a command, or an RR, RNR or REJ
+abbrev pub is_numbered : (is_command : Bool) (content : Content) → Bool
+is_numbered is_command (I ns nr p more info) = is_command
+is_numbered is_command (Rr nr pf) = true
+is_numbered is_command (Rnr nr pf) = true
+is_numbered is_command (Rej nr pf) = true
+is_numbered is_command other = false
+
+-- whether this is the content of the SABM that opened the link of this endpoint, as the endpoint answers it in Open
+abbrev pub is_sabm_that_opened : Content → EndpointState → Bool
+is_sabm_that_opened (Sabm p info) e = answers_repeated_sabm e.sapi e.role && bytes_eq info e.sabm_info
+is_sabm_that_opened other e = false
+
+-- Whether a received SABM opens an open link again (section 5.5.1.2). A side sends its SABM again until the UA arrives, and I, RR, RNR and
+-- REJ frames only after that. So a SABM that arrives before any of these is a repeat, and one that arrives after is of a new opening.
+abbrev pub is_opened_again : Frame → LinkState → Bool
+is_opened_again f l =
+    l.heard && is_open l.endpoint.state && is_command l.endpoint f && is_sabm_that_opened f.content l.endpoint
+
+-- whether the other side opens a link of this SAPI and side with contention resolution: that of SAPI 0 at the network
+abbrev pub is_opened_with_contention : Sapi → Role → Bool
+is_opened_with_contention Zero Network = true
+is_opened_with_contention sapi role = false
+
+-- Whether a received SABM says that the mobile returns to this channel, after an assignment or a handover that failed: it has no
+-- information, and the link, which is open, was opened with some.
+abbrev pub is_return : Frame → LinkState → Bool
+is_return f l =
+    is_opened_with_contention l.endpoint.sapi l.endpoint.role && is_open l.endpoint.state && is_command l.endpoint f
+    && is_opening_content f.content
+
+-- the link as a received frame of a new opening finds it
+abbrev pub renewed_for : Frame → LinkState → LinkState
+renewed_for f l = if is_opened_again f l then afresh l else (if is_return f l then as_normal l else l)
+
+-- whether the link has heard an I, RR, RNR or REJ in Open once it has received this frame; a closed link that it opens again has not
+abbrev pub heard_with : Frame → LinkState → Bool
+heard_with f l =
+    (l.heard && not (is_reopened_by_frame f l)) || (is_open l.endpoint.state && is_numbered (is_command l.endpoint f) f.content)
+
+-- the link after it receives a frame of its SAPI
+abbrev pub after_received : Frame → LinkState → LinkState
+after_received f l = let m = renewed_for f l in record (after_frame f m) { heard = heard_with f m }
+
+-- the notices that the link reports then
+abbrev pub received_notices : Frame → LinkState → List Notice
+received_notices f l = frame_notices f (renewed_for f l)
 
 -- ---- what a link sends in a slot
 

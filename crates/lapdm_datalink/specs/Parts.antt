@@ -9,7 +9,7 @@ use Rattle.lapdm_frame.specs.Frames.{octets_of}
 use Rattle.lapdm_end.specs.Parts.{EndpointValues}
 use Rattle.lapdm_end.specs.Parts as E
 use Rattle.lapdm_end.specs.lapdm_window.declared.Sapi.{Sapi}
-use Rattle.lapdm_end.specs.lapdm_window.declared.Sapi.TheVariants.{Zero, Three}
+use Rattle.lapdm_end.specs.lapdm_window.declared.Sapi.TheVariants.{Three}
 use Rattle.lapdm_end.specs.lapdm_window.Ends.{Role}
 use Rattle.lapdm_datalink.specs.declared.links.Link.{Link}
 use Rattle.lapdm_datalink.specs.declared.parts.LinkView.{LinkView}
@@ -27,15 +27,29 @@ pub record LinkValues : Type 0 where
   pub answer : Option (List ℕ)
   pub is_sent : Bool
   pub clock : ℕ
+  pub heard : Bool
 
 -- the state of a Rust link as plain data
 abbrev pub values_of : Link → LinkValues
-values_of m = record { endpoint = E.values_of m.endpoint; t200 = m.t200; answer = m.answer; is_sent = m.is_sent; clock = m.clock }
+values_of m = record {
+  endpoint = E.values_of m.endpoint;
+  t200 = m.t200;
+  answer = m.answer;
+  is_sent = m.is_sent;
+  clock = m.clock;
+  heard = m.heard;
+}
 
 -- the link state in a Rust `LinkView`
 abbrev pub values_of_parts : LinkView → LinkValues
-values_of_parts p =
-    record { endpoint = E.values_of_parts p.endpoint; t200 = p.t200; answer = p.answer; is_sent = p.is_sent; clock = p.clock }
+values_of_parts p = record {
+  endpoint = E.values_of_parts p.endpoint;
+  t200 = p.t200;
+  answer = p.answer;
+  is_sent = p.is_sent;
+  clock = p.clock;
+  heard = p.heard;
+}
 
 -- some Rust link has the values `x` and represents the link `l`
 pub record ValuesRepresent (x : LinkValues) (l : LinkState) : Type 0 where
@@ -63,7 +77,6 @@ IsTimed t200 clock = (t200 ≢ 0) × (clock ≤ t200)
 
 -- two links with these values are those of SAPI 0 and SAPI 3 of one data link: they have the same role and channel, and are timed
 pub record AreOfOneDataLink (x y : LinkValues) : Type 0 where
-  pub sapi0 : x.endpoint.sapi ≡ Zero
   pub sapi3 : y.endpoint.sapi ≡ Three
   pub role : spec_role_of y.endpoint.role ≡ spec_role_of x.endpoint.role
   pub channel : y.endpoint.window.channel ≡ x.endpoint.window.channel

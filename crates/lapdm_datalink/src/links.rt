@@ -1,15 +1,19 @@
 //! One link of a data link: what its endpoint sends, slot by slot.
 
-ghost use Rattle.std.specs.Prelude.{◌≡◌, ◌≤◌, ◌<◌, ◌↔◌, [], ◌∷◌, if◌then◌else◌, map, length, true};
+ghost use Rattle.std.specs.Prelude.{◌≡◌, ◌≤◌, ◌<◌, ◌↔◌, ◌&&◌, [], ◌∷◌, if◌then◌else◌, map, length};
+ghost use Rattle.std.specs.Prelude.{true};
 ghost use Rattle.std.specs.Prelude.{false, All, List, IsTrue, IfOk, OnErr};
-ghost use Rattle.std.specs.Prelude.{OnOk, Some, None};
+ghost use Rattle.std.specs.Prelude.{OnOk, Option, Some, None};
 ghost use Rattle.std.specs.Option.{option_map};
+ghost use Rattle.std.specs.Str.{bytes_eq};
 ghost use Rattle.std.specs.Result.{result_err};
 ghost use Rattle.lapdm_frame.specs.Content.{Frame, content_of_body, frame_of_view};
 ghost use Rattle.lapdm_frame.specs.Frames.{FrameFits, octets_of};
 ghost use Rattle.lapdm_end.specs.lapdm_window.Calls.{endpoint_call_of, IsCallAllowedFor, OpensWithoutInfo, SendsUi};
 ghost use Rattle.lapdm_end.specs.lapdm_window.Calls.{refusal_of, call_outcome};
-ghost use Rattle.lapdm_end.specs.lapdm_window.Ends.{initial_endpoint, awaits_answer};
+ghost use Rattle.lapdm_end.specs.lapdm_window.Ends.{initial_endpoint, awaits_answer, sapi_number};
+ghost use Rattle.lapdm_end.specs.lapdm_window.segmenting.Buffers.{octets_in_buffer};
+ghost use Rattle.lapdm_end.specs.lapdm_window.Tables.{is_command, answers_repeated_sabm};
 ghost use Rattle.lapdm_end.specs.lapdm_window.declared.Sapi.TheVariants as P;
 ghost use Rattle.lapdm_link.specs.Worlds.{rej_replaced_by_rr};
 ghost use Rattle.lapdm_end.specs.Addresses.{spec_role_of};
@@ -17,6 +21,8 @@ ghost use Rattle.lapdm_datalink.specs.Links.{
   LinkState,
   link_with,
   afresh,
+  as_normal,
+  unacked_messages,
   is_awaiting_kind,
   with_frame,
   with_frames,
@@ -24,12 +30,23 @@ ghost use Rattle.lapdm_datalink.specs.Links.{
   IsLinkCall,
   for_call,
   is_reopened_by_call,
+  is_opening_content,
+  may_be_established,
+  for_establishment,
+  after_establishment,
   for_frame,
   is_reopened_by_frame,
   after_call,
   after_frame,
   frame_notices,
   received_outcome,
+  is_numbered,
+  is_opened_again,
+  is_return,
+  renewed_for,
+  heard_with,
+  after_received,
+  received_notices,
   ui_frame,
   is_unnumbered_answer,
   ignores,
@@ -43,11 +60,11 @@ ghost use Rattle.lapdm_datalink.specs.Links.{
   sends_due_frame,
   slot_outcome,
 };
-ghost use Rattle.lapdm_datalink.specs.DataLinks.{DataLinkState, takes_sapi3, sapi_for_frame};
+ghost use Rattle.lapdm_datalink.specs.DataLinks.{DataLinkState, takes_sapi3, sapi_for_frame, on_sapi0};
 ghost use Rattle.lapdm_datalink.specs.Parts.{acts_in_slot};
 ghost use Rattle.lapdm_datalink.specs.Abstraction.{channel_of, role_of, sapi_of, Represents, MayBeReturned, notices_if};
 
-use lapdm_end::{Call, Channel, Effects, Endpoint, Refused, Role, Sapi, State};
+use lapdm_end::{Call, Channel, Effects, Endpoint, MessageBuffer, Refused, Role, Sapi, State};
 use lapdm_frame::{BLOCK_OCTETS, Body, FrameView, read_on};
 
 /// A link of one SAPI, and what it has to send.
@@ -62,6 +79,8 @@ pub struct Link {
     pub(crate) is_sent: bool,
     // The slots until that frame is due.
     pub(crate) clock: u8,
+    // Whether an I, RR, RNR or REJ was received in Open.
+    pub(crate) heard: bool,
 }
 
 /// What a link does in a slot.
@@ -93,12 +112,84 @@ pub(crate) fn is_awaiting_kind(body: &Body<'_>) -> bool
     }
 }
 
+// Returns whether a side sends a frame with this body in Open alone.
+fn is_numbered(is_command: bool, body: &Body<'_>) -> bool
+    ensures { result ≡ is_numbered is_command (content_of_body body.now) }
+{
+    match *body {
+        Body::I { .. } => is_command,
+        Body::Rr { .. } | Body::Rnr { .. } | Body::Rej { .. } => true,
+        _ => false,
+    }
+}
+
 fn is_unnumbered_answer(body: &Body<'_>) -> bool
     ensures { result ≡ is_unnumbered_answer (content_of_body body.now) }
 {
     match *body {
         Body::Ua { .. } | Body::Dm { .. } => true,
         _ => false,
+    }
+}
+
+fn may_be_established(state: State) -> bool
+    ensures { result ≡ may_be_established state }
+{
+    match state {
+        State::Opening | State::Closing => false,
+        State::Idle | State::Open | State::Closed => true,
+    }
+}
+
+// Returns whether this is the body of a SABM without information.
+fn is_opening_body(body: &Body<'_>) -> bool
+    ensures { result ≡ is_opening_content (content_of_body body.now) }
+{
+    match body {
+        Body::Sabm { info, .. } => info.is_empty(),
+        _ => false,
+    }
+}
+
+pub(crate) fn sapi_number(sapi: Sapi) -> u8
+    ensures { result ≡ sapi_number sapi }
+{
+    match sapi {
+        Sapi::Zero => 0,
+        Sapi::Three => 3,
+    }
+}
+
+// Returns the block of an endpoint with this SAPI as the link of SAPI 0 sends it: with SAPI 0 in its address octet.
+pub(crate) fn on_sapi0(
+    endpoint_sapi: Sapi,
+    channel: Channel,
+    block: [u8; BLOCK_OCTETS],
+) -> [u8; BLOCK_OCTETS]
+    ensures { (f : Frame) → block ≡ octets_of channel f → result ≡ octets_of channel (on_sapi0 endpoint_sapi f) }
+{
+    let mut sent = block;
+    // The two lowest bits are C/R and EA.
+    match (endpoint_sapi, channel) {
+        (Sapi::Zero, _) => {}
+        (Sapi::Three, Channel::Sdcch) => sent[0] = block[0] % 4,
+        (Sapi::Three, Channel::Sacch) => sent[2] = block[2] % 4,
+    }
+    sent
+}
+
+/// Returns the block of an endpoint with this SAPI, if any, as the link of SAPI 0 sends it.
+pub fn any_on_sapi0(
+    endpoint_sapi: Sapi,
+    channel: Channel,
+    block: Option<[u8; BLOCK_OCTETS]>,
+) -> Option<[u8; BLOCK_OCTETS]>
+    ensures { (sent : Option Frame) → block ≡ option_map (octets_of channel) sent
+        → result ≡ option_map (octets_of channel) (option_map (on_sapi0 endpoint_sapi) sent) }
+{
+    match block {
+        None => None,
+        Some(block) => Some(on_sapi0(endpoint_sapi, channel, block)),
     }
 }
 
@@ -129,6 +220,7 @@ impl Link {
             answer: None,
             is_sent: false,
             clock: 0,
+            heard: false,
         }
     }
 
@@ -141,16 +233,39 @@ impl Link {
         ensures sapi { sapi_of self.new ≡ sapi_of self.old }
         ensures channel { channel_of self.new ≡ channel_of self.old }
     {
+        let sapi = self.endpoint.sapi();
+        self.restart_with(sapi);
+    }
+
+    // Starts the link afresh as one of normal establishment.
+    fn restart_as_normal(&mut self)
+        ensures represents { (l : LinkState) → Represents self.old l → Represents self.new (as_normal l) }
+        ensures fresh { Represents self.new (link_with (initial_endpoint (role_of self.old) P.Three (channel_of self.old)) self.old.t200) }
+        ensures role { role_of self.new ≡ role_of self.old }
+        ensures sapi { sapi_of self.new ≡ P.Three }
+        ensures channel { channel_of self.new ≡ channel_of self.old }
+    {
+        self.restart_with(Sapi::Three);
+    }
+
+    // Starts the link afresh, with an endpoint of this SAPI.
+    fn restart_with(&mut self, sapi: Sapi)
+        ensures fresh { Represents self.new (link_with (initial_endpoint (role_of self.old) sapi (channel_of self.old)) self.old.t200) }
+        ensures role { role_of self.new ≡ role_of self.old }
+        ensures sapi { sapi_of self.new ≡ sapi }
+        ensures channel { channel_of self.new ≡ channel_of self.old }
+    {
         let end = &self.endpoint;
-        let fresh = Endpoint::new_on(end.role(), end.sapi(), end.channel());
+        let fresh = Endpoint::new_on(end.role(), sapi, end.channel());
         self.endpoint = fresh;
         self.answer = None;
         self.is_sent = false;
         self.clock = 0;
+        self.heard = false;
     }
 
-    /// Carries out a call of layer 3 that opens, sends over or closes the link. A link that is closed starts afresh first if the call opens
-    /// it. A refused call changes nothing.
+    /// Carries out a call of layer 3 that opens, sends over or closes the link. A link that is closed or open starts afresh first if the
+    /// call opens it without information. A refused call changes nothing.
     pub fn call(&mut self, call: &Call<'_>) -> Result<(), Refused>
         requires allowed { IsCallAllowedFor (role_of self.old) (sapi_of self.old) (endpoint_call_of call.now) }
         requires of_link { IsLinkCall (endpoint_call_of call.now) }
@@ -170,13 +285,37 @@ impl Link {
         self.call_endpoint(call)
     }
 
-    // Returns whether the link is closed and this call opens it again.
+    /// Begins to establish the link without information. A link that is closed or open starts afresh first; one with contention resolution
+    /// becomes one of normal establishment. A refused call changes nothing.
+    pub fn establish(&mut self) -> Result<(), Refused>
+        ensures refusal { (l : LinkState) → Represents self.old l
+            → result_err result ≡ refusal_of OpensWithoutInfo (for_establishment l).endpoint }
+        ensures done { OnOk result ((l : LinkState) → Represents self.old l → Represents self.new (after_establishment l)) }
+        ensures refused { OnErr result (self.new ≡ self.old) }
+        ensures role { role_of self.new ≡ role_of self.old }
+        ensures normal { sapi_of self.old ≡ P.Three → sapi_of self.new ≡ P.Three }
+        ensures channel { channel_of self.new ≡ channel_of self.old }
+    {
+        if let Sapi::Three = self.endpoint.sapi() {
+            return self.call(&Call::OpenBare);
+        }
+        if !may_be_established(self.endpoint.state()) {
+            return Err(Refused::NotIdle);
+        }
+        self.restart_as_normal();
+        self.call_endpoint(&Call::OpenBare)
+    }
+
+    // Returns whether the link is closed or open and this call opens it again.
     fn is_reopened_by_call(&self, call: &Call<'_>) -> bool
         ensures reopened { (l : LinkState) → Represents self.now l → result ≡ is_reopened_by_call (endpoint_call_of call.now) l }
         ensures opens { IsTrue result → endpoint_call_of call.now ≡ OpensWithoutInfo }
     {
         match *call {
-            Call::OpenBare => self.endpoint.state() == State::Closed,
+            Call::OpenBare => match self.endpoint.state() {
+                State::Closed | State::Open => true,
+                State::Idle | State::Opening | State::Closing => false,
+            },
             _ => false,
         }
     }
@@ -259,17 +398,100 @@ impl Link {
     fn is_reopened_by(&self, frame: &FrameView<'_>) -> bool
         ensures { (l : LinkState) → Represents self.now l → result ≡ is_reopened_by_frame (frame_of_view frame.now) l }
     {
-        if self.endpoint.sapi() != Sapi::Three || self.endpoint.state() != State::Closed {
+        self.endpoint.sapi() == Sapi::Three
+            && self.endpoint.state() == State::Closed
+            && is_opening_body(&frame.body)
+            && self.is_command(frame)
+    }
+
+    /// Processes a received frame of this link, and writes the notices that the link reports to `effects`, without frames. A SABM in Open
+    /// opens the link again once an I, RR, RNR or REJ was received; before that it is a repeat. One without information brings a mobile
+    /// back to the network's link that was opened with some.
+    pub fn receive(&mut self, frame: &FrameView<'_>, effects: &mut Effects)
+        requires { FrameFits (channel_of self.old) (frame_of_view frame.now) }
+        ensures done { (l : LinkState) → Represents self.old l → Represents self.new (after_received (frame_of_view frame.now) l) }
+        ensures notices { (l : LinkState) → Represents self.old l
+            → effects.new.notices ≡ received_notices (frame_of_view frame.now) l }
+        ensures frames { effects.new.frames ≡ [] }
+        ensures role { role_of self.new ≡ role_of self.old }
+        ensures normal { sapi_of self.old ≡ P.Three → sapi_of self.new ≡ P.Three }
+        ensures channel { channel_of self.new ≡ channel_of self.old }
+    {
+        self.restart_if_opened_again_by(frame);
+        let heard = self.has_heard_with(frame);
+        self.take(frame, effects);
+        self.heard = heard;
+    }
+
+    // Returns whether a received SABM opens this open link again.
+    fn is_opened_again_by(&self, frame: &FrameView<'_>) -> bool
+        ensures { (l : LinkState) → Represents self.now l → result ≡ is_opened_again (frame_of_view frame.now) l }
+    {
+        if !self.heard || self.endpoint.state() != State::Open {
             return false;
         }
         let Body::Sabm { info, .. } = frame.body else {
             return false;
         };
-        info.is_empty() && frame.cr == (self.endpoint.role() == Role::Mobile)
+        self.is_command(frame) && self.was_opened_with(info)
     }
 
-    /// Processes a received frame of this SAPI, and writes the notices that the link reports to `effects`, without frames.
-    pub fn take(&mut self, frame: &FrameView<'_>, effects: &mut Effects)
+    // Returns whether this is the information of the SABM that opened this open link, as its endpoint answers it.
+    fn was_opened_with(&self, info: &[u8]) -> bool
+        ensures { (l : LinkState) → Represents self.now l
+            → result ≡ answers_repeated_sabm l.endpoint.sapi l.endpoint.role && bytes_eq info.now l.endpoint.sabm_info }
+    {
+        if let (Sapi::Zero, Role::Mobile) = (self.endpoint.sapi(), self.endpoint.role()) {
+            return false;
+        }
+        info == self.endpoint.parts().sabm_info
+    }
+
+    // Returns whether a received SABM says that the mobile returns to this link.
+    fn is_return(&self, frame: &FrameView<'_>) -> bool
+        ensures { (l : LinkState) → Represents self.now l → result ≡ is_return (frame_of_view frame.now) l }
+    {
+        let (Sapi::Zero, Role::Network) = (self.endpoint.sapi(), self.endpoint.role()) else {
+            return false;
+        };
+        is_opening_body(&frame.body)
+            && self.is_command(frame)
+            && self.endpoint.state() == State::Open
+    }
+
+    fn restart_if_opened_again_by(&mut self, frame: &FrameView<'_>)
+        ensures represents { (l : LinkState) → Represents self.old l → Represents self.new (renewed_for (frame_of_view frame.now) l) }
+        ensures role { role_of self.new ≡ role_of self.old }
+        ensures normal { sapi_of self.old ≡ P.Three → sapi_of self.new ≡ P.Three }
+        ensures channel { channel_of self.new ≡ channel_of self.old }
+    {
+        if self.is_opened_again_by(frame) {
+            self.restart();
+            return;
+        }
+        if self.is_return(frame) {
+            self.restart_as_normal();
+        }
+    }
+
+    fn is_command(&self, frame: &FrameView<'_>) -> bool
+        ensures { (l : LinkState) → Represents self.now l → result ≡ is_command l.endpoint (frame_of_view frame.now) }
+    {
+        frame.cr == (self.endpoint.role() == Role::Mobile)
+    }
+
+    // Returns whether an I, RR, RNR or REJ was received in Open, this frame included. A closed link that it opens again has heard none.
+    fn has_heard_with(&self, frame: &FrameView<'_>) -> bool
+        ensures { (l : LinkState) → Represents self.now l → result ≡ heard_with (frame_of_view frame.now) l }
+    {
+        if self.heard {
+            return !self.is_reopened_by(frame);
+        }
+        self.endpoint.state() == State::Open && is_numbered(self.is_command(frame), &frame.body)
+    }
+
+    // Processes a received frame that does not open an open link again.
+    fn take(&mut self, frame: &FrameView<'_>, effects: &mut Effects)
         requires { FrameFits (channel_of self.old) (frame_of_view frame.now) }
         ensures done { (l : LinkState) → Represents self.old l → Represents self.new (after_frame (frame_of_view frame.now) l) }
         ensures notices { (l : LinkState) → Represents self.old l
@@ -310,12 +532,12 @@ impl Link {
         ensures sapi { sapi_of self.new ≡ sapi_of self.old }
         ensures channel { channel_of self.new ≡ channel_of self.old }
     {
-        let heard = FrameView {
-            sapi: frame.sapi,
+        let taken = FrameView {
+            sapi: sapi_number(self.endpoint.sapi()),
             cr: frame.cr,
             body: with_rr_for_rej(frame.body),
         };
-        self.endpoint.take_frame_into(&heard, effects);
+        self.endpoint.take_frame_into(&taken, effects);
         self.keep_all(effects.frames.as_slice());
         effects.frames.clear();
     }
@@ -347,6 +569,20 @@ impl Link {
             return Some(Sapi::Three);
         }
         None
+    }
+
+    /// Returns the messages that were passed to the link and are not completely acknowledged, oldest first.
+    pub fn unacked(&self) -> &[MessageBuffer]
+        ensures { (l : LinkState) → Represents self.now l → map octets_in_buffer result.now ≡ unacked_messages l.endpoint }
+    {
+        self.endpoint.parts().window.held
+    }
+
+    /// Returns the SAPI of the link's endpoint: for SAPI 0 with normal establishment that is 3.
+    pub fn endpoint_sapi(&self) -> Sapi
+        ensures { result ≡ sapi_of self.now }
+    {
+        self.endpoint.sapi()
     }
 
     pub fn role(&self) -> Role

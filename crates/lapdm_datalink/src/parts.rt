@@ -12,7 +12,7 @@ ghost use Rattle.lapdm_datalink.specs.Parts.{IsAnswerBlock, HasAnswerBlockIfAny,
 ghost use Rattle.lapdm_datalink.specs.Parts.{data_link_values_of, data_link_values_of_parts, RepresentDataLink, RepresentSomeDataLink};
 
 use crate::data_links::DataLink;
-use crate::links::Link;
+use crate::links::{Link, sapi_number};
 use lapdm_end::{Channel, EndpointView, Role, Sapi};
 use lapdm_frame::{BLOCK_OCTETS, Body, FrameView, read_on, write_on};
 
@@ -28,6 +28,8 @@ pub struct LinkView<'a> {
     pub is_sent: bool,
     /// The slots until that frame is due, at most `t200`.
     pub clock: u8,
+    /// Whether an I, RR, RNR or REJ was received in Open.
+    pub heard: bool,
 }
 
 /// The state of a data link as plain data.
@@ -56,11 +58,9 @@ fn is_answer_kind(body: &Body<'_>) -> bool
 fn is_answer(frame: &FrameView<'_>, role: Role, sapi: Sapi) -> bool
     ensures { IsTrue result ↔ IsAnswer (spec_role_of role) sapi (frame_of_view frame.now) }
 {
-    let number = match sapi {
-        Sapi::Zero => 0,
-        Sapi::Three => 3,
-    };
-    is_answer_kind(&frame.body) && frame.sapi == number && frame.cr == (role == Role::Mobile)
+    is_answer_kind(&frame.body)
+        && frame.sapi == sapi_number(sapi)
+        && frame.cr == (role == Role::Mobile)
 }
 
 // Returns whether the block is the coding of an answer of a link with this role, SAPI and channel.
@@ -119,6 +119,7 @@ impl Link {
             answer: self.answer,
             is_sent: self.is_sent,
             clock: self.clock,
+            heard: self.heard,
         }
     }
 
@@ -149,6 +150,7 @@ impl Link {
         self.answer = parts.answer;
         self.is_sent = parts.is_sent;
         self.clock = parts.clock;
+        self.heard = parts.heard;
         true
     }
 
@@ -173,8 +175,7 @@ impl Link {
 pub fn are_of_one_data_link(link0: &LinkView<'_>, link3: &LinkView<'_>) -> bool
     ensures { IsTrue result ↔ AreOfOneDataLink (values_of_parts link0.now) (values_of_parts link3.now) }
 {
-    link0.endpoint.sapi == Sapi::Zero
-        && link3.endpoint.sapi == Sapi::Three
+    link3.endpoint.sapi == Sapi::Three
         && is_same_role(link3.endpoint.role, link0.endpoint.role)
         && link3.endpoint.window.channel == link0.endpoint.window.channel
         && is_timed(link0.t200, link0.clock)
@@ -214,15 +215,19 @@ impl DataLink {
         is_timed(self.link3.t200, self.link3.clock)
     }
 
-    // Makes this a data link with this role and channel.
-    fn move_to(&mut self, role: Role, channel: Channel)
+    // Makes this a data link with this role and channel, whose link of SAPI 0 has an endpoint of this SAPI.
+    fn move_to(&mut self, role: Role, channel: Channel, endpoint_sapi: Sapi)
         ensures role { data_link_role self.new ≡ spec_role_of role }
         ensures channel { channel_of self.new ≡ channel }
+        ensures sapi { sapi_of self.new.link0 ≡ endpoint_sapi }
     {
-        if is_same_role(role, self.role()) && channel == self.channel() {
+        if is_same_role(role, self.role())
+            && channel == self.channel()
+            && endpoint_sapi == self.link0.endpoint_sapi()
+        {
             return;
         }
-        *self = DataLink::new_on(role, channel, 1, 1);
+        *self = DataLink::with_endpoint(endpoint_sapi, role, channel, 1, 1);
     }
 
     /// Restores a data link from its state. Returns false if no data link can have this state; this data link then has to be restored
@@ -234,7 +239,7 @@ impl DataLink {
         ensures valid { IsTrue result ↔ RepresentSomeDataLink (data_link_values_of_parts parts.now) }
     {
         let end = &parts.link0.endpoint;
-        self.move_to(end.role, end.window.channel);
+        self.move_to(end.role, end.window.channel, end.sapi);
         if !self.restore_link(Sapi::Zero, &parts.link0) {
             return false;
         }
@@ -254,7 +259,7 @@ impl DataLink {
         ensures valid { IsSome result ↔ RepresentSomeDataLink (data_link_values_of_parts parts.now) }
     {
         let end = &parts.link0.endpoint;
-        let mut held = DataLink::new_on(end.role, end.window.channel, 1, 1);
+        let mut held = DataLink::with_endpoint(end.sapi, end.role, end.window.channel, 1, 1);
         if held.restore(parts) {
             Some(held)
         } else {

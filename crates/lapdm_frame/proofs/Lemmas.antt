@@ -1,36 +1,35 @@
 -- Frames and their 23 octets: each list of octets encodes one frame or is refused, and each frame has one canonical list of octets.
 use Rattle.{
   lapdm_frame.specs.{
+    Computed.{content_with_control, frame_reading, is_information_kind, is_one, kind_of_control, reading_of_kind, reading_of_known_kind},
     Content.{Content, Fields, Frame, I, Rr, content_of_fields, content_with_fields, fields_of_content, fill_frame, information},
-    Content.{kind_number, all_frame_kinds, more_follows},
-    Frames.{FrameFits, InformationFits, IsCanonicalCoding, IsFrameCoding, NsAndNrFit, address_octet, bit_of_bool, control_octet},
-    Frames.{length_octet, octets_of},
+    Content.{all_frame_kinds, more_follows},
+    Frames.{FrameFits, InformationFits, IsCanonicalCoding, IsFrameCoding, NsAndNrFit, bit_of_bool, control_octet},
+    Frames.octets_of,
     Layout.{address_in_block, control_in_block, information_in_block, layer1_octet_count, length_in_block, n201},
     Lengths.{HasNoLengthFault, IsAllowedLengthOctet, IsLengthFault},
-    Readings.{HasUniqueReading, IsOnlyCanonicalCoding, IsOnlyEncodedFrame, IsOnlyRefusalReason},
-    Refusals.{HasNoInformation, IsControlOctetOf, IsInformationFrame, IsRefused, RefusalAppliesToBlock, el_bit, length_field, m_bit},
+    Readings.{HasUniqueReading, IsOnlyCanonicalCoding, IsOnlyEncodedFrame, IsOnlyReading, IsOnlyRefusalReason},
+    Refusals.{HasNoInformation, IsControlOctetOf, IsInformationFrame, IsRefused, RefusalAppliesToBlock, lacks_information},
+    Refusals.{length_field, m_bit},
     Refusals.refusal_test_index,
     declared.{Channel.{TheVariants.{Sacch, Sdcch}, Channel}, Kind.Kind, Refusal.TheVariants.{Control, Ea, El, Empty, Length, Lpd, More}},
     declared.Refusal.Refusal,
   },
   std.{
     proofs.{
-      Common.{Bool, List, [], ap, arith, drop, false, get_or, inl, inr, length, nat_eq, refl, replicate, set, suc, sym, take, true, zero},
+      Common.{Bool, Err, List, None, Ok, Option, Result, Some, [], ap, arith, drop, false, get_or, inl, inr, length, nat_eq, refl},
+      Common.{replicate, set, suc, sym, take, true},
       Common.{ℕ, ◌%◌, ◌++◌, ◌+◌, ◌-◌, ◌/◌, ◌<◌, ◌∙◌, ◌∷◌, ◌≡◌, ◌≢◌, ◌≤◌, ◌⊎◌},
-      lemmas.{Bool.{cases_eq, cases_lt}, List.{drop-replicate, ext_get_or, get_or-append_right, get_or-drop, get_or-replicate}},
+      lemmas.{Bool.{cases_Bool, cases_eq, cases_lt}, List.{drop-replicate, ext_get_or, get_or-append_right, get_or-drop, get_or-replicate}},
       lemmas.List.{get_or-take, length-append, length-drop, length-replicate, length-take, take_at},
     },
-    specs.{List.AllByRecursion, Prelude.slice_range},
+    specs.{List.AllByRecursion, Prelude.{MatchOption, if◌then◌else◌, nat_lt, not, slice_range, ◌&&◌, ◌||◌}},
   },
 }
 use borrow.Rule.Slice.PartMut.{put_mid}
 use Rattle.lapdm_frame.specs.declared.Kind.TheVariants as K
 
 -- ## Controls: A control octet determines the content of its frame, apart from the information and the M bit.
-
--- the content with the given information in place of its own and, if it is an I frame, with the given M bit
-abbrev pub with_information : Content → Bool → List ℕ → Content
-with_information a goes info = let f = fields_of_content a in content_with_fields f.kind f.ns f.nr f.pf goes info
 
 pub bit_bound : (b : Bool) → bit_of_bool b ≤ 1
 bit_bound x = grind arith
@@ -67,10 +66,6 @@ pub content_fits : (channel : Channel) (f : Fields) → FieldsFit channel f
 content_fits _ f fit = grind arith
 
 -- ## Uniqueness: Octets encode at most one frame, are refused for at most one reason, and never both encode a frame and are refused.
-
-same_parts : (s s' : ℕ) (c c' : Bool) (a b : Content) → s ≡ s' → c ≡ c' → a ≡ b →
-    ◌≡◌ {A = Frame} (record { sapi = s; cr = c; content = a }) (record { sapi = s'; cr = c'; content = b })
-same_parts s s' c c' a b e e' e'' = cc
 
 pub same_frame : (channel : Channel) (octets : List ℕ) (f g : Frame) → IsFrameCoding channel f octets →
     IsFrameCoding channel g octets → f ≡ g
@@ -157,9 +152,6 @@ information_fits : (channel : Channel) (content : Content) → length (informati
     (length (information content) ≡ 0 → ¬ IsInformationFrame content) → InformationFits channel content
 information_fits _ x length_bound i_frame_not_empty = grind arith
 
-kind_known : (content : Content) → IsInformationFrame content ⊎ ¬ IsInformationFrame content
-kind_known x = grind arith
-
 room_is_whole : (channel : Channel) → layer1_octet_count channel + 3 + n201 channel ≡ 23
 room_is_whole x = grind arith
 
@@ -219,145 +211,145 @@ module _ (channel : Channel) (octets : List ℕ) (content : Content) (passes : P
     information_matches = information_found;
   }
 
--- ## Existence: Every list of 23 octets encodes a frame or is refused. The proof tests the reasons for refusal in their order.
+-- ## Existence: Every list of 23 octets encodes a frame or is refused: the computed reading says which.
+
+equal : (a b : ℕ) → nat_eq a b ≡ true → a ≡ b
+equal a b e = grind arith
+
+differ : (a b : ℕ) → nat_eq a b ≡ false → a ≢ b
+differ a b e = grind arith
+
+above : (a b : ℕ) → nat_lt a b ≡ true → a < b
+above a b e = grind arith
+
+not_above : (a b : ℕ) → nat_lt a b ≡ false → b < suc a
+not_above a b e = grind arith
 
 module _ (k : ℕ) where
-  abbrev final : Bool
-  final = nat_eq (k / 16 % 2) 1
+  abbrev IsOfKind : Kind → Type 0
+  IsOfKind kind = k ≡ control_octet (content_with_control k false [] kind)
 
-  final_is : bit_of_bool final ≡ k / 16 % 2
-  final_is = grind arith
+  octet_of : (content : Content) → IsControlOctetOf k content → IsOfKind (fields_of_content content).kind
+  octet_of content is = grind arith
 
-  -- the content of a given kind, with the sequence numbers and the P or F bit read from the control octet k
-  abbrev candidate : Kind → Content
-  candidate kind = content_with_fields kind (k / 2 % 8) (k / 32) final false []
+  control_of : (kind : Kind) (more : Bool) (info : List ℕ) → IsOfKind kind →
+      IsControlOctetOf k (content_with_control k more info kind)
+  control_of kind _ _ is = grind arith
 
-  unknown : ((kind : Kind) → k ≢ control_octet (candidate kind)) → (content : Content) → ¬ IsControlOctetOf k content
-  unknown none (I ns nr p more info) is_k = none K.I (omega (arith, final_is, bit_bound p))
-  unknown none other is_k = none (fields_of_content other).kind (omega (arith, final_is, bit_bound (fields_of_content other).pf))
-
-  candidate_of : (ks : List Kind)
-      → ((kind : Kind) × (k ≡ control_octet (candidate kind))) ⊎ AllByRecursion (λ kind. k ≢ control_octet (candidate kind)) ks
-  candidate_of [] = inr tt
-  candidate_of (kind ∷ ks) = elim (cases_eq k _) [
-    | inl e ↦ inl (kind, e)
-    | inr not ↦ elim (candidate_of ks) [ inl found ↦ inl found | inr rest ↦ inr (not, rest) ]
+  found_among : (kinds : List Kind) → MatchOption (kind_of_control k kinds) (AllByRecursion (λ kind. ¬ IsOfKind kind) kinds) IsOfKind
+  found_among [] = tt
+  found_among (kind ∷ kinds) = elim (cases_Bool (nat_eq k (control_octet (content_with_control k false [] kind)))) [
+    | inl is ↦ rw is (equal k _ is)
+    | inr other ↦ rw other (more kind (kind_of_control k kinds) (differ k _ other) (found_among kinds))
   ]
+    where
+      more : (kind : Kind) (found : Option Kind) → ¬ IsOfKind kind →
+          MatchOption found (AllByRecursion (λ kind. ¬ IsOfKind kind) kinds) IsOfKind →
+          MatchOption found (AllByRecursion (λ kind. ¬ IsOfKind kind) (kind ∷ kinds)) IsOfKind
+      more kind None not none = (not, none)
+      more kind (Some found) not is = is
 
-  each_kind : (kind : Kind) → AllByRecursion (λ kind. k ≢ control_octet (candidate kind)) all_frame_kinds
-      → k ≢ control_octet (candidate kind)
-  each_kind x none = grind arith
+  each_kind : (kind : Kind) → AllByRecursion (λ kind. ¬ IsOfKind kind) all_frame_kinds → ¬ IsOfKind kind
+  each_kind kind none = grind arith
 
-  known_or_not : k < 256 → ((content : Content) × IsControlOctetOf k content) ⊎ ((content : Content) → ¬ IsControlOctetOf k content)
-  known_or_not small = elim (candidate_of all_frame_kinds) [
-    | inl (kind, e) ↦
-        inl (candidate kind, (ns_and_nr_fit kind (k / 2 % 8) (k / 32) final false [] (omega arith) (omega arith), e))
-    | inr none ↦ inr (unknown (λ kind. each_kind kind none))
-  ]
+module _ (most length : ℕ) (k : ℕ) (more : Bool) (info : List ℕ) (kind : Kind) where
+  abbrev content : Content
+  content = content_with_control k more info kind
 
-no_such_octet : (k : ℕ) → 256 ≤ k → (content : Content) → ¬ IsControlOctetOf k content
-no_such_octet k large x is_k = grind arith
+  carried : HasNoInformation content ⊎ (information content ≡ info)
+  carried = grind arith
 
-control_known : (k : ℕ) → ((content : Content) × IsControlOctetOf k content)
-    ⊎ ((content : Content) → ¬ IsControlOctetOf k content)
-control_known k = elim (cases_lt k 256) [ inl small ↦ known_or_not k small | inr large ↦ inr (no_such_octet k large) ]
+  goes_on : IsInformationFrame content → more_follows content ≡ more
+  goes_on is_i = grind arith
 
-still_control : (k : ℕ) (a : Content) (goes : Bool) (info : List ℕ) → IsControlOctetOf k a →
-    IsControlOctetOf k (with_information a goes info)
-still_control k x _ _ is_k = grind arith
+  too_long : (nat_lt most length || (nat_lt 0 length && lacks_information kind)) ≡ true →
+      (most < length) ⊎ ((0 < length) × HasNoInformation content)
+  too_long e = grind arith
 
-carried : (a : Content) (goes : Bool) (info : List ℕ) → HasNoInformation (with_information a goes info) ⊎
-    (information (with_information a goes info) ≡ info)
-carried a _ _ = grind arith
+  within : (nat_lt most length || (nat_lt 0 length && lacks_information kind)) ≡ false →
+      (length ≤ most) × (0 < length → ¬ HasNoInformation content)
+  within e = grind arith
 
-goes_on_with : (a : Content) (goes : Bool) (info : List ℕ) → IsInformationFrame (with_information a goes info) →
-    more_follows (with_information a goes info) ≡ goes
-goes_on_with x _ _ is_i = grind arith
+  empty : (nat_eq length 0 && is_information_kind kind) ≡ true → (length ≡ 0) × IsInformationFrame content
+  empty e = grind arith
 
-information_or_none : (content : Content) → HasNoInformation content ⊎ ¬ HasNoInformation content
-information_or_none _ = grind arith
+  not_empty : (nat_eq length 0 && is_information_kind kind) ≡ false → length ≡ 0 → ¬ IsInformationFrame content
+  not_empty e none = grind arith
 
-both_or_not : {A B : Type 0} → A ⊎ ¬ A → B ⊎ ¬ B → (A × B) ⊎ (A → ¬ B)
-both_or_not x y = grind arith
+  marked : (m : ℕ) → (is_one m && not (is_information_kind kind)) ≡ true → (m ≡ 1) × ¬ IsInformationFrame content
+  marked m e = grind arith
 
-positive_known : (n : ℕ) → (0 < n) ⊎ ¬ (0 < n)
-positive_known n = grind arith
-
-module _ (most : ℕ) (content : Content) (octet : ℕ) where
-  room_known : IsAllowedLengthOctet most content octet ⊎ ((reason : Refusal) × IsLengthFault most content octet reason)
-  room_known = elim (cases_eq (el_bit octet) 0) [
-    | inl more_follows ↦ inr (El, more_follows)
-    | inr el_bit_value ↦ elim (cases_lt most (length_field octet)) [
-      | inl above ↦ inr (Length, (el_bit_value, inl above))
-      | inr length_bound ↦ elim (both_or_not (positive_known (length_field octet)) (information_or_none content)) [
-        | inl informed ↦ inr (Length, (el_bit_value, inr informed))
-        | inr kind_allows ↦ inl (record { el_bit_set = el_bit_value; length_bound = length_bound; kind_has_information = kind_allows })
-      ]
-    ]
-  ]
-
-  more_known : IsAllowedLengthOctet most content octet → (length_field octet ≡ 0 → ¬ IsInformationFrame content) →
-      HasNoLengthFault most content octet ⊎ ((reason : Refusal) × IsLengthFault most content octet reason)
-  more_known room i_frame_not_empty = elim (kind_known content) [
-    | inl is_i ↦ inl (record { allowed_length = room; i_frame_not_empty = i_frame_not_empty; m_bit_only_in_i_frame = λ _. is_i })
-    | inr other ↦ elim (cases_eq (m_bit octet) 1) [
-      | inl notice ↦ inr (More, (room, i_frame_not_empty, notice, other))
-      | inr single ↦ inl (record {
-        allowed_length = room;
-        i_frame_not_empty = i_frame_not_empty;
-        m_bit_only_in_i_frame = grind arith;
-      })
-    ]
-  ]
-
-  fault_known : HasNoLengthFault most content octet ⊎ ((reason : Refusal) × IsLengthFault most content octet reason)
-  fault_known = elim room_known [
-    | inl room ↦ elim (both_or_not (cases_eq (length_field octet) 0) (kind_known content)) [
-      | inl (none, is_i) ↦ inr (Empty, (room, none, is_i))
-      | inr i_frame_not_empty ↦ more_known room i_frame_not_empty
-    ]
-    | inr fault ↦ inr fault
-  ]
+  not_marked : (m : ℕ) → (is_one m && not (is_information_kind kind)) ≡ false → m ≡ 1 → IsInformationFrame content
+  not_marked m e one = grind arith
 
 module _ (channel : Channel) (octets : List ℕ) (count : length octets ≡ 23) where
-  of_content : address_in_block channel octets < 32 → address_in_block channel octets % 2 ≢ 0 → (found : Content) →
-      IsControlOctetOf (control_in_block channel octets) found → HasUniqueReading channel octets
-  of_content low odd found is_found =
+  by_test : (test : Bool) (x y : Result Frame Refusal) → (test ≡ true → IsOnlyReading channel octets x) →
+      (test ≡ false → IsOnlyReading channel octets y) → IsOnlyReading channel octets (if test then x else y)
+  by_test true x y yes' no' = yes' refl
+  by_test false x y yes' no' = no' refl
+
+  of_kind : address_in_block channel octets < 32 → address_in_block channel octets % 2 ≢ 0 → (kind : Kind) →
+      IsOfKind (control_in_block channel octets) kind → IsOnlyReading channel octets (reading_of_kind channel octets kind)
+  of_kind low odd kind is =
+      let k = control_in_block channel octets in
       let octet = length_in_block channel octets in
-      let goes = nat_eq (m_bit octet) 1 in
-      let info = information_in_block channel octets (length_field octet) in
-      let content = with_information found goes info in
-      let known = still_control (control_in_block channel octets) found goes info is_found in
-      elim (fault_known (n201 channel) content octet) [
-        | inl fault ↦
-            let is_frame = frame_found channel octets content (record {
-              count = count;
-              address_in_range = low;
-              address_is_odd = odd;
-              known_control = known;
-              no_length_fault = fault;
-              carried = carried found goes info;
-              goes_on = goes_on_with found goes info;
-            }) in
-            inl (_, only_frame channel _ octets is_frame)
-        | inr (reason, fault) ↦ inr (
-          reason,
-          fault_refuses channel octets content known (past_address channel octets low odd) reason
-              fault,
-        )
-      ]
+      let most = n201 channel in
+      let length = length_field octet in
+      let more = is_one (m_bit octet) in
+      let info = information_in_block channel octets length in
+      let found = content_with_control k more info kind in
+      let known = control_of k kind more info is in
+      let refuses = fault_refuses channel octets found known (past_address channel octets low odd) in
+      by_test _ _ _ (λ even. refuses El (equal _ _ even)) (λ el.
+      by_test _ _ _ (λ long. refuses Length (differ _ _ el, too_long most length k more info kind long)) (λ room.
+      let fits = within most length k more info kind room in
+      let allowed : IsAllowedLengthOctet most found octet = record {
+        el_bit_set = differ _ _ el;
+        length_bound = fits.0;
+        kind_has_information = fits.1;
+      } in
+      by_test _ _ _ (λ e. let none = empty most length k more info kind e in refuses Empty (allowed, none.0, none.1)) (λ some.
+      let filled = not_empty most length k more info kind some in
+      by_test _ _ _ (λ e. let m = marked most length k more info kind (m_bit octet) e in refuses More (allowed, filled, m.0, m.1)) (λ m.
+      only_frame channel _ octets (frame_found channel octets found (record {
+        count = count;
+        address_in_range = low;
+        address_is_odd = odd;
+        known_control = known;
+        no_length_fault = record {
+          allowed_length = allowed;
+          i_frame_not_empty = filled;
+          m_bit_only_in_i_frame = not_marked most length k more info kind (m_bit octet) m;
+        };
+        carried = carried most length k more info kind;
+        goes_on = goes_on most length k more info kind;
+      }))))))
+
+  of_known_kind : address_in_block channel octets < 32 → address_in_block channel octets % 2 ≢ 0 → (found : Option Kind) →
+      MatchOption found (AllByRecursion (λ kind. ¬ IsOfKind (control_in_block channel octets) kind) all_frame_kinds)
+      (IsOfKind (control_in_block channel octets)) →
+      IsOnlyReading channel octets (reading_of_known_kind channel octets found)
+  of_known_kind low odd None none =
+      let k = control_in_block channel octets in
+      refused channel octets Control (past_address channel octets low odd) (λ content is.
+      each_kind k (fields_of_content content).kind none (octet_of k content is))
+  of_known_kind low odd (Some kind) is = of_kind low odd kind is
+
+  pub IsOnlyReading-frame_reading : IsOnlyReading channel octets (frame_reading channel octets)
+  unfolding frame_reading
+  IsOnlyReading-frame_reading =
+      by_test _ _ _ (λ high. refused channel octets Lpd (none_yet channel octets) (above 31 _ high)) (λ low.
+      let below = not_above 31 (address_in_block channel octets) low in
+      by_test _ _ _ (λ even. refused channel octets Ea (past_lpd channel octets below) (equal _ _ even)) (λ odd.
+      of_known_kind below (differ _ _ odd) (kind_of_control (control_in_block channel octets) all_frame_kinds)
+      (found_among (control_in_block channel octets) all_frame_kinds)))
 
   pub one_reading : HasUniqueReading channel octets
-  one_reading = elim (cases_lt (address_in_block channel octets) 32) [
-    | inl low ↦ elim (cases_eq _ 0) [
-      | inl even ↦ inr (Ea, refused channel octets Ea (past_lpd channel octets low) even)
-      | inr odd ↦ elim (control_known (control_in_block channel octets)) [
-        | inl (found, is_found) ↦ of_content low odd found is_found
-        | inr unknown ↦ inr (Control, refused channel octets Control (past_address channel octets low odd) unknown)
-      ]
-    ]
-    | inr high ↦ inr (Lpd, refused channel octets Lpd (none_yet channel octets) high)
-  ]
+  one_reading = go (frame_reading channel octets) IsOnlyReading-frame_reading
+    where
+      go : (reading : Result Frame Refusal) → IsOnlyReading channel octets reading → HasUniqueReading channel octets
+      go (Ok f) is = inl (f, is)
+      go (Err reason) is = inr (reason, is)
 
 -- ## Canonical: Each frame has exactly one canonical list of octets, and this list reads back as that frame.
 
@@ -424,59 +416,44 @@ module _ (size : ℕ) (info : List ℕ) (fits : length info ≤ size) where
       get_or-append_right info _ (length info) k 0 refl low
       ∙ get_or-replicate _ _ 0x2b 0 within
 
-past_sdcch : (a b c : ℕ) (xs : List ℕ) (k : ℕ) → 3 ≤ k → get_or (a ∷ b ∷ c ∷ xs) k 0 ≡ get_or xs (k - 3) 0
-past_sdcch a b c xs k low = grind arith
+-- the octets of a frame after its length octet
+past_head : (channel : Channel) (f : Frame) (k : ℕ) → layer1_octet_count channel + 3 ≤ k → get_or (octets_of channel f) k 0
+    ≡ get_or (filled (n201 channel) (information f.content)) (k - (layer1_octet_count channel + 3)) 0
+past_head x f k low = grind arith
 
-past_sacch : (a b c d e : ℕ) (xs : List ℕ) (k : ℕ) → 5 ≤ k →
-    get_or (a ∷ b ∷ c ∷ d ∷ e ∷ xs) k 0 ≡ get_or xs (k - 5) 0
-past_sacch a b c d e xs k low = grind arith
+layer1_zero : (channel : Channel) (f : Frame) (k : ℕ) → k < layer1_octet_count channel → get_or (octets_of channel f) k 0 ≡ 0
+layer1_zero x f k below = grind arith
 
 pub octets_canonical : (channel : Channel) (f : Frame) → FrameFits channel f → IsCanonicalCoding channel f (octets_of channel f)
-octets_canonical Sdcch f fits =
-    let info = information f.content in
-    let length_bound = information_bound Sdcch f.content fits.information in
-    record {
-      frame = record {
-        count = ap (λ n. suc (suc (suc n))) (length-filled 20 info length_bound);
-        fits = fits;
-        address_matches = refl;
-        control_matches = refl;
-        length_matches = refl;
-        information_matches = filled_front 20 info length_bound 3;
-      };
-      layer1_octets_are_zero = λ k below. absurd (omega arith);
-      fill_octets_after_information = λ k low high.
-          let there : length info ≤ k - 3 = omega arith in
-          let within : k - 3 < 20 = omega arith in
-          let past : 3 ≤ k = omega arith in
-          past_sdcch (address_octet f) (control_octet f.content) (length_octet f.content) (filled 20 info) k past
-          ∙ filled_after 20 info length_bound (k - 3) there within;
-    }
-octets_canonical Sacch f fits =
-    let info = information f.content in
-    let length_bound = information_bound Sacch f.content fits.information in
-    record {
-      frame = record {
-        count = ap (λ n. suc (suc (suc (suc (suc n))))) (length-filled 18 info length_bound);
-        fits = fits;
-        address_matches = refl;
-        control_matches = refl;
-        length_matches = refl;
-        information_matches = filled_front 18 info length_bound 5;
-      };
-      layer1_octets_are_zero = below_two;
-      fill_octets_after_information = λ k low high.
-          let there : length info ≤ k - 5 = omega arith in
-          let within : k - 5 < 18 = omega arith in
-          let past : 5 ≤ k = omega arith in
-          past_sacch 0 0 (address_octet f) (control_octet f.content) (length_octet f.content) (filled 18 info) k past
-          ∙ filled_after 18 info length_bound (k - 5) there within;
-    }
+octets_canonical channel f fits = record {
+  frame = frame channel fits;
+  layer1_octets_are_zero = layer1_zero channel f;
+  fill_octets_after_information = λ k low high.
+      past_head channel f k (omega (arith, low))
+      ∙ filled_after (n201 channel) (information f.content) most (k - (layer1_octet_count channel + 3)) (omega (arith, low))
+      (omega (arith, high, room_is_whole channel));
+}
   where
-    below_two : (k : ℕ) → k < 2 → get_or (octets_of Sacch f) k 0 ≡ 0
-    below_two zero below = refl
-    below_two (suc zero) below = refl
-    below_two (suc (suc k)) below = absurd (omega arith)
+    most : length (information f.content) ≤ n201 channel
+    most = information_bound channel f.content fits.information
+
+    frame : (channel : Channel) → FrameFits channel f → IsFrameCoding channel f (octets_of channel f)
+    frame Sdcch fits = let fit = information_bound Sdcch f.content fits.information in record {
+      count = ap (λ n. suc (suc (suc n))) (length-filled 20 (information f.content) fit);
+      fits = fits;
+      address_matches = refl;
+      control_matches = refl;
+      length_matches = refl;
+      information_matches = filled_front 20 (information f.content) fit 3;
+    }
+    frame Sacch fits = let fit = information_bound Sacch f.content fits.information in record {
+      count = ap (λ n. suc (suc (suc (suc (suc n))))) (length-filled 18 (information f.content) fit);
+      fits = fits;
+      address_matches = refl;
+      control_matches = refl;
+      length_matches = refl;
+      information_matches = filled_front 18 (information f.content) fit 5;
+    }
 
 pub only_canonical : (channel : Channel) (f : Frame) → FrameFits channel f → IsOnlyCanonicalCoding channel f (octets_of channel f)
 only_canonical channel f fits =

@@ -1,5 +1,5 @@
 -- Any 23 octets have exactly one reading: either one frame, or one reason why they are refused.
-use Rattle.std.specs.Prelude.{◌≡◌, ℕ, ◌+◌, List, ◌⊎◌, IfSome}
+use Rattle.std.specs.Prelude.{◌≡◌, ℕ, ◌+◌, List, ◌⊎◌, IfSome, Result, Ok, Err}
 use Rattle.std.specs.Borrow.{Bor}
 use Rattle.lapdm_frame.specs.declared.Channel.{Channel}
 use Rattle.lapdm_frame.specs.declared.Refusal.{Refusal}
@@ -31,6 +31,11 @@ pub record IsOnlyCanonicalCoding (channel : Channel) (f : Frame) (octets : List 
 abbrev pub HasUniqueReading : (channel : Channel) (octets : List ℕ) → Type 0
 HasUniqueReading channel octets = ((f : Frame) × IsOnlyEncodedFrame channel f octets) ⊎ ((reason : Refusal) ×
     IsOnlyRefusalReason channel octets reason)
+
+-- the reading is the only frame that the octets encode, or the only reason why they are refused
+abbrev pub IsOnlyReading : (channel : Channel) (octets : List ℕ) (reading : Result Frame Refusal) → Type 0
+IsOnlyReading channel octets (Ok f) = IsOnlyEncodedFrame channel f octets
+IsOnlyReading channel octets (Err reason) = IsOnlyRefusalReason channel octets reason
 
 -- the information of a frame body, if its kind has any, is a borrowed slice of the block that begins directly after the length octet
 abbrev pub InformationIsBorrowed : (channel : Channel) (block : Bor (List ℕ)) (body : Body) → Type 0

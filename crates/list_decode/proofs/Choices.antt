@@ -20,6 +20,10 @@ use Rattle.{
 
 -- ## Choices: The choice of the branch whose most likely word ranks first.
 
+-- a branch without a word, used when an index is out of range
+abbrev pub placeholder_branch : WordBranch
+placeholder_branch = record { span = record { metric = pos 0; word_index = 0; from = 0; to = 0; state = 0 }; best = None; metric = pos 0 }
+
 pub deviation-candidate : (pass : ViterbiPass) (u : List ℕ) (x : Deviation) → IsCompletePass pass →
     IsCandidate (soft_bits_of_pass pass) u → IsDeviation pass u x → IsCandidate (soft_bits_of_pass pass) (word_of_deviation pass u x)
 deviation-candidate pass u x is candidate deviation =

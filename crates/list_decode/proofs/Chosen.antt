@@ -1,14 +1,15 @@
 -- The next word of a ranking is the most likely word of all branches; the branches after it is returned.
 use Rattle.{
   list_decode.{
-    proofs.{Choices.{branch_deviation, deviation-candidate, deviation-deviates}, Classes.{DeviatesAt-earlier, DeviatesAt-unique, Disjoint}},
+    proofs.Choices.{branch_deviation, deviation-candidate, deviation-deviates, placeholder_branch},
+    proofs.Classes.{DeviatesAt-earlier, DeviatesAt-unique, Disjoint},
     proofs.Classes.{IsPartWithout, classes-parted, deviations_after_index-index, parts, ranking-begins_with, without_position-free},
     proofs.{Deviations.{FollowsFrom, LosesAtLeast-in_class, follows-deviation}, Rankings.RanksAfter-trans, Spans.between_from},
     proofs.Spans.{between_to, is_between},
     specs.{
       Branches.{IsBranch, IsDeviationInSpan, IsBranchOfReturnedWord, IsDeviation, IsMostLikelyDeviation, class_of_branch},
       Branches.{deviations_in_span, word_of_deviation},
-      Choices.{IsFirstRankedBranch, IsNotOutrankedBy, deviating_word, placeholder_branch},
+      Choices.{IsFirstRankedBranch, IsNotOutrankedBy, deviating_word},
       Classes.{DeviatesAt, DeviationClass, IsInClass, PartitionsUnreturnedWords, deviations_after_index, deviations_anywhere},
       DeviatingWords.{FollowsSurvivors, is_in_range},
       Partitioning.IsNextRankedWord,

@@ -214,40 +214,6 @@ abbrev pub IsOnChain : RankedWords → List ℕ → ℕ → List ℕ → Type 0
 IsOnChain words cs i u = (at : ℕ) × (u ≡ get_or (returned_words words) at []) × (at < words.count) ×
     IsChainOfDeviations words cs at i
 
--- the chain of deviations continues from the word u with word number c, which deviates from u
-pub record HasNextDeviation (words : RankedWords) (cs : List ℕ) (i c : ℕ) (u : List ℕ) : Type 0 where
-  pub positive : 0 < c
-  pub in_range : c < words.count
-  pub candidate : IsCandidate (soft_bits_of_pass words.pass) u
-  pub deviation : IsDeviation words.pass u (get_or words.deviations (c - 1) placeholder_deviation)
-  pub next : (v : List ℕ) → v ≡ word_of_deviation words.pass u (get_or words.deviations (c - 1) placeholder_deviation)
-      → IsOnChain words cs i v
-
-pub chain-next : (words : RankedWords) (xs : List ℕ) (k i : ℕ) (u : List ℕ) →
-    IsRanking words → k < length xs → IsOnChain words (drop k xs) i u →
-    HasNextDeviation words (drop (k + 1) xs) i (get_or xs k 0) u
-chain-next words xs k i u is_ranking within path =
-    from path.0 path.1 path.2 (rw (drop-at xs k within) at path.3)
-  where
-    from : (at : ℕ) → u ≡ get_or (returned_words words) at [] → at < words.count →
-        IsChainOfDeviations words (get_or xs k 0 ∷ drop (k + 1) xs) at i →
-        HasNextDeviation words (drop (k + 1) xs) i (get_or xs k 0) u
-    from at is small leads =
-        let c = get_or xs k 0 in
-        let back : c - 1 + 1 ≡ c = let s = leads.0 in omega arith in
-        let x = get_or words.deviations (c - 1) placeholder_deviation in
-        let returned : IsMadeByDeviation words.pass (returned_words words) c x =
-        rw back at (is_ranking.made_by_deviation (c - 1) (let s = leads.1 in omega arith)) in
-        let here : get_or (returned_words words) x.word_index [] ≡ u = ap (λ k. get_or (returned_words words) k []) leads.2
-        ∙ sym is in record {
-          positive = leads.0;
-          in_range = leads.1;
-          candidate = rw is (is_ranking.ranked.ranked_words_are_candidates at [] (omega arith));
-          deviation = rw here at returned.deviation;
-          next = λ v written.
-              (c, written ∙ sym (returned.word_is ∙ ap (λ u. word_of_deviation words.pass u x) here), leads.1, leads.3);
-        }
-
 -- The invariant of `ListDecoder` holds after one more word is returned.
 
 -- ---- lemmas about the invariant after the first word is returned

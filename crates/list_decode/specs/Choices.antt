@@ -30,10 +30,6 @@ abbrev pub DecidesLexicographicOrder : (first second : List ℕ) (answer : Bool)
 DecidesLexicographicOrder u v true = IsLexicographicallyBefore u v
 DecidesLexicographicOrder u v false = (u ≡ v) ⊎ IsLexicographicallyBefore v u
 
--- a branch without a word, used when an index is out of range
-abbrev pub placeholder_branch : WordBranch
-placeholder_branch = record { span = record { metric = pos 0; word_index = 0; from = 0; to = 0; state = 0 }; best = None; metric = pos 0 }
-
 -- `choice` is the branch whose most likely word ranks first, or `None` if no branch has a word
 abbrev pub IsFirstRankedBranch : (pass : ViterbiPass) (returned : List (List ℕ)) (branches : List WordBranch)
     (choice : Option BranchChoice) → Type 0

@@ -1,5 +1,5 @@
 -- Words that deviate from another word at one position, and the path metric that the deviation costs.
-use Rattle.std.specs.Prelude.{ℕ, ◌≡◌, Bool, ◌&&◌, nat_le, nat_lt, true, ◌-◌, ◌/◌, ◌%◌, ◌^◌, ◌<◌, ℤ, pos}
+use Rattle.std.specs.Prelude.{ℕ, ◌≡◌, Bool, ◌&&◌, nat_le, nat_lt, true, ◌-◌, ◌<◌, ℤ, pos}
 use Rattle.std.specs.Prelude.{◌≤ℤ◌, List, []}
 use Rattle.std.specs.Prelude.{◌∷◌, slice_index, slice_index_or, take}
 use Rattle.std.proofs.Common.{zero, suc}
@@ -13,14 +13,6 @@ state_after_bits state (x ∷ u) = state_after_bits (next_trellis_state state x)
 -- the loss of a deviation from `word` at `index`, read from the table `losses`: how much path metric the deviation costs
 abbrev pub deviation_loss : (state : ℕ) (word : List ℕ) (losses : List (List ℤ)) (index : ℕ) → ℤ
 deviation_loss state u losses index = slice_index_or (slice_index_or losses index []) (state_after_bits state (take index u)) (pos 0)
-
--- the word that follows the survivors from a given state, but takes the other bit at one position
-abbrev pub survivor_with_deviation : (rows : List ℕ) (state index : ℕ) → List ℕ
-survivor_with_deviation [] state index = []
-survivor_with_deviation (row ∷ rows) state zero =
-    (1 - row / 2 ^ state % 2) ∷ traceback rows (next_trellis_state state (1 - row / 2 ^ state % 2))
-survivor_with_deviation (row ∷ rows) state (suc index) = (row / 2 ^ state % 2) ∷ survivor_with_deviation rows (next_trellis_state state
-    (row / 2 ^ state % 2)) index
 
 -- `index` is the position before `limit` where deviating from `word` has the least loss, which is `loss`; among positions with this loss,
 -- it gives the first word in lexicographic order

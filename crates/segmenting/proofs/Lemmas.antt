@@ -40,30 +40,28 @@ messages_ending_in_segments-cut_segments n zero partial m ps = refl
 messages_ending_in_segments-cut_segments n (suc k) partial m ps =
     rw (messages_ending_in_segments-cut_segments n k (partial ++ take n m) (drop n m) ps, append_assoc, take-append-drop n m) refl
 
-partial_message_after-more : (partial : List ℕ) (ps : List Segment) (octets : List ℕ) →
-    partial_message_after partial (ps ++ (octets, true) ∷ []) ≡ partial_message_after partial ps ++ octets
-partial_message_after-more partial [] octets = refl
-partial_message_after-more partial ((o, true) ∷ ps) octets = partial_message_after-more _ ps _
-partial_message_after-more partial ((o, false) ∷ ps) octets = partial_message_after-more [] ps _
+partial_message_after-append : (partial : List ℕ) (ps qs : List Segment) →
+    partial_message_after partial (ps ++ qs) ≡ partial_message_after (partial_message_after partial ps) qs
+partial_message_after-append partial [] qs = refl
+partial_message_after-append partial ((o, true) ∷ ps) qs = partial_message_after-append _ ps qs
+partial_message_after-append partial ((o, false) ∷ ps) qs = partial_message_after-append [] ps qs
 
-partial_message_after-last : (partial : List ℕ) (ps : List Segment) (octets : List ℕ) →
-    partial_message_after partial (ps ++ (octets, false) ∷ []) ≡ []
-partial_message_after-last partial [] octets = refl
-partial_message_after-last partial ((o, true) ∷ ps) octets = partial_message_after-last _ ps _
-partial_message_after-last partial ((o, false) ∷ ps) octets = partial_message_after-last [] ps _
+pub messages_ending_in_segments-append : (partial : List ℕ) (ps qs : List Segment) →
+    messages_ending_in_segments partial (ps ++ qs) ≡ messages_ending_in_segments partial ps
+    ++ messages_ending_in_segments (partial_message_after partial ps) qs
+messages_ending_in_segments-append partial [] qs = refl
+messages_ending_in_segments-append partial ((o, true) ∷ ps) qs = messages_ending_in_segments-append _ ps qs
+messages_ending_in_segments-append partial ((o, false) ∷ ps) qs = grind (arith, messages_ending_in_segments-append [] ps qs)
 
 pub messages_ending_in_segments-more : (partial : List ℕ) (ps : List Segment) (octets : List ℕ) →
     messages_ending_in_segments partial (ps ++ (octets, true) ∷ []) ≡ messages_ending_in_segments partial ps
-messages_ending_in_segments-more partial [] octets = refl
-messages_ending_in_segments-more partial ((o, true) ∷ ps) octets = messages_ending_in_segments-more _ ps _
-messages_ending_in_segments-more partial ((o, false) ∷ ps) octets = rw (messages_ending_in_segments-more [] ps octets)
+messages_ending_in_segments-more partial ps octets =
+    messages_ending_in_segments-append partial ps ((octets, true) ∷ []) ∙ append-nil _
 
 pub messages_ending_in_segments-last : (partial : List ℕ) (ps : List Segment) (octets : List ℕ) →
     messages_ending_in_segments partial (ps ++ (octets, false) ∷ []) ≡ messages_ending_in_segments partial ps ++ message_if_fits
     (partial_message_after partial ps ++ octets) ∷ []
-messages_ending_in_segments-last partial [] octets = refl
-messages_ending_in_segments-last partial ((o, true) ∷ ps) octets = messages_ending_in_segments-last _ ps _
-messages_ending_in_segments-last partial ((o, false) ∷ ps) octets = rw (messages_ending_in_segments-last [] ps octets)
+messages_ending_in_segments-last partial ps octets = messages_ending_in_segments-append partial ps ((octets, false) ∷ [])
 
 completed_message_after-more : (partial : List ℕ) (ps : List Segment) (octets : List ℕ) →
     completed_message_after partial (ps ++ (octets, true) ∷ []) ≡ []
@@ -261,13 +259,6 @@ filter_map-some (m ∷ ms) = rw (filter_map-some ms)
 pub messages-segments : (n : ℕ) (ms : List Message) → All IsValidMessage ms → messages (flat_map (segments n) ms) ≡ ms
 messages-segments n ms h = rw (messages_ending_in_segments-all n ms h) (filter_map-some ms)
 
-pub messages_ending_in_segments-append : (partial : List ℕ) (ps qs : List Segment) →
-    messages_ending_in_segments partial (ps ++ qs) ≡ messages_ending_in_segments partial ps
-    ++ messages_ending_in_segments (partial_message_after partial ps) qs
-messages_ending_in_segments-append partial [] qs = refl
-messages_ending_in_segments-append partial ((o, true) ∷ ps) qs = messages_ending_in_segments-append _ ps qs
-messages_ending_in_segments-append partial ((o, false) ∷ ps) qs = grind (arith, messages_ending_in_segments-append [] ps qs)
-
 -- whether a segment is the last of its message, that is, has M = 0
 abbrev is_last : Segment → Bool
 is_last p = not p.1
@@ -371,12 +362,22 @@ too_long ps octets h = grind (arith, length-append (partial_message ps) octets)
 pub goes_on : (ps : List Segment) (octets held : List ℕ) → held ≡ partial_message ps ++ octets →
     length held ≤ max_message_octets → HoldsReassemblyOf P.Open held (ps ++ (octets, true) ∷ [])
 goes_on ps octets held e h =
-    grind (arith, message_if_fits-some held h, partial_message_after-more [] ps octets, completed_message_after-more [] ps octets)
+    grind (
+      arith,
+      message_if_fits-some held h,
+      partial_message_after-append [] ps ((octets, true) ∷ []),
+      completed_message_after-more [] ps octets,
+    )
 
 pub completes : (ps : List Segment) (octets held : List ℕ) → held ≡ partial_message ps ++ octets → 1 ≤ length held →
     length held ≤ max_message_octets → HoldsReassemblyOf P.Whole held (ps ++ (octets, false) ∷ [])
 completes ps octets held e some h =
-    grind (arith, message_if_fits-some held h, partial_message_after-last [] ps octets, completed_message_after-last [] ps octets)
+    grind (
+      arith,
+      message_if_fits-some held h,
+      partial_message_after-append [] ps ((octets, false) ∷ []),
+      completed_message_after-last [] ps octets,
+    )
 
 pub taken_oversize : (ps : List Segment) (octets : List ℕ) → max_message_octets < length (partial_message ps ++ octets) →
     HoldsReassemblyOf P.Discarding [] (ps ++ (octets, true) ∷ [])
@@ -384,7 +385,7 @@ taken_oversize ps octets h =
     grind (
       arith,
       message_if_fits-none (partial_message ps ++ octets) h,
-      partial_message_after-more [] ps octets,
+      partial_message_after-append [] ps ((octets, true) ∷ []),
       completed_message_after-more [] ps octets,
     )
 
@@ -394,7 +395,7 @@ drops ps octets h =
     grind (
       arith,
       message_if_fits-none (partial_message ps ++ octets) h,
-      partial_message_after-last [] ps octets,
+      partial_message_after-append [] ps ((octets, false) ∷ []),
       completed_message_after-last [] ps octets,
     )
 
@@ -450,32 +451,23 @@ count_of_empty r segment few =
     ap (λ n. n % 8) (length-append _ _ ∙ ap (λ n. n + 1) (length-empty_last_segments ((r + 7) % 8)))
     ∙ mod8-next r few
 
+-- a joiner that holds `held` after empty messages and one more segment has a history
+brings : (part : ReassemblyState) (held : List ℕ) (r : ℕ) (last : Segment) → r ≤ 7 →
+    HoldsReassemblyOf part held (empty_last_segments ((r + 7) % 8) ++ last ∷ []) → HasHistory part held r
+brings part held r last few holds =
+    record { taken = empty_last_segments ((r + 7) % 8) ++ last ∷ []; count = count_of_empty r last few; reassembly = holds }
+
 history_of : (part : ReassemblyState) (held : List ℕ) (r : ℕ) → r ≤ 7 → length held ≤ max_message_octets →
     IsPossiblePart part held → HasHistory part held r
-history_of P.Open held r few fits possible =
-    let k = (r + 7) % 8 in
-    record {
-      taken = empty_last_segments k ++ (held, true) ∷ [];
-      count = count_of_empty r (held, true) few;
-      reassembly = goes_on _ _ _ (begins k _) fits;
-    }
+history_of P.Open held r few fits possible = brings P.Open held r (held, true) few (goes_on _ _ _ (begins ((r + 7) % 8) _) fits)
 history_of P.Whole held r few fits possible =
-    let k = (r + 7) % 8 in
-    record {
-      taken = empty_last_segments k ++ (held, false) ∷ [];
-      count = count_of_empty r (held, false) few;
-      reassembly = completes _ held held (begins k held) possible fits;
-    }
+    brings P.Whole held r (held, false) few (completes _ held held (begins ((r + 7) % 8) held) possible fits)
 history_of P.Discarding held r few fits possible =
-    let k = (r + 7) % 8 in
     let long = replicate 252 0 in
-    let over = taken_oversize _ long (omega (arith, ap length (begins k long), length-replicate {A = ℕ} 252 0)) in
-    record {
-      taken = empty_last_segments k ++ (long, true) ∷ [];
-      count = count_of_empty r (long, true) few;
-      reassembly = subst (λ octets. HoldsReassemblyOf P.Discarding octets (empty_last_segments k ++ (long, true) ∷ []))
-          (sym possible) over;
-    }
+    let over = taken_oversize _ long (omega (arith, ap length (begins ((r + 7) % 8) long), length-replicate {A = ℕ} 252 0)) in
+    brings P.Discarding held r (long, true) few
+    (subst (λ octets. HoldsReassemblyOf P.Discarding octets (empty_last_segments ((r + 7) % 8) ++ (long, true) ∷ []))
+    (sym possible) over)
 
 possible_part : (part : ReassemblyState) (count : ℕ) (octets : List ℕ) → (part ≡ P.Discarding → count ≡ 0) →
     (part ≡ P.Whole → 1 ≤ length (take count octets)) → IsPossiblePart part (take count octets)

@@ -2,16 +2,16 @@
 use Rattle.{
   bit_blocks.proofs.Lemmas.{at_passes_below, both_true, passes_below},
   std.proofs.Common.{Bool, Contains, List, Option, None, Some, [], ap, arith, eqb, false, ltb, not, refl, subst, sym, true, ℕ, cond, inl},
-  std.proofs.Common.{inr, ◌%◌, ◌&&◌, ◌*◌, ◌+◌, ◌-◌, ◌/◌, ◌<◌, ◌∙◌, ◌≡◌, ◌≢◌, ◌∷◌},
+  std.proofs.Common.{inr, ◌%◌, ◌&&◌, ◌*◌, ◌+◌, ◌-◌, ◌/◌, ◌<◌, ◌∙◌, ◌≡◌, ◌∷◌},
   std.proofs.{Common.{◌⊎◌, ◌||◌}, lemmas.Bool.{Decides.{Decides-eqb, Decides-ltb, Decides-or, nat_tests}, cases_lt}},
   std.proofs.lemmas.List.Elements.{All-cons, All-contains, All-nil, Contains-append_left, Contains-append_right, Contains-push},
   std.{proofs.lemmas.List.Sums.AllPass-from_list_all, specs.List.list_all},
   tdma.{
     specs.{
-      declared.channels.{Channel.TheVariants.Sacch, Combination.{Combination, TheVariants.{BcchCcch, BcchCcchSdcch4, Sdcch8, TchF}}},
+      declared.channels.{Channel.TheVariants.Sacch, Combination.{Combination, TheVariants.{BcchCcch, BcchCcchSdcch4, Sdcch8, TchF, TchH}}},
       declared.{channels.Direction.{Direction, TheVariants.{Downlink, Uplink}}, TheConstants.HYPERFRAME, places.Place.Place},
       declared.schedule.Position.Position,
-      Channels.{Mapping, burst_spacing, carries, frames_since, mappings, place_at, place_of, position_among, position_of},
+      Channels.{Mapping, burst_spacing, carries, frames_since, is_traffic, mappings, place_at, place_of, position_among, position_of},
     },
     proofs.{Cycles.{position_at_remainder, repeats, same_since}, Tables.{is_same, same_positions}},
   },
@@ -53,28 +53,31 @@ alone_vii_up : passes_below (are_alone Sdcch8 Uplink) 102 ≡ true
 unfolding passes_below
 alone_vii_up = cc
 
-all_alone : (c : Combination) (d : Direction) → c ≢ TchF → passes_below (are_alone c d) 102 ≡ true
+all_alone : (c : Combination) (d : Direction) → is_traffic c ≡ false → passes_below (are_alone c d) 102 ≡ true
 all_alone BcchCcch Downlink h = alone_iv_down
 all_alone BcchCcch Uplink h = alone_iv_up
 all_alone BcchCcchSdcch4 Downlink h = alone_v_down
 all_alone BcchCcchSdcch4 Uplink h = alone_v_up
 all_alone Sdcch8 Downlink h = alone_vii_down
 all_alone Sdcch8 Uplink h = alone_vii_up
-all_alone TchF d h = absurd (h refl)
+all_alone TchF d h = absurd cc
+all_alone TchH d h = absurd cc
 
 abbrev is_row : Mapping → Bool
 is_row m = repeats m && (ltb m.first m.repeat_length && ltb m.bursts 5)
 
-rows_are_rows : (c : Combination) (d : Direction) → c ≢ TchF → list_all is_row (mappings c d 0) ≡ true
+rows_are_rows : (c : Combination) (d : Direction) → is_traffic c ≡ false → list_all is_row (mappings c d 0) ≡ true
 rows_are_rows BcchCcch Downlink h = refl
 rows_are_rows BcchCcch Uplink h = refl
 rows_are_rows BcchCcchSdcch4 Downlink h = refl
 rows_are_rows BcchCcchSdcch4 Uplink h = refl
 rows_are_rows Sdcch8 Downlink h = refl
 rows_are_rows Sdcch8 Uplink h = refl
-rows_are_rows TchF d h = absurd (h refl)
+rows_are_rows TchF d h = absurd cc
+rows_are_rows TchH d h = absurd cc
 
-row_is_row : (c : Combination) (d : Direction) (row : Mapping) → c ≢ TchF → Contains (mappings c d 0) row → is_row row ≡ true
+row_is_row : (c : Combination) (d : Direction) (row : Mapping) → is_traffic c ≡ false → Contains (mappings c d 0) row →
+    is_row row ≡ true
 row_is_row c d row h among =
     All-contains (λ m. is_row m ≡ true) (mappings c d 0) row (AllPass-from_list_all is_row (mappings c d 0) (rows_are_rows c d h)) among
 
@@ -82,7 +85,8 @@ implied : (a b : Bool) → a ≡ true → (not a || b) ≡ true → b ≡ true
 implied true b h e = e
 implied false b h e = cc
 
-alone_at : (c : Combination) (d : Direction) (row : Mapping) (n : ℕ) → c ≢ TchF → Contains (mappings c d 0) row → n < 102 →
+alone_at : (c : Combination) (d : Direction) (row : Mapping) (n : ℕ) → is_traffic c ≡ false → Contains (mappings c d 0) row →
+    n < 102 →
     carries 1 row n ≡ true → position_of c d 0 n ≡ Some (burst_of_row 1 row n)
 alone_at c d row n h among lt carried =
     let here = at_passes_below (are_alone c d) 102 (all_alone c d h) n lt in
@@ -90,16 +94,17 @@ alone_at c d row n h among lt carried =
     (AllPass-from_list_all (is_alone (position_of c d 0 n) n) (mappings c d 0) here) among in
     same_positions _ _ (implied (carries 1 row n) (is_same (position_of c d 0 n) (Some (burst_of_row 1 row n))) carried alone)
 
-mappings_same : (c : Combination) (d : Direction) (timeslot : ℕ) → c ≢ TchF → mappings c d timeslot ≡ mappings c d 0
+mappings_same : (c : Combination) (d : Direction) (timeslot : ℕ) → is_traffic c ≡ false → mappings c d timeslot ≡ mappings c d 0
 mappings_same BcchCcch Downlink t h = refl
 mappings_same BcchCcch Uplink t h = refl
 mappings_same BcchCcchSdcch4 Downlink t h = refl
 mappings_same BcchCcchSdcch4 Uplink t h = refl
 mappings_same Sdcch8 Downlink t h = refl
 mappings_same Sdcch8 Uplink t h = refl
-mappings_same TchF d t h = absurd (h refl)
+mappings_same TchF d t h = absurd cc
+mappings_same TchH d t h = absurd cc
 
-alone_in_slot : (c : Combination) (d : Direction) (timeslot f : ℕ) (row : Mapping) → c ≢ TchF →
+alone_in_slot : (c : Combination) (d : Direction) (timeslot f : ℕ) (row : Mapping) → is_traffic c ≡ false →
     Contains (mappings c d timeslot) row →
     carries 1 row f ≡ true → position_of c d timeslot f ≡ Some (burst_of_row 1 row f)
 alone_in_slot c d t f row h among carried =
@@ -112,23 +117,52 @@ alone_in_slot c d t f row h among carried =
     ∙ alone_at c d row (f % 102) h there (omega arith) carried'
     ∙ ap (λ n. Some (let p : Position = record { channel = row.channel; subchannel = row.subchannel; burst = n / 1 } in p)) since
 
-traffic_row : (t : ℕ) → Mapping
-traffic_row t = record { channel = Sacch; subchannel = 0; bursts = 4; repeat_length = 104; first = 12 + 13 * t }
+sacch_row : (subchannel first : ℕ) → Mapping
+sacch_row n f = record { channel = Sacch; subchannel = n; bursts = 4; repeat_length = 104; first = f }
 
-traffic_alone : (d : Direction) (t f : ℕ) (row : Mapping) → Contains (mappings TchF d t) row →
+full_rate_alone : (d : Direction) (t f : ℕ) (row : Mapping) → Contains (mappings TchF d t) row →
     carries 26 row f ≡ true → position_of TchF d t f ≡ Some (burst_of_row 26 row f)
-unfolding traffic_row
-traffic_alone d t f row among =
+unfolding sacch_row
+full_rate_alone d t f row among =
     let P : Mapping → Type 0 = λ m. carries 26 m f ≡ true → position_of TchF d t f ≡ Some (burst_of_row 26 m f) in
-    let own : P (traffic_row t) = λ carried. ap (λ b. cond b (Some (burst_of_row 26 (traffic_row t) f)) None) carried in
-    All-contains P (mappings TchF d t) row (All-cons P (traffic_row t) [] own (All-nil P)) among
+    let own : P (sacch_row 0 (12 + 13 * t)) =
+    λ carried. ap (λ b. cond b (Some (burst_of_row 26 (sacch_row 0 (12 + 13 * t)) f)) None) carried in
+    All-contains P (mappings TchF d t) row (All-cons P (sacch_row 0 (12 + 13 * t)) [] own (All-nil P)) among
 
-pub alone_anywhere : (c : Combination) (d : Direction) (timeslot f : ℕ) (row : Mapping) → Contains (mappings c d timeslot) row →
-    carries (burst_spacing c) row f ≡ true → position_of c d timeslot f ≡ Some (burst_of_row (burst_spacing c) row f)
-alone_anywhere BcchCcch d t f row = alone_in_slot BcchCcch d t f row (λ e. cc)
-alone_anywhere BcchCcchSdcch4 d t f row = alone_in_slot BcchCcchSdcch4 d t f row (λ e. cc)
-alone_anywhere Sdcch8 d t f row = alone_in_slot Sdcch8 d t f row (λ e. cc)
-alone_anywhere TchF d t f row = traffic_alone d t f row
+-- the two halves of a time slot have their SACCH 13 frames apart, so never in one frame
+not_both : (t f : ℕ) → t < 8 → carries 26 (sacch_row 1 (25 + 26 * (t / 2))) f ≡ true →
+    carries 26 (sacch_row 0 (12 + 26 * (t / 2))) f ≡ false
+unfolding sacch_row
+not_both t f slot carried = grind (arith, nat_tests)
+
+half_rate_alone : (d : Direction) (t f : ℕ) (row : Mapping) → t < 8 → Contains (mappings TchH d t) row →
+    carries 26 row f ≡ true → position_of TchH d t f ≡ Some (burst_of_row 26 row f)
+unfolding sacch_row
+half_rate_alone d t f row slot among =
+    let P : Mapping → Type 0 = λ m. carries 26 m f ≡ true → position_of TchH d t f ≡ Some (burst_of_row 26 m f) in
+    let zeroth : Mapping = sacch_row 0 (12 + 26 * (t / 2)) in
+    let other : Mapping = sacch_row 1 (25 + 26 * (t / 2)) in
+    let rest : Option Position = cond (carries 26 other f) (Some (burst_of_row 26 other f)) None in
+    let own : P zeroth = λ carried. ap (λ b. cond b (Some (burst_of_row 26 zeroth f)) rest) carried in
+    let its : P other = λ carried.
+    ap (λ b. cond b (Some (burst_of_row 26 zeroth f)) rest) (not_both t f slot carried)
+    ∙ ap (λ b. cond b (Some (burst_of_row 26 other f)) None) carried in
+    All-contains P (mappings TchH d t) row (All-cons P zeroth (other ∷ []) own (All-cons P other [] its (All-nil P))) among
+
+traffic_alone : (c : Combination) (d : Direction) (t f : ℕ) (row : Mapping) → is_traffic c ≡ true → t < 8 →
+    Contains (mappings c d t) row → carries 26 row f ≡ true → position_of c d t f ≡ Some (burst_of_row 26 row f)
+traffic_alone TchF d t f row h slot among = full_rate_alone d t f row among
+traffic_alone TchH d t f row h slot among = half_rate_alone d t f row slot among
+traffic_alone c d t f row h slot among = absurd cc
+
+pub alone_anywhere : (c : Combination) (d : Direction) (timeslot f : ℕ) (row : Mapping) → timeslot < 8 →
+    Contains (mappings c d timeslot) row → carries (burst_spacing c) row f ≡ true →
+    position_of c d timeslot f ≡ Some (burst_of_row (burst_spacing c) row f)
+alone_anywhere BcchCcch d t f row slot = alone_in_slot BcchCcch d t f row refl
+alone_anywhere BcchCcchSdcch4 d t f row slot = alone_in_slot BcchCcchSdcch4 d t f row refl
+alone_anywhere Sdcch8 d t f row slot = alone_in_slot Sdcch8 d t f row refl
+alone_anywhere TchF d t f row slot = traffic_alone TchF d t f row refl slot
+alone_anywhere TchH d t f row slot = traffic_alone TchH d t f row refl slot
 
 -- ## First: the first frame of a frame's block.
 
@@ -230,7 +264,7 @@ record IsPeriodic (row : Mapping) : Type 0 where
   length : (row.repeat_length ≡ 51) ⊎ ((row.repeat_length ≡ 102) ⊎ (row.repeat_length ≡ 104))
   start : row.first < row.repeat_length
 
-periodic_in_slot : (c : Combination) (d : Direction) (timeslot : ℕ) (row : Mapping) → c ≢ TchF →
+periodic_in_slot : (c : Combination) (d : Direction) (timeslot : ℕ) (row : Mapping) → is_traffic c ≡ false →
     Contains (mappings c d timeslot) row → IsPeriodic row
 periodic_in_slot c d t row h among =
     let there = subst (λ ms. Contains ms row) (mappings_same c d t h) among in
@@ -244,19 +278,35 @@ periodic_in_slot c d t row h among =
       start = (Decides-ltb row.first row.repeat_length).0 (both_true starts short one.1).0;
     }
 
-periodic_in_traffic : (d : Direction) (timeslot : ℕ) (row : Mapping) → timeslot < 8 → Contains (mappings TchF d timeslot) row →
-    IsPeriodic row
-periodic_in_traffic d t row slot among =
-    All-contains IsPeriodic (mappings TchF d t) row
-    (All-cons IsPeriodic _ [] (record { length = inr (inr refl); start = omega arith }) (All-nil IsPeriodic)) among
+abbrev IsSacchRow : Mapping → Type 0
+IsSacchRow row = (row.repeat_length ≡ 104) × (row.first < 104) × (row.bursts ≡ 4)
 
-first_of_row : (c : Combination) (d : Direction) (timeslot f first : ℕ) (p : Position) (row : Mapping) → IsPeriodic row →
+sacch_rows : (c : Combination) (d : Direction) (timeslot : ℕ) (row : Mapping) → is_traffic c ≡ true → timeslot < 8 →
+    Contains (mappings c d timeslot) row → IsSacchRow row
+unfolding sacch_row
+sacch_rows TchF d t row h slot among =
+    All-contains IsSacchRow (mappings TchF d t) row
+    (All-cons IsSacchRow (sacch_row 0 (12 + 13 * t)) [] (refl, omega arith, refl) (All-nil IsSacchRow)) among
+sacch_rows TchH d t row h slot among =
+    All-contains IsSacchRow (mappings TchH d t) row
+    (All-cons IsSacchRow (sacch_row 0 (12 + 26 * (t / 2))) (sacch_row 1 (25 + 26 * (t / 2)) ∷ []) (refl, omega arith, refl)
+    (All-cons IsSacchRow (sacch_row 1 (25 + 26 * (t / 2))) [] (refl, omega arith, refl) (All-nil IsSacchRow))) among
+sacch_rows c d t row h slot among = absurd cc
+
+periodic_in_traffic : (c : Combination) (d : Direction) (timeslot : ℕ) (row : Mapping) → is_traffic c ≡ true → timeslot < 8 →
+    Contains (mappings c d timeslot) row → IsPeriodic row
+periodic_in_traffic c d t row h slot among =
+    let shape = sacch_rows c d t row h slot among in
+    record { length = inr (inr shape.0); start = rw (shape.0) (shape.1) }
+
+first_of_row : (c : Combination) (d : Direction) (timeslot f first : ℕ) (p : Position) (row : Mapping) → timeslot < 8 →
+    IsPeriodic row →
     Contains (mappings c d timeslot) row → carries (burst_spacing c) row f ≡ true →
     burst_spacing c * (frames_since row f / burst_spacing c) ≡ frames_since row f → 0 % burst_spacing c ≡ 0 →
     0 / burst_spacing c ≡ 0 → p ≡ burst_of_row (burst_spacing c) row f →
     first ≡ (f + HYPERFRAME - burst_spacing c * p.burst) % HYPERFRAME →
     place_of c d timeslot first ≡ Some (record { first = first; position = record p { burst = 0 } })
-first_of_row c d t f first p row periodic among carried whole none zeroth burst is_first =
+first_of_row c d t f first p row slot periodic among carried whole none zeroth burst is_first =
     let s : ℕ = burst_spacing c in
     let back : s * p.burst ≡ frames_since row f = ap (λ (q : Position). s * q.burst) burst ∙ whole in
     let since : frames_since row first ≡ 0 =
@@ -266,7 +316,8 @@ first_of_row c d t f first p row periodic among carried whole none zeroth burst 
     let zero_burst : frames_since row first / s ≡ 0 = ap (λ n. n / s) since ∙ zeroth in
     let carried' : carries s row first ≡ true =
     carries_burst s first 0 row some (ap (λ n. n % s) since ∙ none) zero_burst in
-    let placed = place_of_burst s first first 0 (position_of c d t first) row (alone_anywhere c d t first row among carried') zero_burst
+    let placed = place_of_burst s first first 0 (position_of c d t first) row
+    (alone_anywhere c d t first row slot among carried') zero_burst
     (omega arith) in
     placed
     ∙ ap (λ (q : Position). Some (let made : Place = record { first = first; position = record q { burst = 0 } } in made)) (sym burst)
@@ -284,20 +335,24 @@ first_of_block c d t f p slot found =
         p.first ≡ (f + HYPERFRAME - burst_spacing c * p.position.burst) % HYPERFRAME →
         place_of c d timeslot p.first ≡ Some (record { first = p.first; position = record p.position { burst = 0 } })
     by_combination BcchCcch d t f p slot its first =
-        first_of_row BcchCcch d t f p.first p.position its.row (periodic_in_slot BcchCcch d t its.row (λ e. cc) its.among) its.among
+        first_of_row BcchCcch d t f p.first p.position its.row slot (periodic_in_slot BcchCcch d t its.row refl its.among) its.among
         its.carried (omega arith) refl refl its.burst first
     by_combination BcchCcchSdcch4 d t f p slot its first =
-        first_of_row BcchCcchSdcch4 d t f p.first p.position its.row (periodic_in_slot BcchCcchSdcch4 d t its.row (λ e. cc) its.among)
+        first_of_row BcchCcchSdcch4 d t f p.first p.position its.row slot (periodic_in_slot BcchCcchSdcch4 d t its.row refl its.among)
         its.among its.carried (omega arith) refl refl its.burst first
     by_combination Sdcch8 d t f p slot its first =
-        first_of_row Sdcch8 d t f p.first p.position its.row (periodic_in_slot Sdcch8 d t its.row (λ e. cc) its.among) its.among
+        first_of_row Sdcch8 d t f p.first p.position its.row slot (periodic_in_slot Sdcch8 d t its.row refl its.among) its.among
         its.carried (omega arith) refl refl its.burst first
     by_combination TchF d t f p slot its first =
         let whole : frames_since its.row f % 26 ≡ 0 = grind (arith, nat_tests, its.carried) in
-        first_of_row TchF d t f p.first p.position its.row (periodic_in_traffic d t its.row slot its.among) its.among its.carried
-        (omega arith) refl refl its.burst first
+        first_of_row TchF d t f p.first p.position its.row slot (periodic_in_traffic TchF d t its.row refl slot its.among) its.among
+        its.carried (omega arith) refl refl its.burst first
+    by_combination TchH d t f p slot its first =
+        let whole : frames_since its.row f % 26 ≡ 0 = grind (arith, nat_tests, its.carried) in
+        first_of_row TchH d t f p.first p.position its.row slot (periodic_in_traffic TchH d t its.row refl slot its.among) its.among
+        its.carried (omega arith) refl refl its.burst first
 
-pub placed_in_slot : (c : Combination) (d : Direction) (timeslot n b : ℕ) (row : Mapping) → c ≢ TchF →
+pub placed_in_slot : (c : Combination) (d : Direction) (timeslot n b : ℕ) (row : Mapping) → is_traffic c ≡ false →
     Contains (mappings c d timeslot) row → b < row.bursts →
     let first = (row.first + row.repeat_length * n) % HYPERFRAME in
     place_at 1 ((first + 1 * b) % HYPERFRAME) (position_of c d timeslot ((first + 1 * b) % HYPERFRAME)) ≡
@@ -323,29 +378,30 @@ placed_in_slot c d t n b row h among lt =
     place_of_burst 1 f first b (position_of c d t f) row (alone_in_slot c d t f row h among (carries_burst 1 f b row lt whole burst)) burst
     (back_to_first first 1 b under (omega arith))
 
-pub placed_in_traffic : (d : Direction) (timeslot n b : ℕ) (row : Mapping) → timeslot < 8 →
-    Contains (mappings TchF d timeslot) row → b < row.bursts →
+pub placed_in_traffic : (c : Combination) (d : Direction) (timeslot n b : ℕ) (row : Mapping) → is_traffic c ≡ true →
+    timeslot < 8 →
+    Contains (mappings c d timeslot) row → b < row.bursts →
     let first = (row.first + row.repeat_length * n) % HYPERFRAME in
-    place_of TchF d timeslot ((first + 26 * b) % HYPERFRAME) ≡
+    place_at 26 ((first + 26 * b) % HYPERFRAME) (position_of c d timeslot ((first + 26 * b) % HYPERFRAME)) ≡
     Some (record { first = first; position = record { channel = row.channel; subchannel = row.subchannel; burst = b } })
-placed_in_traffic d t n b row slot among lt =
-    let P : Mapping → Type 0 = λ m. (m.repeat_length ≡ 104) × (m.first < 104) × (m.bursts ≡ 4) in
-    let shape : P row = All-contains P (mappings TchF d t) row (All-cons P _ [] (refl, omega arith, refl) (All-nil P)) among in
+placed_in_traffic c d t n b row h slot among lt =
+    let shape = sacch_rows c d t row h slot among in
     let first : ℕ = (row.first + row.repeat_length * n) % HYPERFRAME in
     let f : ℕ = (first + 26 * b) % HYPERFRAME in
     let since : frames_since row f ≡ 26 * b = rw (shape.0) (since_first_104 row.first n b shape.1 (omega arith)) in
     let burst : frames_since row f / 26 ≡ b = omega arith in
     let whole : frames_since row f % 26 ≡ 0 = omega arith in
     let under : first < HYPERFRAME = omega arith in
-    place_of_burst 26 f first b (position_of TchF d t f) row (traffic_alone d t f row among (carries_burst 26 f b row lt whole burst)) burst
-    (back_to_first first 26 b under (omega arith))
+    place_of_burst 26 f first b (position_of c d t f) row
+    (traffic_alone c d t f row h slot among (carries_burst 26 f b row lt whole burst)) burst (back_to_first first 26 b under (omega arith))
 
 pub placed : (c : Combination) (d : Direction) (timeslot n b : ℕ) (row : Mapping) → timeslot < 8 →
     Contains (mappings c d timeslot) row → b < row.bursts →
     let first = (row.first + row.repeat_length * n) % HYPERFRAME in
     place_of c d timeslot ((first + burst_spacing c * b) % HYPERFRAME) ≡
     Some (record { first = first; position = record { channel = row.channel; subchannel = row.subchannel; burst = b } })
-placed BcchCcch d t n b row slot among lt = placed_in_slot BcchCcch d t n b row (λ e. cc) among lt
-placed BcchCcchSdcch4 d t n b row slot among lt = placed_in_slot BcchCcchSdcch4 d t n b row (λ e. cc) among lt
-placed Sdcch8 d t n b row slot among lt = placed_in_slot Sdcch8 d t n b row (λ e. cc) among lt
-placed TchF d t n b row slot among lt = placed_in_traffic d t n b row slot among lt
+placed BcchCcch d t n b row slot among lt = placed_in_slot BcchCcch d t n b row refl among lt
+placed BcchCcchSdcch4 d t n b row slot among lt = placed_in_slot BcchCcchSdcch4 d t n b row refl among lt
+placed Sdcch8 d t n b row slot among lt = placed_in_slot Sdcch8 d t n b row refl among lt
+placed TchF d t n b row slot among lt = placed_in_traffic TchF d t n b row refl slot among lt
+placed TchH d t n b row slot among lt = placed_in_traffic TchH d t n b row refl slot among lt

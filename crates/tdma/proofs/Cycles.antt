@@ -3,22 +3,22 @@ use Rattle.{
   bit_blocks.proofs.Lemmas.both_true,
   std.{
     proofs.{
-      Common.{Bool, List, Option, [], ap, arith, eqb, refl, sym, true, ℕ, inl, inr, ◌%◌, ◌&&◌, ◌+◌, ◌-◌, ◌<◌},
+      Common.{Bool, List, Option, [], ap, arith, cond, eqb, false, refl, sym, true, ℕ, inl, inr, ◌%◌, ◌&&◌, ◌+◌, ◌-◌},
+      Common.{◌<◌},
       Common.{◌∙◌, ◌≡◌, ◌≢◌, ◌⊎◌, ◌∷◌, Some, leb, ◌||◌},
       lemmas.Bool.Decides.{nat_tests, Decides-eqb, Decides-or},
     },
     specs.List.list_all,
   },
   tdma.specs.{
-    Channels.{burst_spacing, Mapping, frames_since, mappings, position_among, position_of},
-    declared.{TheConstants.HYPERFRAME, channels.Combination.{Combination, TheVariants.{BcchCcch, BcchCcchSdcch4, Sdcch8, TchF}}},
+    Channels.{burst_spacing, is_traffic, Mapping, frames_since, mappings, position_among, position_of},
+    declared.{TheConstants.HYPERFRAME, channels.Combination.{Combination, TheVariants.{BcchCcch, BcchCcchSdcch4, Sdcch8, TchF, TchH}}},
     declared.{channels.Direction.{Direction, TheVariants.{Downlink, Uplink}}, schedule.Position.Position},
   },
 }
 
 abbrev pub cycle : Combination → ℕ
-cycle TchF = 104
-cycle _ = 102
+cycle c = cond (is_traffic c) 104 102
 
 abbrev pub repeats : (row : Mapping) → Bool
 repeats m = eqb m.repeat_length 51 || eqb m.repeat_length 102
@@ -56,8 +56,9 @@ same_in_cycle BcchCcchSdcch4 Uplink t f g same = same_among 1 (mappings BcchCcch
 same_in_cycle Sdcch8 Downlink t f g same = same_among 1 (mappings Sdcch8 Downlink t) f g refl same
 same_in_cycle Sdcch8 Uplink t f g same = same_among 1 (mappings Sdcch8 Uplink t) f g refl same
 same_in_cycle TchF d t f g same = cc
+same_in_cycle TchH d t f g same = cc
 
-pub same_in_slots : (c : Combination) (d : Direction) (timeslot f : ℕ) → c ≢ TchF →
+pub same_in_slots : (c : Combination) (d : Direction) (timeslot f : ℕ) → is_traffic c ≡ false →
     position_of c d timeslot f ≡ position_of c d 0 f
 same_in_slots BcchCcch Downlink t f h = refl
 same_in_slots BcchCcch Uplink t f h = refl
@@ -65,11 +66,13 @@ same_in_slots BcchCcchSdcch4 Downlink t f h = refl
 same_in_slots BcchCcchSdcch4 Uplink t f h = refl
 same_in_slots Sdcch8 Downlink t f h = refl
 same_in_slots Sdcch8 Uplink t f h = refl
-same_in_slots TchF d t f h = absurd (h refl)
+same_in_slots TchF d t f h = absurd cc
+same_in_slots TchH d t f h = absurd cc
 
-pub position_at_remainder : (c : Combination) (d : Direction) (timeslot f : ℕ) → c ≢ TchF →
+pub position_at_remainder : (c : Combination) (d : Direction) (timeslot f : ℕ) → is_traffic c ≡ false →
     position_of c d timeslot f ≡ position_of c d 0 (f % 102)
-position_at_remainder TchF d t f h = absurd (h refl)
+position_at_remainder TchF d t f h = absurd cc
+position_at_remainder TchH d t f h = absurd cc
 position_at_remainder BcchCcch d t f h = same_in_slots BcchCcch d t f h ∙ same_in_cycle BcchCcch d 0 f (f % 102) (omega arith)
 position_at_remainder BcchCcchSdcch4 d t f h =
     same_in_slots BcchCcchSdcch4 d t f h ∙ same_in_cycle BcchCcchSdcch4 d 0 f (f % 102) (omega arith)
@@ -80,6 +83,7 @@ position_at_remainder Sdcch8 d t f h = same_in_slots Sdcch8 d t f h ∙ same_in_
 pub within_cycle : (c : Combination) (frame f : ℕ) →
     (ahead : ℕ) × (ahead < 104) × (f % cycle c ≡ (frame + ahead) % HYPERFRAME % cycle c)
 within_cycle TchF frame f = ((f % 104 + 104 - frame % 104) % 104, omega arith, omega arith)
+within_cycle TchH frame f = ((f % 104 + 104 - frame % 104) % 104, omega arith, omega arith)
 within_cycle BcchCcch frame f = ((f % 102 + 102 - frame % 102) % 102, omega arith, omega arith)
 within_cycle BcchCcchSdcch4 frame f = ((f % 102 + 102 - frame % 102) % 102, omega arith, omega arith)
 within_cycle Sdcch8 frame f = ((f % 102 + 102 - frame % 102) % 102, omega arith, omega arith)
@@ -109,6 +113,7 @@ few_rows BcchCcchSdcch4 Uplink t = refl
 few_rows Sdcch8 Downlink t = refl
 few_rows Sdcch8 Uplink t = refl
 few_rows TchF d t = refl
+few_rows TchH d t = refl
 
 pub burst_below_4 : (c : Combination) (d : Direction) (timeslot f : ℕ) (p : Position) → position_of c d timeslot f ≡ Some p →
     p.burst < 4

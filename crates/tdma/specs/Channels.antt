@@ -1,9 +1,9 @@
 -- The channels of a time slot (GSM 05.02, today 3GPP TS 45.002, section 7, tables 1, 3 and 4): where the bursts of each block come.
 use Rattle.std.specs.Prelude.{ℕ, zero, suc, ◌+◌, ◌-◌, ◌*◌, ◌/◌, ◌%◌, ◌==◌, nat_lt, ◌&&◌, if◌then◌else◌}
-use Rattle.std.specs.Prelude.{List, [], ◌∷◌, ◌++◌, ◌≡◌, ◌<◌, Bool, Option, Some, None}
+use Rattle.std.specs.Prelude.{List, [], ◌∷◌, ◌++◌, ◌≡◌, ◌<◌, Bool, true, false, Option, Some, None}
 use Rattle.tdma.specs.declared.TheConstants.{HYPERFRAME}
 use Rattle.tdma.specs.declared.channels.Combination.{Combination}
-use Rattle.tdma.specs.declared.channels.Combination.TheVariants.{BcchCcch, BcchCcchSdcch4, Sdcch8, TchF}
+use Rattle.tdma.specs.declared.channels.Combination.TheVariants.{BcchCcch, BcchCcchSdcch4, Sdcch8, TchF, TchH}
 use Rattle.tdma.specs.declared.channels.Direction.{Direction}
 use Rattle.tdma.specs.declared.channels.Direction.TheVariants.{Downlink, Uplink}
 use Rattle.tdma.specs.declared.channels.Channel.{Channel}
@@ -59,11 +59,17 @@ mappings Sdcch8 Uplink timeslot =
     blocks Sdcch 0 51 (15 ∷ 19 ∷ 23 ∷ 27 ∷ 31 ∷ 35 ∷ 39 ∷ 43 ∷ [])
     ++ blocks Sacch 0 102 (47 ∷ 51 ∷ 55 ∷ 59 ∷ 98 ∷ 0 ∷ 4 ∷ 8 ∷ [])
 mappings TchF direction timeslot = blocks Sacch 0 104 ((12 + 13 * timeslot) ∷ [])
+mappings TchH direction timeslot = blocks Sacch 0 104 ((12 + 26 * (timeslot / 2)) ∷ (25 + 26 * (timeslot / 2)) ∷ [])
+
+-- whether the time slot has a traffic channel
+abbrev pub is_traffic : Combination → Bool
+is_traffic TchF = true
+is_traffic TchH = true
+is_traffic _ = false
 
 -- how many frames after one burst of a block the next one comes
 abbrev pub burst_spacing : Combination → ℕ
-burst_spacing TchF = 26
-burst_spacing _ = 1
+burst_spacing c = if is_traffic c then 26 else 1
 
 -- how many frames a frame is after the last first burst of a row
 abbrev pub frames_since : (mapping : Mapping) (frame : ℕ) → ℕ

@@ -4,3 +4,4 @@ pub mod Numbers
 pub mod Sync
 pub mod Channels
 pub mod Uplink
+pub mod Traffic

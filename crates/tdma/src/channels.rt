@@ -11,6 +11,8 @@ pub enum Combination {
     Sdcch8,
     /// The SACCH of a full rate traffic channel (of combination i); the other frames carry traffic or are idle.
     TchF,
+    /// The SACCH of the two half rate traffic channels of a time slot (of combination ii), their numbers 0 and 1 as subchannels.
+    TchH,
 }
 
 /// The direction of a burst.

@@ -9,6 +9,7 @@ mod numbers;
 mod places;
 mod schedule;
 mod sync;
+mod traffic;
 
 pub use channels::{Channel, Combination, Direction};
 pub use frames::{FrameTime, frame_of_time, time_of_frame};
@@ -20,6 +21,7 @@ pub use numbers::{bits_of_bsic, bits_of_ra, bsic_of_bits, ra_of_bits};
 pub use places::{Place, next_block, place_of_frame};
 pub use schedule::Position;
 pub use sync::{SchInfo, bits_of_sch, sch_of_bits};
+pub use traffic::{TrafficChannel, TrafficPlace, next_facch_block, place_of_traffic_frame};
 
 /// The number of frames of a hyperframe: frame numbers are 0 to 2,715,647.
 pub const HYPERFRAME: u32 = 2_715_648;

@@ -4,7 +4,7 @@ ghost use Rattle.tdma.specs.Channels.{place_of, position_of, IsNextBlock, Begins
 
 use crate::HYPERFRAME;
 use crate::channels::{Channel, Combination, Direction};
-use crate::schedule::{Position, position_in_multiframes, traffic_position};
+use crate::schedule::{Position, full_rate_position, half_rate_position, position_in_multiframes};
 
 /// Where the burst of a frame belongs.
 #[derive(Clone, Copy, PartialEq, Eq, Debug)]
@@ -28,7 +28,7 @@ pub fn place_of_frame(
 {
     let position = position_of_frame(combination, direction, timeslot, frame)?;
     let back = match combination {
-        Combination::TchF => 26 * u32::from(position.burst),
+        Combination::TchF | Combination::TchH => 26 * u32::from(position.burst),
         _ => u32::from(position.burst),
     };
     let first = (frame + HYPERFRAME - back) % HYPERFRAME;
@@ -76,7 +76,8 @@ fn position_of_frame(
     ensures { result ≡ position_of combination direction timeslot frame }
 {
     match combination {
-        Combination::TchF => traffic_position(timeslot, (frame % 104) as u8),
+        Combination::TchF => full_rate_position(timeslot, (frame % 104) as u8),
+        Combination::TchH => half_rate_position(timeslot, (frame % 104) as u8),
         _ => position_in_multiframes(combination, direction, (frame % 102) as u8),
     }
 }

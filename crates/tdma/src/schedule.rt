@@ -1,6 +1,6 @@
 //! The tables of the standard, computed: which burst of which channel a frame of the multiframes carries.
-ghost use Rattle.std.specs.Prelude.{◌≡◌, ◌≢◌, ◌<◌, if◌then◌else◌, Some};
-ghost use Rattle.tdma.specs.Channels.{position_of};
+ghost use Rattle.std.specs.Prelude.{◌≡◌, ◌<◌, if◌then◌else◌, false, Some};
+ghost use Rattle.tdma.specs.Channels.{is_traffic, position_of};
 ghost use Rattle.tdma.specs.Uplink.{random_access, uplink_after};
 ghost use Rattle.tdma.specs.declared.channels.Combination.TheVariants as C;
 ghost use Rattle.tdma.specs.declared.channels.Direction.TheVariants as D;
@@ -24,7 +24,7 @@ pub(crate) fn position_in_multiframes(
     frame: u8,
 ) -> Option<Position>
     requires within { frame < 102 }
-    requires no_traffic { combination ≢ C.TchF }
+    requires no_traffic { is_traffic combination ≡ false }
     ensures { result ≡ position_of combination direction 0 frame }
 {
     match direction {
@@ -38,7 +38,7 @@ pub(crate) fn position_in_multiframes(
 #[tactic(auto, using(crate::proofs::Tables::iv_uplink, crate::proofs::Tables::v_uplink, crate::proofs::Tables::vii_uplink))]
 fn uplink_position(combination: Combination, frame: u8) -> Option<Position>
     requires within { frame < 102 }
-    requires no_traffic { combination ≢ C.TchF }
+    requires no_traffic { is_traffic combination ≡ false }
     ensures { result ≡ position_of combination D.Uplink 0 frame }
 {
     let downlink = downlink_position(combination, (frame + 87) % 102);
@@ -72,7 +72,7 @@ fn random_access(has_rach: bool) -> Option<Position>
 
 fn downlink_position(combination: Combination, frame: u8) -> Option<Position>
     requires within { frame < 102 }
-    requires no_traffic { combination ≢ C.TchF }
+    requires no_traffic { is_traffic combination ≡ false }
     ensures { result ≡ position_of combination D.Downlink 0 frame }
 {
     match combination {
@@ -141,9 +141,10 @@ fn burst_of(channel: Channel, subchannel: u8, burst: u8) -> Option<Position>
     })
 }
 
-/// Returns what a frame of the 104 frames of a traffic channel carries of its SACCH, whose four bursts come 26 frames apart, and in each
-/// time slot 13 frames later than in the one before; in time slot 0 the first is frame 12, 92 frames before the end.
-pub(crate) fn traffic_position(timeslot: u8, frame: u8) -> Option<Position>
+/// Returns what a frame of the 104 frames of a full rate traffic channel carries of its SACCH, whose four bursts come 26
+/// frames apart, and in each time slot 13 frames later than in the one before; in time slot 0 the first is frame 12, 92 frames before
+/// the end.
+pub(crate) fn full_rate_position(timeslot: u8, frame: u8) -> Option<Position>
     requires timeslot { timeslot < 8 }
     requires within { frame < 104 }
     ensures { result ≡ position_of C.TchF D.Downlink timeslot frame }
@@ -153,4 +154,21 @@ pub(crate) fn traffic_position(timeslot: u8, frame: u8) -> Option<Position>
         return None;
     }
     burst_of(Channel::Sacch, 0, since / 26)
+}
+
+/// Returns what a frame of the 104 frames of two half rate traffic channels carries of their SACCH: that of the first is where that of full
+/// rate is in the even one of two time slots, that of the second where it is in the odd one.
+pub(crate) fn half_rate_position(timeslot: u8, frame: u8) -> Option<Position>
+    requires timeslot { timeslot < 8 }
+    requires within { frame < 104 }
+    ensures { result ≡ position_of C.TchH D.Downlink timeslot frame }
+{
+    let since = (frame + 92 - 26 * (timeslot / 2)) % 104;
+    if since % 26 == 0 {
+        return burst_of(Channel::Sacch, 0, since / 26);
+    }
+    if since % 26 == 13 {
+        return burst_of(Channel::Sacch, 1, since / 26);
+    }
+    None
 }

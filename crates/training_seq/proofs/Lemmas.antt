@@ -13,7 +13,7 @@ use Rattle.{
     specs.{Int.int_wrap, List.list_all},
   },
   training_seq.specs.{
-    Choice.IsFirstMaximum,
+    Choice.{IsFirstMaximum, total_correlation},
     Ranges.IsMagnitudeWithin,
     Sequences.{midamble, training_sequences},
     Sums.{sign_of_bit, signs_of_bits, vector_sum, wrong_bits_at},
@@ -74,14 +74,14 @@ abbrev pub with_product : (n : ℕ) → List ℤ → ℤ → List ℤ → List �
 with_product n totals value signs =
     map (to_z w16) (zip2 plus (map (of_z w16) totals) (zip2 times (replicate n (of_z w16 value)) (map (of_z w16) signs)))
 
-pub product_within : (value sign : ℤ) → IsMagnitudeWithin 512 value → IsMagnitudeWithin 1 sign →
-    IsMagnitudeWithin 512 (value *ℤ sign)
+pub product_within : (value sign : ℤ) → IsMagnitudeWithin 1024 value → IsMagnitudeWithin 1 sign →
+    IsMagnitudeWithin 1024 (value *ℤ sign)
 product_within value (pos zero) v s = omega (arith, ints)
 product_within value (pos (suc zero)) v s = omega (arith, ints)
 product_within value (negsuc zero) v s = omega (arith, ints)
 product_within value sign v s = absurd (omega (arith, ints))
 
-one_lane : (total value sign : ℤ) → IsMagnitudeWithin 12800 total → IsMagnitudeWithin 512 value → IsMagnitudeWithin 1 sign
+one_lane : (total value sign : ℤ) → IsMagnitudeWithin 25600 total → IsMagnitudeWithin 1024 value → IsMagnitudeWithin 1 sign
     → to_z w16 (plus (of_z w16 total) (times (of_z w16 value) (of_z w16 sign))) ≡ total +ℤ value *ℤ sign
 one_lane total value sign t v s =
     let p = product_within value sign v s in
@@ -97,7 +97,7 @@ module _ (totals : List ℤ) (value : ℤ) (signs : List ℤ) (long : length tot
   length-with_product =
       length-lanewise (λ n xs ys. with_product n xs value ys) _ refl (λ n x y xs ys. refl) 8 totals signs long long'
 
-  pub total_with_product : (k : ℕ) → k < 8 → IsMagnitudeWithin 12800 (get_or totals k (pos 0)) → IsMagnitudeWithin 512 value →
+  pub total_with_product : (k : ℕ) → k < 8 → IsMagnitudeWithin 25600 (get_or totals k (pos 0)) → IsMagnitudeWithin 1024 value →
       IsMagnitudeWithin 1 (get_or signs k (pos 0)) →
       get_or (with_product 8 totals value signs) k (pos 0) ≡ get_or totals k (pos 0) +ℤ value *ℤ get_or signs k (pos 0)
   total_with_product k lt t v s =
@@ -105,9 +105,9 @@ module _ (totals : List ℤ) (value : ℤ) (signs : List ℤ) (long : length tot
       (pos 0) (pos 0) (pos 0)
       ∙ one_lane (get_or totals k (pos 0)) value (get_or signs k (pos 0)) t v s
 
--- 13312 is 4 * 26 * 128, which no correlation of four midambles exceeds
+-- 26624 is 8 * 26 * 128, which no correlation of eight midambles exceeds
 pub passed : (totals : List ℤ) → length totals ≡ 8 → ((k : ℕ) → k ≤ 7 →
-    IsMagnitudeWithin 13312 (get_or totals k (pos 0))) →
+    IsMagnitudeWithin 26624 (get_or totals k (pos 0))) →
     map (to_z w16) (map (of_z w16) totals) ≡ totals
 passed totals long within =
     cast_lanes-each w16 8 totals (record { count = long; fits = λ k lt. omega (arith, ints, within k (omega arith)) })
@@ -185,9 +185,6 @@ IsFirstMaximum-same score total last best same first = record {
 pub IsFirstMaximum-first_greatest : (score : ℕ → ℤ) → IsFirstMaximum score 7 (first_greatest score 7)
 IsFirstMaximum-first_greatest score = IsFirstMaximum-from_LeadsBelow score (first_greatest score 7) (leads score 7)
 
-pub some_first_greatest : (score : ℕ → ℤ) → (best : ℕ) × IsFirstMaximum score 7 best
-some_first_greatest score = (first_greatest score 7, IsFirstMaximum-first_greatest score)
-
 pub one_first_greatest : (score : ℕ → ℤ) (last m n : ℕ) → IsFirstMaximum score last m → IsFirstMaximum score last n → m ≡ n
 one_first_greatest score last m n h g = elim (cases_eq m n) [
   | inl same ↦ same
@@ -204,3 +201,18 @@ pub four_kept : (a b c d : ℤ) → IsMagnitudeWithin 128 a → IsMagnitudeWithi
     → IsMagnitudeWithin 128 d →
     kept (kept (kept (kept a +ℤ kept b) +ℤ kept c) +ℤ kept d) ≡ ((a +ℤ b) +ℤ c) +ℤ d
 four_kept a b c d ha hb hc hd = omega (arith, ints)
+
+-- correlating the sum of four midambles gives the sum of their correlations
+pub correlation-four : (a b c d : List ℤ) (tsc : ℕ) → length a ≡ length b → length a ≡ length c → length a ≡ length d →
+    tsc ≤ 7 → likelihood (vector_sum (vector_sum (vector_sum a b) c) d) (midamble tsc) ≡ total_correlation a b c d tsc
+correlation-four a b c d tsc ab ac ad h =
+    let bits = midamble tsc in
+    let are_bits = AllBits-midamble tsc h in
+    let long = length-vector_sum a b ab in
+    let abc : length (vector_sum a b) ≡ length c = omega arith in
+    let longer = length-vector_sum (vector_sum a b) c abc in
+    let abcd : length (vector_sum (vector_sum a b) c) ≡ length d = omega arith in
+    let two = correlation-vector_sum a b bits ab are_bits in
+    let three = correlation-vector_sum (vector_sum a b) c bits abc are_bits in
+    let four = correlation-vector_sum (vector_sum (vector_sum a b) c) d bits abcd are_bits in
+    omega (arith, ints, two, three, four)

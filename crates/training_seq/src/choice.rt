@@ -1,7 +1,8 @@
 //! The choice of a training sequence by correlation (this project's own rule): the midambles of four bursts are added element by element,
 //! and the sums are correlated with each of the eight sequences.
 ghost use Rattle.std.specs.Prelude.{◌≡◌, ◌+◌, ◌<◌, ◌≤◌, ◌+ℤ◌, length, All};
-ghost use Rattle.training_seq.specs.Choice.{IsFirstMaximum, IsBestCorrelatedTsc, wrong_bits_of_midambles, wrong_midamble_bits};
+ghost use Rattle.training_seq.specs.Choice.{IsFirstMaximum, IsBestCorrelatedTsc, total_correlation, wrong_bits_of_midambles};
+ghost use Rattle.training_seq.specs.Choice.{wrong_midamble_bits};
 ghost use Rattle.bit_blocks.specs.SoftValues.{likelihood};
 ghost use Rattle.training_seq.specs.Ranges.{IsMagnitudeWithin};
 ghost use Rattle.training_seq.specs.Sequences.{midamble};
@@ -42,6 +43,67 @@ pub fn best_of_bursts(a: &[i8], b: &[i8], c: &[i8], d: &[i8]) -> (u8, [u8; 4])
     (tsc, count_wrong_training_bits(a, b, c, d, tsc))
 }
 
+/// Returns the training sequence code with the greatest total correlation with the midambles of eight bursts, and for each of them the
+/// number of its 26 soft bits that disagree with this sequence. It serves `um_facch`.
+pub fn best_of_eight(
+    a: &[i8],
+    b: &[i8],
+    c: &[i8],
+    d: &[i8],
+    e: &[i8],
+    f: &[i8],
+    g: &[i8],
+    h: &[i8],
+) -> (u8, [u8; 4], [u8; 4])
+    requires a { length a.now ≡ 26 }
+    requires b { length b.now ≡ 26 }
+    requires c { length c.now ≡ 26 }
+    requires d { length d.now ≡ 26 }
+    requires e { length e.now ≡ 26 }
+    requires f { length f.now ≡ 26 }
+    requires g { length g.now ≡ 26 }
+    requires h { length h.now ≡ 26 }
+    ensures tsc { IsFirstMaximum
+        (λ tsc. total_correlation a.now b.now c.now d.now tsc +ℤ total_correlation e.now f.now g.now h.now tsc) 7 result.0 }
+    ensures within { result.0 ≤ 7 }
+    ensures wrong { result.1 ≡ wrong_bits_of_midambles a.now b.now c.now d.now result.0 }
+    ensures wrong_later { result.2 ≡ wrong_bits_of_midambles e.now f.now g.now h.now result.0 }
+    ensures few { All (λ wrong. wrong ≤ 26) result.1 }
+    ensures few_later { All (λ wrong. wrong ≤ 26) result.2 }
+{
+    let tsc = most_correlated_tsc(&add_sums(
+        &add_midambles(a, b, c, d),
+        &add_midambles(e, f, g, h),
+    ));
+    (
+        tsc,
+        count_wrong_training_bits(a, b, c, d, tsc),
+        count_wrong_training_bits(e, f, g, h, tsc),
+    )
+}
+
+fn add_sums(first: &[i16; 26], later: &[i16; 26]) -> [i16; 26]
+    requires first { All (IsMagnitudeWithin 512) first.now }
+    requires later { All (IsMagnitudeWithin 512) later.now }
+    ensures value { result ≡ vector_sum first.now later.now }
+    ensures small { All (IsMagnitudeWithin 1024) result }
+{
+    let mut sums = [0; 26];
+    for i in 0..26 {
+        sums[i] = sum_of_two(first[i], later[i]);
+    }
+    sums
+}
+
+fn sum_of_two(a: i16, b: i16) -> i16
+    requires a { IsMagnitudeWithin 512 a }
+    requires b { IsMagnitudeWithin 512 b }
+    ensures value { result ≡ a +ℤ b }
+    ensures small { IsMagnitudeWithin 1024 result }
+{
+    a + b
+}
+
 // Adds the four midambles element by element, so that each sequence is correlated only once. If this function were inlined, the compiler
 // would not vectorize the loop.
 #[inline(never)]
@@ -73,7 +135,7 @@ fn midamble_sum_at(a: &[i8], b: &[i8], c: &[i8], d: &[i8], i: usize) -> i16
 
 // Of equal correlations the lowest code wins, since a later one must be greater.
 fn most_correlated_tsc(sums: &[i16; 26]) -> u8
-    requires small { All (IsMagnitudeWithin 512) sums.now }
+    requires small { All (IsMagnitudeWithin 1024) sums.now }
     ensures { IsFirstMaximum (λ tsc. likelihood sums.now (midamble tsc)) 7 result }
 {
     let totals = correlate_sums(sums);

@@ -20,7 +20,7 @@ pub fn correlate(soft: &[i8], tsc: u8) -> i32
 fn widen_to_i16(soft: &[i8]) -> [i16; 26]
     requires { length soft.now ≡ 26 }
     ensures value { result ≡ soft.now }
-    ensures small { All (IsMagnitudeWithin 512) result }
+    ensures small { All (IsMagnitudeWithin 1024) result }
 {
     let mut wide = [0; 26];
     for (i, value) in soft.iter().enumerate() {
@@ -30,9 +30,9 @@ fn widen_to_i16(soft: &[i8]) -> [i16; 26]
 }
 
 pub(crate) fn correlate_sums(sums: &[i16; 26]) -> [i16; 8]
-    requires small { All (IsMagnitudeWithin 512) sums.now }
+    requires small { All (IsMagnitudeWithin 1024) sums.now }
     ensures value { (tsc : ℕ) → tsc ≤ 7 → soft_bit_at result tsc ≡ likelihood sums.now (midamble tsc) }
-    ensures within { (tsc : ℕ) → tsc ≤ 7 → IsMagnitudeWithin 13312 (soft_bit_at result tsc) }
+    ensures within { (tsc : ℕ) → tsc ≤ 7 → IsMagnitudeWithin 26624 (soft_bit_at result tsc) }
 {
     let mut totals = CorrelationTotals {
         lanes: i16x8::splat(0),
@@ -53,8 +53,8 @@ impl CorrelationTotals {
     #[inline]
     fn add_product(self, value: i16, signs: &[i16; 8]) -> CorrelationTotals
         requires count { length self.lanes ≡ 8 }
-        requires totals { (tsc : ℕ) → tsc ≤ 7 → IsMagnitudeWithin 12800 (soft_bit_at self.lanes tsc) }
-        requires value { IsMagnitudeWithin 512 value }
+        requires totals { (tsc : ℕ) → tsc ≤ 7 → IsMagnitudeWithin 25600 (soft_bit_at self.lanes tsc) }
+        requires value { IsMagnitudeWithin 1024 value }
         requires signs { (tsc : ℕ) → tsc ≤ 7 → IsMagnitudeWithin 1 (soft_bit_at signs.now tsc) }
         ensures count { length result.lanes ≡ 8 }
         ensures each { (tsc : ℕ) → tsc ≤ 7 →
@@ -67,10 +67,10 @@ impl CorrelationTotals {
 }
 
 pub(crate) fn times_sign(value: i16, sign: i16) -> i16
-    requires small { IsMagnitudeWithin 512 value }
+    requires small { IsMagnitudeWithin 1024 value }
     requires sign { IsMagnitudeWithin 1 sign }
     ensures value { result ≡ value *ℤ sign }
-    ensures within { IsMagnitudeWithin 512 result }
+    ensures within { IsMagnitudeWithin 1024 result }
 {
     value * sign
 }

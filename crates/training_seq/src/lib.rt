@@ -6,6 +6,6 @@ mod choice;
 mod correlation;
 mod sequences;
 
-pub use choice::{best, best_of_bursts};
+pub use choice::{best, best_of_bursts, best_of_eight};
 pub use correlation::correlate;
 pub use sequences::sequence;

@@ -4,7 +4,7 @@ use Rattle.{
     proofs.{
       Lemmas.{AllFit, AllSay, EndOctets, LineOctets, SaysOctets, WorldOctets, event_step-fits, event_step-holds, initial-octets},
       Lemmas.{octets-step, claims_of, counts_of, order_of, Knows},
-      lapdm_frame.{Lemmas.{bit_bound, information_bound, octets_canonical, one_reading, same_frame}, OneRead.one_read},
+      lapdm_frame.{Lemmas.{IsOnlyReading-frame_reading, bit_bound, information_bound, octets_canonical, same_frame}, OneRead.one_read},
       Carriers.{AreAlike, AreCoded, IsReached, MayRead, alike-more, alike-taken, coded-sent, happens, read-fits, reached-start},
     },
     specs.{
@@ -14,15 +14,16 @@ use Rattle.{
       Queues.{IsOldestSentOrNone, Queues, empty_queues, queue_of, queue_length},
       Worlds.{World, IsOldestSentOrRrForRej, initial_world},
       lapdm_frame.{Content.{Frame, information}, Frames.{FrameFits, octets_of, IsFrameCoding}, declared.Channel.Channel},
-      lapdm_frame.Readings.HasUniqueReading,
+      lapdm_frame.{Computed.frame_reading, Readings.IsOnlyReading, declared.Refusal.Refusal},
       lapdm_window.{Ends.Role, declared.{Notice.Notice, Sapi.Sapi}},
     },
   },
   std.{
     specs.{List.AllZip, Prelude.{IfSome, unsigned_abs}},
-    proofs.Common.{All, List, None, Option, Some, [], ap, arith, false, get_or, get_or-set_same, inl, inr, length, map, nat_eq, pos, refl},
+    proofs.Common.{All, Err, List, None, Ok, Option, Result, Some, [], ap, arith, false, get_or, get_or-set_same, inl, length, map},
+    proofs.Common.{nat_eq, pos, refl},
     proofs.Common.{sym, ℕ, ℤ, ◌%◌, ◌++◌, ◌-◌, ◌/◌, ◌<◌, ◌∙◌, ◌∷◌, ◌≡◌, ◌≢◌, ◌≤◌},
-    proofs.{Common.{◌⊎◌, Bool, append_assoc, subst}, Math.ListN.get_or-map, lemmas.Bool.{Decides.nat_tests, cases_eq}},
+    proofs.{Common.{Bool, append_assoc, subst}, Math.ListN.get_or-map, lemmas.Bool.Decides.nat_tests},
     proofs.lemmas.List.{get_or-append_right, get_or-set_other, get_or_append_left, get_or_default, length-map, length-set, set_past},
     proofs.lemmas.List.Elements.{All-append, All-cons, All-drop, All-head, All-map, All-nil, All-replicate, All-set, All-tail, All-take},
     proofs.lemmas.List.append-nil,
@@ -33,7 +34,7 @@ use Rattle.{
     Damage.AreCorrectableBursts,
     Sessions.{AllEventsInvertFewBits, AreOctets, EventInvertsFewBits, EventMessageIsOctets, IsBenign, IsBenignFrom, IsBenignStep},
     Sessions.{answer_without_blocks, queues_after_event, session_log},
-    Computed.{air_step, frame_in, frame_in_accepted, frame_in_report, report_of, report_on_oldest},
+    Computed.{air_step, frame_in, frame_of_reading, frame_in_accepted, frame_in_report, report_of, report_on_oldest},
   },
   um_block.{
     proofs.Lemmas.{accepted_count, accepted_octets, clean_gathered, coded_block_bits, few_listed_positions, listed, received_block-only},
@@ -51,21 +52,12 @@ use Rattle.lapdm_link.specs.Worlds as W
 ReadsFrame-frame_in : (channel : Channel) (octets : Octets) → length octets ≡ 23 →
     ReadsFrame channel (Some octets) (frame_in channel octets)
 unfolding frame_in
-ReadsFrame-frame_in channel octets count = go (cases_eq (length octets) 23)
+ReadsFrame-frame_in channel octets count = go (frame_reading channel octets) (IsOnlyReading-frame_reading channel octets count)
   where
-    read : (reading : HasUniqueReading channel octets) → ReadsFrame channel (Some octets) (elim reading [
-      | inl reading ↦ Some reading.0
-      | inr reading ↦ None
-    ])
-    read (inl (f, only)) = only.frame
-    read (inr (reason, only)) = (reason, only.refused)
-
-    go : (known : (length octets ≡ 23) ⊎ (length octets ≢ 23)) → ReadsFrame channel (Some octets) (elim known [
-      | inl count ↦ elim (one_reading channel octets count) [ inl reading ↦ Some reading.0 | inr reading ↦ None ]
-      | inr other ↦ None
-    ])
-    go (inl count) = read (one_reading channel octets count)
-    go (inr other) = absurd (other count)
+    go : (reading : Result Frame Refusal) → IsOnlyReading channel octets reading →
+        ReadsFrame channel (Some octets) (frame_of_reading reading)
+    go (Ok f) only = only.frame
+    go (Err reason) only = (reason, only.refused)
 
 pub ReadsFrame-frame_in_accepted : (channel : Channel) (o : Option Octets) → IfSome o (λ octets. length octets ≡ 23) →
     ReadsFrame channel o (frame_in_accepted channel o)

@@ -1,11 +1,10 @@
 -- A step of a session as a function: if `IsAirStep` allows an answer to an event, it is this one, with this next state.
-use Rattle.std.specs.Prelude.{ℕ, List, [], ◌∷◌, map, length, Option, Some, None}
-use Rattle.std.proofs.Common.{inl, inr}
-use Rattle.std.proofs.lemmas.Bool.{cases_eq}
+use Rattle.std.specs.Prelude.{ℕ, List, [], ◌∷◌, map, Option, Some, None, Result, Ok, Err}
 use Rattle.lapdm_link.specs.lapdm_frame.declared.Channel.{Channel}
 use Rattle.lapdm_link.specs.lapdm_frame.Content.{Frame}
 use Rattle.lapdm_link.specs.lapdm_frame.Frames.{octets_of}
-use Rattle.lapdm_frame.proofs.Lemmas.{one_reading}
+use Rattle.lapdm_link.specs.lapdm_frame.Computed.{frame_reading}
+use Rattle.lapdm_link.specs.lapdm_frame.declared.Refusal.{Refusal}
 use Rattle.lapdm_link.specs.Queues.{queue_of, with_items_appended}
 use Rattle.lapdm_link.specs.Events.{Deliver, SideStep, sending_role, event_step, queues_after_removal, EventRefusal}
 use Rattle.um_block.specs.Computed.{sent_block, received_block}
@@ -13,12 +12,13 @@ use Rattle.um_block.specs.Received.{soft_bits}
 use Rattle.um_block.specs.declared.received.Received.{Received}
 use Rattle.um_air.specs.Air.{AirState, Answer, Accepts, Refuses, Block, Event, Octets, event_with_frame, refusal, with_bits_inverted}
 
+abbrev pub frame_of_reading : Result Frame Refusal → Option Frame
+frame_of_reading (Ok f) = Some f
+frame_of_reading (Err reason) = None
+
 -- the frame in 23 octets, if they encode one; `ReadsFrame` is its law
 unfoldable pub frame_in : (channel : Channel) (octets : Octets) → Option Frame
-frame_in channel octets = elim (cases_eq (length octets) 23) [
-  | inl count ↦ elim (one_reading channel octets count) [ inl reading ↦ Some reading.0 | inr reading ↦ None ]
-  | inr other ↦ None
-]
+frame_in channel octets = frame_of_reading (frame_reading channel octets)
 
 abbrev pub frame_in_accepted : (channel : Channel) (accepted : Option Octets) → Option Frame
 frame_in_accepted channel None = None

@@ -22,15 +22,17 @@ use Rattle.um_air.specs.lapdm_link.Queues.{Queues, empty_queues, queue_of, with_
 use Rattle.um_air.specs.lapdm_link.Events.{other}
 use Rattle.um_air.specs.lapdm_link.Claims.{LogLine, Asked, Notified, Claims, AckedAtMostDelivered, HasNoticesInOrder}
 use Rattle.um_air.proofs.lapdm_link.Lemmas.{each_way}
-use Rattle.lapdm_datalink.specs.Links.{ui_frame}
 use Rattle.lapdm_datalink.specs.Links.{LinkState, afresh, for_call, after_call}
-use Rattle.lapdm_datalink.specs.DataLinks.{DataLinkState, link_with_sapi, with_link, having_main, data_link_outcome}
+use Rattle.lapdm_datalink.specs.DataLinks.{DataLinkState, link_with_sapi, with_link, having_main, data_link_outcome, unit_frame}
 use Rattle.lapdm_datalink.specs.DataLinks.{sapi_for_frame, after_arrival, notices_of_taking}
-use Rattle.lapdm_datalink.specs.Runs.{RunState, RunEvent, IsPossible, IsRun, run_log, after_event, event_lines, initial_run, data_link_of}
-use Rattle.lapdm_datalink.specs.Runs.{with_data_link, slot_lines, arrival_lines, taking_lines, OpensNoClosedLink}
-use Rattle.lapdm_datalink.specs.Runs as R
-use Rattle.lapdm_datalink.proofs.Runs.{data_links_deliver, data_links_count, data_links_order}
-use Rattle.lapdm_datalink.proofs.Kept.{IsOn, IsFit, on_call, on_arrival, on_slot, data_link_slot-fits, unit-fits, fill-same, fill-silent}
+use Rattle.lapdm_delivery.specs.Runs.{RunState, RunEvent, IsPossible, IsRun, run_log, after_event, event_lines, initial_run, data_link_of}
+use Rattle.lapdm_delivery.specs.Runs.{with_data_link, slot_lines, arrival_lines, taking_lines, OpensNoClosedLink, log_of_link}
+use Rattle.lapdm_delivery.specs.Runs as R
+use Rattle.lapdm_delivery.proofs.Runs.{link_delivers, link_counts, link_order, whole_delivers, whole_counts, whole_order}
+use Rattle.lapdm_datalink.specs.declared.data_links.Establishment.{Establishment}
+use Rattle.lapdm_datalink.specs.declared.data_links.Establishment.TheVariants.{Contention}
+use Rattle.lapdm_datalink.proofs.Kept.{IsOn, IsFit, on_call, on_arrival, on_slot, data_link_slot-fits, unit_frame-fits, fill-same}
+use Rattle.lapdm_datalink.proofs.Kept.{fill-silent}
 use Rattle.um_c.specs.declared.datalinks.CDataLink.{CDataLink}
 use Rattle.um_c.specs.declared.datalinks.CReport.{CReport}
 use Rattle.um_c.specs.States.{sapi_of, sapi_number}
@@ -184,10 +186,6 @@ module _ {x : CDataLink} {d : DataLinkState} (h : RepresentsDataLink x d) where
   has_channel on Zero = on.has_channel
   has_channel on Three = h.represents.valid.channel ∙ on.has_channel
 
-  has_sapi : (p : Sapi) → (link_with_sapi p d).endpoint.sapi ≡ p
-  has_sapi Zero = h.represents.valid.sapi0
-  has_sapi Three = h.represents.valid.sapi3
-
 module _ (r : Role) (d : DataLinkState) (c : RunState) where
   replaced-own : data_link_of r (with_data_link r d c) ≡ d
   replaced-own = grind arith
@@ -232,18 +230,19 @@ module _ {channel : Channel} {a : PairState} {c : RunState} (m : Matches channel
     call_played : (s : Sapi) (call : Call) (answer : ℕ) → OpensNoneAgain a (Calls r s call answer) →
         IsPairStep a (Calls r s call answer) b →
         IsPlayed channel b (pair_lines (Calls r s call answer)) c
-    call_played s call answer once (own, k, l) = by_allowed (allowed_or_not r s call)
+    call_played s call answer once (own, k, l) = by_allowed (allowed_or_not r (link_with_sapi s d).endpoint.sapi call)
       where
         unchanged : (answer ≡ 0 → ⊥) → IsPlayed channel b (pair_lines (Calls r s call answer)) c
         unchanged n = idle (same m r l (k.unchanged n) m.blocks) (not_0-lines answer (Asked r s call ∷ []) n)
 
-        there : IsCallAllowedFor r s call → IsCallAllowedForEndpoint (link_with_sapi s d).endpoint call
-        there ok = rw (has_role h (m.on r) s, has_sapi h s) ok
+        there : IsCallAllowedFor r (link_with_sapi s d).endpoint.sapi call → IsCallAllowedForEndpoint (link_with_sapi s d).endpoint call
+        there ok = rw (has_role h (m.on r) s) ok
 
-        back : IsCallAllowedForEndpoint (link_with_sapi s d).endpoint call → IsCallAllowedFor r s call
-        back ok = rw (has_role h (m.on r) s, has_sapi h s) at ok
+        back : IsCallAllowedForEndpoint (link_with_sapi s d).endpoint call → IsCallAllowedFor r (link_with_sapi s d).endpoint.sapi call
+        back ok = rw (has_role h (m.on r) s) at ok
 
-        carried : IsCallAllowedFor r s call → refusal_of call (for_call call (link_with_sapi s d)).endpoint ≡ None →
+        carried : IsCallAllowedFor r (link_with_sapi s d).endpoint.sapi call →
+            refusal_of call (for_call call (link_with_sapi s d)).endpoint ≡ None →
             IsPlayed channel b (pair_lines (Calls r s call answer)) c
         carried ok none =
             let done = k.carried_out d h s (sym (sapi-read s)) (there ok) none in
@@ -257,12 +256,13 @@ module _ {channel : Channel} {a : PairState} {c : RunState} (m : Matches channel
             (rw done.answer_is_0 refl)
 
         by_refusal : (x : Option Refused) → refusal_of call (for_call call (link_with_sapi s d)).endpoint ≡ x →
-            IsCallAllowedFor r s call → IsPlayed channel b (pair_lines (Calls r s call answer)) c
+            IsCallAllowedFor r (link_with_sapi s d).endpoint.sapi call → IsPlayed channel b (pair_lines (Calls r s call answer)) c
         by_refusal None e ok = carried ok e
         by_refusal (Some reason) e ok =
             unchanged (λ z. refuses reason (sym (k.refused d h s (sym (sapi-read s)) (there ok) reason e) ∙ z))
 
-        by_allowed : IsCallAllowedFor r s call ⊎ (IsCallAllowedFor r s call → ⊥) →
+        by_allowed : IsCallAllowedFor r (link_with_sapi s d).endpoint.sapi call
+            ⊎ (IsCallAllowedFor r (link_with_sapi s d).endpoint.sapi call → ⊥) →
             IsPlayed channel b (pair_lines (Calls r s call answer)) c
         by_allowed (inl ok) = by_refusal _ refl ok
         by_allowed (inr never) = unchanged (λ z. (let eight = k.unsupported_call d h s (sym (sapi-read s)) (λ g. never (back g)) in
@@ -305,14 +305,14 @@ module _ {channel : Channel} {a : PairState} {c : RunState} (m : Matches channel
         free (Some f) e = (let ten : 10 ≡ 0 = rw e at (k.answer_is d h) in absurd (omega (arith, ten)))
 
         coded : refusal_of (SendsUi t) (link_with_sapi s (data_link_outcome d).new_state).endpoint ≡ None →
-            IsFrameCoding channel (ui_frame t (link_with_sapi s (data_link_outcome d).new_state).endpoint) block
+            IsFrameCoding channel (unit_frame s t (data_link_outcome d).new_state) block
         coded ok =
             let new = (data_link_outcome d).new_state in
             let on = on_slot (m.on r) in
-            let fits : FrameFits channel (ui_frame t (link_with_sapi s new).endpoint) =
-            rw (has_channel after on s) at (unit-fits t (link_with_sapi s new) (links_fit after s) ok) in
+            let fits : FrameFits channel (unit_frame s t new) =
+            rw (has_channel after on s) at (unit_frame-fits s t new (links_fit after s) ok) in
             rw ((u.carried_out new after s (sym (sapi-read s)) ok).1, on.has_channel)
-            (recoded channel _ layer1 (octets_of channel (ui_frame t (link_with_sapi s new).endpoint)) two
+            (recoded channel _ layer1 (octets_of channel (unit_frame s t new)) two
             (octets_canonical channel _ fits).frame)
 
         goes : refusal_of (SendsUi t) (link_with_sapi s (data_link_outcome d).new_state).endpoint ≡ None →
@@ -462,31 +462,42 @@ plays {channel} (step ∷ steps) a z c m (once, b, is, run) = by (λ e g. plays 
         let p = rest (after_event event c) g in
         record { events = event ∷ p.events; run = (may, p.run); log = rw (p.log, lines) refl }
 
-module _ (channel : Channel) (t200 : Role → Sapi → ℕ) (a z : PairState) (steps : List PairStep) (start : IsPairStart channel t200 a)
-    (run : IsPairRun a steps z) where
-  started : Matches channel a (initial_run channel t200)
+module _ (channel : Channel) (e : Establishment) (t200 : Role → Sapi → ℕ) (a z : PairState) (steps : List PairStep)
+    (start : IsPairStart channel e t200 a) (run : IsPairRun a steps z) where
+  started : Matches channel a (initial_run channel e t200)
   started = record { represents = represents; on = on; blocks = λ r. rw start.blocks (empty r) }
     where
-      represents : (r : Role) → RepresentsDataLink (a.struct_of r) (data_link_of r (initial_run channel t200))
+      represents : (r : Role) → RepresentsDataLink (a.struct_of r) (data_link_of r (initial_run channel e t200))
       represents Mobile = (start.new_struct Mobile).represents
       represents Network = (start.new_struct Network).represents
 
-      on : (r : Role) → IsOn r channel (data_link_of r (initial_run channel t200))
+      on : (r : Role) → IsOn r channel (data_link_of r (initial_run channel e t200))
       on Mobile = record { has_role = refl; has_channel = refl }
       on Network = record { has_role = refl; has_channel = refl }
 
-      empty : (r : Role) → AllZip (IsFrameCoding channel) (queue_of r (initial_run channel t200).air) (queue_of r empty_queues)
+      empty : (r : Role) → AllZip (IsFrameCoding channel) (queue_of r (initial_run channel e t200).air) (queue_of r empty_queues)
       empty Mobile = tt
       empty Network = tt
 
-  abbrev going : Plays (initial_run channel t200) (pair_log steps)
-  going = plays steps a z (initial_run channel t200) started run
+  abbrev going : Plays (initial_run channel e t200) (pair_log steps)
+  going = plays steps a z (initial_run channel e t200) started run
 
+  pub pair_links : (sapi : Sapi) → (let log = log_of_link e sapi (pair_log steps) in
+      Claims log × AckedAtMostDelivered log × HasNoticesInOrder log)
+  pair_links sapi = (
+    rw going.log at (link_delivers e channel t200 going.events going.run sapi),
+    rw going.log at (link_counts e channel t200 going.events going.run sapi),
+    rw going.log at (link_order e channel t200 going.events going.run sapi),
+  )
+
+-- with contention resolution, it holds of the whole log
+module _ (channel : Channel) (t200 : Role → Sapi → ℕ) (a z : PairState) (steps : List PairStep)
+    (start : IsPairStart channel Contention t200 a) (run : IsPairRun a steps z) where
   pub pair_delivers : Claims (pair_log steps)
-  pair_delivers = rw going.log at (data_links_deliver channel t200 going.events going.run)
+  pair_delivers = whole_delivers (pair_log steps) (λ s. (pair_links channel Contention t200 a z steps start run s).0)
 
   pub pair_counts : AckedAtMostDelivered (pair_log steps)
-  pair_counts = rw going.log at (data_links_count channel t200 going.events going.run)
+  pair_counts = whole_counts (pair_log steps) (λ s. (pair_links channel Contention t200 a z steps start run s).1)
 
   pub pair_order : HasNoticesInOrder (pair_log steps)
-  pair_order = rw going.log at (data_links_order channel t200 going.events going.run)
+  pair_order = whole_order (pair_log steps) (λ s. (pair_links channel Contention t200 a z steps start run s).2)

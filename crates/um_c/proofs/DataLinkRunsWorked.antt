@@ -3,7 +3,7 @@
 -- contracts.
 use Rattle.std.proofs.Common.{◌≡◌, refl, sym, ap, ◌∙◌, subst, ℕ, Bool, true, false, List, [], ◌∷◌, ◌++◌, replicate}
 use Rattle.std.proofs.Common.{Option, Some, None, arith}
-use Rattle.std.specs.Prelude.{◌&&◌}
+use Rattle.std.specs.Prelude.{◌&&◌, ◌||◌}
 use Rattle.lapdm_frame.specs.declared.Channel.TheVariants.{Sdcch}
 use Rattle.lapdm_frame.specs.Content.{Content, Frame, Sabm, Ua, I, Rr}
 use Rattle.lapdm_frame.specs.Frames.{IsFrameCoding, FrameFits, octets_of}
@@ -24,11 +24,13 @@ use Rattle.um_air.proofs.lapdm_link.Lemmas.{each_way}
 use Rattle.lapdm_datalink.specs.Links.{link_with, IsLinkCall, for_call, after_call, is_closed, is_opening_call}
 use Rattle.lapdm_datalink.specs.DataLinks.{DataLinkState, initial_data_link, with_link, sapi_for_frame, after_arrival, arrival_notices}
 use Rattle.lapdm_datalink.specs.DataLinks.{data_link_outcome}
-use Rattle.lapdm_datalink.specs.Runs.{OpensNoClosedLink}
+use Rattle.lapdm_delivery.specs.Runs.{OpensNoClosedLink}
 use Rattle.um_c.specs.declared.datalinks.CDataLink.{CDataLink}
 use Rattle.um_c.specs.declared.datalinks.CReport.{CReport}
 use Rattle.um_c.specs.DataLinkCalls.{RepresentsDataLink, IsWrittenFor, DataLinkAnswersCall, DataLinkFillsSlot, DataLinkReceivesBlock}
 use Rattle.um_c.specs.DataLinkCalls.{c_report, reports_of, reports_if_taken, with_layer1, slot_answer, slot_frame}
+use Rattle.lapdm_datalink.specs.declared.data_links.Establishment.TheVariants.{Contention}
+use Rattle.um_air.specs.lapdm_window.Rules.{is_open}
 use Rattle.um_c.specs.DataLinkRuns.{PairState, PairStep, Calls, Fills, Takes, Loses, IsPairStart, IsPairRun, pair_log}
 use Rattle.um_c.proofs.DataLinkCalls.{decoded}
 use Rattle.um_c.proofs.DataLinkRuns.{only_encoded}
@@ -42,7 +44,7 @@ HasBlock n x y block report = DataLinkReceivesBlock block n x y (c_report []) re
 
 -- what the calls of a library return and write, as their contracts say; T200 is one slot
 record Library : Type 0 where
-  new : (role : Role) → (after : CDataLink) × IsWrittenFor (initial_data_link role Sdcch 1 1) after
+  new : (role : Role) → (after : CDataLink) × IsWrittenFor (initial_data_link role Sdcch Contention 1 1) after
   call : (call : Call) (before : CDataLink) → (answer : ℕ) × (after : CDataLink) × DataLinkAnswersCall 0 call answer before after
   next : (before : CDataLink) →
       (answer : ℕ) × (after : CDataLink) × (block : List ℕ) × (report : CReport) × HasSlot answer before after block report
@@ -119,12 +121,21 @@ module _ {c : CDataLink} where
   has_channel d h = let g = h.represents.link0 in sym (ap (λ x. x.endpoint.window.channel) g.values_match)
       ∙ g.represents.endpoint.variables.channel
 
+  -- the second with the values of the first
+  abbrev as_read : (d e : DataLinkState) → RepresentsDataLink c d → RepresentsDataLink c e → RepresentsDataLink c e
+  as_read d e h g = record { values = h.values; decoded = h.decoded; represents = decoded c h.values e h.decoded g }
+
   one_channel : (d e : DataLinkState) → RepresentsDataLink c d → RepresentsDataLink c e →
       e.link0.endpoint.channel ≡ d.link0.endpoint.channel
-  one_channel d e h g =
-      let k : RepresentsDataLink c e =
-      record { values = h.values; decoded = h.decoded; represents = decoded c h.values e h.decoded g } in
-      sym (has_channel e k) ∙ has_channel d h
+  one_channel d e h g = sym (has_channel e (as_read d e h g)) ∙ has_channel d h
+
+  -- and their endpoints of SAPI 0 have one SAPI
+  has_sapi : (d : DataLinkState) (h : RepresentsDataLink c d) → h.values.link0.endpoint.sapi ≡ d.link0.endpoint.sapi
+  has_sapi d h = let g = h.represents.link0 in sym (ap (λ x. x.endpoint.sapi) g.values_match) ∙ g.represents.endpoint.address.sapi
+
+  one_sapi : (d e : DataLinkState) → RepresentsDataLink c d → RepresentsDataLink c e →
+      e.link0.endpoint.sapi ≡ d.link0.endpoint.sapi
+  one_sapi d e h g = sym (has_sapi e (as_read d e h g)) ∙ has_sapi d h
 
 module _ (lib : Library) where
   module _ {s : Sides} {ws : Queues (List ℕ)} {steps : List PairStep} (r : Role) where
@@ -143,7 +154,7 @@ module _ (lib : Library) where
             let succeeds = subst (λ n. DataLinkAnswersCall 0 call n (a.struct_of r) after) done.answer_is_0 k in (
               more.0,
               (
-                (λ d g. ap (λ x. is_closed d.link0.endpoint.state && x) first ∙ and_false _),
+                (λ d g. ap (λ x. (is_closed d.link0.endpoint.state || is_open d.link0.endpoint.state) && x) first ∙ and_false _),
                 changed r after ws a,
                 (
                   own,
@@ -194,11 +205,11 @@ module _ (lib : Library) where
             )
 
     takes : (block : List ℕ) (f : Frame) (report : CReport) → IsFrameCoding (side r s).link0.endpoint.channel f block →
-        f.sapi ≡ 0 → FirstSatisfies (λ first. block ≡ first) (queue_of (other r) ws) →
+        f.sapi ≡ 0 → (side r s).link0.endpoint.sapi ≡ Zero → FirstSatisfies (λ first. block ≡ first) (queue_of (other r) ws) →
         c_report (reports_if_taken (sapi_for_frame f (side r s)) (arrival_notices f (side r s))) ≡ report →
         Goes (with_side r (after_arrival f (side r s)) s) (without_oldest_item (other r) ws) steps →
         Goes s ws (Takes r block 0 report ∷ steps)
-    takes block f report coded zero oldest is rest = record { leads = leads }
+    takes block f report coded zero contention oldest is rest = record { leads = leads }
       where
         vs : Queues (List ℕ)
         vs = without_oldest_item (other r) ws
@@ -208,7 +219,7 @@ module _ (lib : Library) where
         once a h e k g is_g =
             let same : g ≡ f = same_frame (side r s).link0.endpoint.channel block g f
             (rw (one_channel (side r s) e (h.represents r) k) at is_g) coded in
-            rw (same, zero, k.represents.valid.sapi0) refl
+            rw (same, zero, one_sapi (side r s) e (h.represents r) k ∙ contention) refl
 
         leads : (a : PairState) → Shows s ws a → (z : PairState) × IsPairRun a (Takes r block 0 report ∷ steps) z
         leads a h =
@@ -271,8 +282,8 @@ frame_of c = record { sapi = 0; cr = false; content = c }
 
 -- a data link whose link of SAPI 3 is idle, with T200 of one slot
 abbrev data_link : Role → State → (info : Message) (messages : List Message) (acked sent : ℕ) (accepted : List Segment)
-    (retries : ℕ) (answer : Option Frame) (is_sent : Bool) (clock : ℕ) (heard : Bool) → DataLinkState
-data_link role state info messages acked sent accepted retries answer is_sent clock heard = record {
+    (retries : ℕ) (answer : Option Frame) (is_sent : Bool) (clock : ℕ) (link_heard heard : Bool) → DataLinkState
+data_link role state info messages acked sent accepted retries answer is_sent clock link_heard heard = record {
   link0 = record {
     endpoint = record {
       role = role;
@@ -291,6 +302,7 @@ data_link role state info messages acked sent accepted retries answer is_sent cl
     answer = answer;
     is_sent = is_sent;
     clock = clock;
+    heard = link_heard;
   };
   link3 = link_with (initial_endpoint role Three Sdcch) 1;
   heard_sapi0 = heard;
@@ -302,44 +314,44 @@ both m n = record { mobile = m; network = n }
 
 -- the mobile at the start, called, having sent its SABM, open, with a message, having sent it, having repeated it, and at the end
 abbrev m0 : DataLinkState
-m0 = initial_data_link Mobile Sdcch 1 1
+m0 = initial_data_link Mobile Sdcch Contention 1 1
 
 abbrev m1 : DataLinkState
-m1 = data_link Mobile Opening (1 ∷ []) [] 0 0 [] 0 None false 0 false
+m1 = data_link Mobile Opening (1 ∷ []) [] 0 0 [] 0 None false 0 false false
 
 abbrev m2 : DataLinkState
-m2 = data_link Mobile Opening (1 ∷ []) [] 0 0 [] 0 None true 1 false
+m2 = data_link Mobile Opening (1 ∷ []) [] 0 0 [] 0 None true 1 false false
 
 abbrev m3 : DataLinkState
-m3 = data_link Mobile Open (1 ∷ []) [] 0 0 [] 0 None true 1 true
+m3 = data_link Mobile Open (1 ∷ []) [] 0 0 [] 0 None true 1 false true
 
 abbrev m4 : DataLinkState
-m4 = data_link Mobile Open (1 ∷ []) ((5 ∷ []) ∷ []) 0 1 [] 0 None false 0 true
+m4 = data_link Mobile Open (1 ∷ []) ((5 ∷ []) ∷ []) 0 1 [] 0 None false 0 false true
 
 abbrev m5 : DataLinkState
-m5 = data_link Mobile Open (1 ∷ []) ((5 ∷ []) ∷ []) 0 1 [] 0 None true 1 false
+m5 = data_link Mobile Open (1 ∷ []) ((5 ∷ []) ∷ []) 0 1 [] 0 None true 1 false false
 
 abbrev m6 : DataLinkState
-m6 = data_link Mobile Open (1 ∷ []) ((5 ∷ []) ∷ []) 0 1 [] 1 None true 1 false
+m6 = data_link Mobile Open (1 ∷ []) ((5 ∷ []) ∷ []) 0 1 [] 1 None true 1 false false
 
 abbrev m7 : DataLinkState
-m7 = data_link Mobile Open (1 ∷ []) ((5 ∷ []) ∷ []) 1 1 [] 0 None true 1 true
+m7 = data_link Mobile Open (1 ∷ []) ((5 ∷ []) ∷ []) 1 1 [] 0 None true 1 true true
 
 -- the network at the start, owing the UA, open, owing the RR, and at the end
 abbrev n0 : DataLinkState
-n0 = initial_data_link Network Sdcch 1 1
+n0 = initial_data_link Network Sdcch Contention 1 1
 
 abbrev n1 : DataLinkState
-n1 = data_link Network Open (1 ∷ []) [] 0 0 [] 0 (Some (frame_of (Ua true (1 ∷ [])))) false 0 true
+n1 = data_link Network Open (1 ∷ []) [] 0 0 [] 0 (Some (frame_of (Ua true (1 ∷ [])))) false 0 false true
 
 abbrev n2 : DataLinkState
-n2 = data_link Network Open (1 ∷ []) [] 0 0 [] 0 None false 0 false
+n2 = data_link Network Open (1 ∷ []) [] 0 0 [] 0 None false 0 false false
 
 abbrev n3 : DataLinkState
-n3 = data_link Network Open (1 ∷ []) [] 0 0 ((5 ∷ [], false) ∷ []) 0 (Some (frame_of (Rr 1 true))) false 0 true
+n3 = data_link Network Open (1 ∷ []) [] 0 0 ((5 ∷ [], false) ∷ []) 0 (Some (frame_of (Rr 1 true))) false 0 true true
 
 abbrev n4 : DataLinkState
-n4 = data_link Network Open (1 ∷ []) [] 0 0 ((5 ∷ [], false) ∷ []) 0 None false 0 false
+n4 = data_link Network Open (1 ∷ []) [] 0 0 ((5 ∷ [], false) ∷ []) 0 None false 0 true false
 
 coding : (c : Content) → FrameFits Sdcch (frame_of c) → IsFrameCoding Sdcch (frame_of c) (octets_of Sdcch (frame_of c))
 coding c fits = (octets_canonical Sdcch (frame_of c) fits).frame
@@ -394,13 +406,14 @@ module _ (lib : Library) where
   at_end = ends
 
   acked : Goes (both m6 n4) (down rr) (Takes Mobile rr 0 (one_notice (N.Acked 1)) ∷ [])
-  acked = takes lib Mobile rr (frame_of (Rr 1 true)) (one_notice (N.Acked 1)) coded_rr refl refl refl at_end
+  acked = takes lib Mobile rr (frame_of (Rr 1 true)) (one_notice (N.Acked 1)) coded_rr refl refl refl refl at_end
 
   acknowledges : Goes (both m6 n3) empty_queues acknowledging
   acknowledges = fills lib Network rr refl refl refl acked
 
   got : Goes (both m6 n2) (up repeated) (Takes Network repeated 0 (one_notice (N.Got (5 ∷ []))) ∷ acknowledging)
-  got = takes lib Network repeated (frame_of (I 0 0 true false (5 ∷ []))) (one_notice (N.Got (5 ∷ []))) coded_repeated refl refl refl
+  got = takes lib Network repeated (frame_of (I 0 0 true false (5 ∷ []))) (one_notice (N.Got (5 ∷ []))) coded_repeated
+      refl refl refl refl
       acknowledges
 
   repeats : Goes (both m5 n2) empty_queues repeating
@@ -416,13 +429,14 @@ module _ (lib : Library) where
   sends = calls lib Mobile (Sends (5 ∷ [])) refl tt tt refl sent
 
   opened : Goes (both m2 n2) (down ua) (Takes Mobile ua 0 (one_notice (N.Opened (1 ∷ []))) ∷ sending)
-  opened = takes lib Mobile ua (frame_of (Ua true (1 ∷ []))) (one_notice (N.Opened (1 ∷ []))) coded_ua refl refl refl sends
+  opened = takes lib Mobile ua (frame_of (Ua true (1 ∷ []))) (one_notice (N.Opened (1 ∷ []))) coded_ua refl refl refl refl sends
 
   answers : Goes (both m2 n1) empty_queues answering
   answers = fills lib Network ua refl refl refl opened
 
   accepted : Goes (both m2 n0) (up sabm) (Takes Network sabm 0 (one_notice (N.Opened (1 ∷ []))) ∷ answering)
-  accepted = takes lib Network sabm (frame_of (Sabm true (1 ∷ []))) (one_notice (N.Opened (1 ∷ []))) coded_sabm refl refl refl answers
+  accepted = takes lib Network sabm (frame_of (Sabm true (1 ∷ []))) (one_notice (N.Opened (1 ∷ []))) coded_sabm
+      refl refl refl refl answers
 
   establishes : Goes (both m1 n0) empty_queues
       (Fills Mobile (0 ∷ 0 ∷ []) sabm 0 (c_report []) ∷ Takes Network sabm 0 (one_notice (N.Opened (1 ∷ []))) ∷ answering)
@@ -436,7 +450,7 @@ module _ (lib : Library) where
   new_shows Network = (lib.new Network).1.represents
 
   -- so the premises of `law_joined_data_links_deliver_in_order` hold of this run
-  is_run : (a z : PairState) × IsPairStart Sdcch (λ role sapi. 1) a × IsPairRun a run z
+  is_run : (a z : PairState) × IsPairStart Sdcch Contention (λ role sapi. 1) a × IsPairRun a run z
   is_run =
       let a : PairState = record { struct_of = λ r. (lib.new r).0; blocks = empty_queues } in
       let more = goes.leads a (record { represents = new_shows; blocks = refl }) in

@@ -97,24 +97,24 @@ module _ (old : Slot) (frame came : ℕ) (burst : List ℤ) (before : SlotBlock)
       let none : step.finished ≡ None = cc in (
         h.1,
         subst (λ (f : Option FinishedBlock). MatchOption f (IsAnswer 0 0 × (before ≡ before))
-            (λ finished. IsAnswer 0 1 × IsSlotBlock old.words old.erasures finished step.done before)) (sym none) (refl, refl),
+            (λ finished. IsAnswer 0 1 × IsSlotBlock old.words old.erasures old.limit finished step.done before)) (sym none) (refl, refl),
       )
 
   pub taken_block : (settings : Option Settings) (refusal : Option Refusal) (new : Slot) (done' : List (List ℤ))
       (given : Option FinishedBlock) (f : FinishedBlock) (after : SlotBlock) → given ≡ Some f →
       TakesWith settings refusal old frame came burst no_bursts (Ok given) new done' →
-      IsSlotBlock old.words old.erasures f done' after →
+      IsSlotBlock old.words old.erasures old.limit f done' after →
       SlotTakesWith settings refusal old frame came burst before 1 new after
   taken_block None refusal new done' given f after e h is = absurd cc
   taken_block (Some s) (Some r) new done' given f after e h is = absurd cc
   taken_block (Some s) None new done' given f after e h is =
       let step = take_frame s frame came burst old no_bursts in
       let some : step.finished ≡ Some f = cc in
-      let own : IsSlotBlock old.words old.erasures f step.done after =
-      subst (λ (d : List (List ℤ)). IsSlotBlock old.words old.erasures f d after) h.2 is in (
+      let own : IsSlotBlock old.words old.erasures old.limit f step.done after =
+      subst (λ (d : List (List ℤ)). IsSlotBlock old.words old.erasures old.limit f d after) h.2 is in (
         h.1,
         subst (λ (g : Option FinishedBlock). MatchOption g (IsAnswer 1 0 × (after ≡ before))
-            (λ finished. IsAnswer 1 1 × IsSlotBlock old.words old.erasures finished step.done after)) (sym some) (refl, own),
+            (λ finished. IsAnswer 1 1 × IsSlotBlock old.words old.erasures old.limit finished step.done after)) (sym some) (refl, own),
       )
 
 -- ## Softened: soft bits stay as they are.

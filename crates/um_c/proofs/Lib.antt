@@ -1,4 +1,5 @@
 mod Calls
+mod Rows
 mod DataLinkCalls
 mod OneLink
 mod Sessions
@@ -6,3 +7,5 @@ mod DataLinkRuns
 mod DataLinkRunsWorked
 mod Establishing
 pub mod ErasingReports
+pub mod FacchReports
+pub mod Limits

@@ -12,13 +12,13 @@ use Rattle.{
   lapdm_datalink.{
     specs.{
       declared.{links.Link.Link, data_links.Slot.Slot},
-      Links.{LinkState, after_slot, after_frame, slot_outcome, sends_nothing, SlotOutcome, is_due, slot_outcome_owing, frame_notices},
+      Links.{LinkState, after_slot, after_received, slot_outcome, sends_nothing, SlotOutcome, is_due, slot_outcome_owing, received_notices},
       DataLinks.{DataLinkState, IsDataLink, with_link, with_clocks_moved, holds_up_sapi3, taken_by, after_arrival, sapi_for_frame},
-      DataLinks.{arrival_notices, data_link_outcome, with_sapi3, is_ui},
+      DataLinks.{arrival_notices, data_link_outcome, with_sapi3, is_ui, on_sapi0},
       Parts.{LinkValues, ValuesRepresent, SomeLinkHasValues, DataLinkValues, AreOfOneDataLink, values_of, acts_in_slot},
       Abstraction.notices_if,
     },
-    proofs.{Lemmas.{replaced, same_after_frame, same_slot, valid_with_flags, valid_clocks, sapi0_sends, sapi3_sends}, Lockstep.ui-same},
+    proofs.{Lemmas.{replaced, same_after_received, same_slot, valid_with_flags, valid_clocks, sapi0_sends, sapi3_sends}, Kept.ui-same},
   },
   um_c.{
     specs.{
@@ -142,6 +142,7 @@ link_counted c b l h = record {
         answer = g.represents.answer;
         is_answer = g.represents.is_answer;
         is_sent = g.represents.is_sent;
+        heard = g.represents.heard;
         clock = ap (λ (k : ℕ). k - 1) g.represents.clock;
       };
     }
@@ -211,7 +212,6 @@ beside x y s h g v =
     let a = fields x s.link0 h in
     let b = fields y s.link3 g in
     record {
-      sapi0 = a.sapi ∙ v.sapi0;
       sapi3 = b.sapi ∙ v.sapi3;
       role = b.role ∙ v.role ∙ sym a.role;
       channel = b.channel ∙ v.channel ∙ sym a.channel;
@@ -225,7 +225,6 @@ one_data_link x y s h g v =
     let a = fields x s.link0 h in
     let b = fields y s.link3 g in
     record {
-      sapi0 = sym a.sapi ∙ v.sapi0;
       sapi3 = sym b.sapi ∙ v.sapi3;
       role = sym b.role ∙ v.role ∙ a.role;
       channel = sym b.channel ∙ v.channel ∙ a.channel;
@@ -300,37 +299,37 @@ valid_endpoint c l h = h.represents.represents.endpoint.valid
 -- the struct once the link of SAPI 0 or 3 has taken a frame, and is written unless that is a UI frame
 module _ (c after : CDataLink) (f : Frame) (s : DataLinkState) (notices : List Notice) (h : RepresentsDataLink c s)
     (fits : FrameFits s.link0.endpoint.channel f) where
-  pub passed_to0 : (d : CTimedEnd) → after ≡ record c { link0 = d } → RepresentsLink d (after_frame f s.link0) →
-      IsLinkWritten (not (is_ui f.content)) c.link0 d → notices ≡ frame_notices f s.link0 →
+  pub passed_to0 : (d : CTimedEnd) → after ≡ record c { link0 = d } → RepresentsLink d (after_received f s.link0) →
+      IsLinkWritten (not (is_ui f.content)) c.link0 d → notices ≡ received_notices f s.link0 →
       FrameIsPassed (Some Zero) f s c after notices
   passed_to0 d is does written reports =
       let g = both c s h in
       rw is (record {
-        represents = joined _ (with_link Zero (after_frame f s.link0) s) (record {
+        represents = joined _ (with_link Zero (after_received f s.link0) s) (record {
           link0 = does;
           link3 = g.link3;
           heard = g.heard;
           main = g.main;
-          valid = replaced Zero _ s g.valid (same_after_frame f s.link0 (valid_endpoint c.link0 s.link0 g.link0) fits);
+          valid = replaced Zero _ s g.valid (same_after_received f s.link0 (valid_endpoint c.link0 s.link0 g.link0) fits);
         });
         link0 = written;
         link3 = refl;
         reports = ap (reports_of Zero) reports;
       })
 
-  pub passed_to3 : (d : CTimedEnd) → after ≡ record c { link3 = d } → RepresentsLink d (after_frame f s.link3) →
-      IsLinkWritten (not (is_ui f.content)) c.link3 d → notices ≡ frame_notices f s.link3 →
+  pub passed_to3 : (d : CTimedEnd) → after ≡ record c { link3 = d } → RepresentsLink d (after_received f s.link3) →
+      IsLinkWritten (not (is_ui f.content)) c.link3 d → notices ≡ received_notices f s.link3 →
       FrameIsPassed (Some Three) f s c after notices
   passed_to3 d is does written reports =
       let g = both c s h in
       rw is (record {
-        represents = joined _ (with_link Three (after_frame f s.link3) s) (record {
+        represents = joined _ (with_link Three (after_received f s.link3) s) (record {
           link0 = g.link0;
           link3 = does;
           heard = g.heard;
           main = g.main;
           valid = replaced Three _ s g.valid
-              (same_after_frame f s.link3 (valid_endpoint c.link3 s.link3 g.link3) (rw g.valid.channel fits));
+              (same_after_received f s.link3 (valid_endpoint c.link3 s.link3 g.link3) (rw g.valid.channel fits));
         });
         link0 = refl;
         link3 = written;
@@ -344,8 +343,8 @@ passed_to_none c f s notices h = record { represents = h; link0 = refl; link3 = 
 
 -- nor is a UI frame without information passed to any: it would change nothing and report nothing
 empty_ui_changes : (n : ℕ) (cr : Bool) (k : Content) (l : LinkState) → is_empty_ui k ≡ true →
-    (after_frame (record { sapi = n; cr = cr; content = k }) l ≡ l)
-    × (frame_notices (record { sapi = n; cr = cr; content = k }) l ≡ []) × (is_ui k ≡ true)
+    (after_received (record { sapi = n; cr = cr; content = k }) l ≡ l)
+    × (received_notices (record { sapi = n; cr = cr; content = k }) l ≡ []) × (is_ui k ≡ true)
 empty_ui_changes n cr (Ui p []) l h = (ui-same n cr (Ui p []) l refl, grind arith, refl)
 empty_ui_changes n cr (Ui p (x ∷ xs)) l h = absurd cc
 empty_ui_changes n cr k l h = absurd cc
@@ -409,9 +408,11 @@ module _ (s : DataLinkState) (before after : CDataLink) (h : RepresentsDataLink 
   no_frame (Some f) e = absurd cc
   no_frame None e = refl
 
-  pub filled_by0 : (block : List ℕ) → sent0 ≡ Some block → after.link3 ≡ before.link3 →
-      SlotIsFilled s (record { block = sent0; gave_up0 = gave0; gave_up3 = false }) before after
-  filled_by0 block some same =
+  pub filled_by0 : (block : List ℕ) → sent0 ≡ Some block → after.link3 ≡ before.link3 → (written : Option (List ℕ)) →
+      written ≡ option_map (octets_of s.link0.endpoint.channel)
+      (option_map (on_sapi0 s.link0.endpoint.sapi) (slot_outcome s.link0).frame) →
+      SlotIsFilled s (record { block = written; gave_up0 = gave0; gave_up3 = false }) before after
+  filled_by0 block some same written with_sapi0 =
       let g = both before s h in
       let o = slot_outcome s.link0 in
       let is = sapi0_sends o o.frame s s.link0.endpoint.channel block (sym some ∙ block0) in
@@ -427,7 +428,7 @@ module _ (s : DataLinkState) (before after : CDataLink) (h : RepresentsDataLink 
         link3 = rw (some_frame o.frame block (sym some ∙ block0)) same;
         heard0 = heard;
         main = main;
-        block = rw is block0;
+        block = rw is with_sapi0;
         gave_up0 = rw is up0;
         gave_up3 = rw is refl;
       }

@@ -1,6 +1,7 @@
 -- What the data link calls of the C library return and write.
-use Rattle.std.specs.Prelude.{ℕ, ◌≡◌, ◌≢◌, ◌-◌, Bool, true, false, not, if◌then◌else◌, ◌&&◌, List, [], ◌++◌}
-use Rattle.std.specs.Prelude.{map, length, drop, replicate, Option, Some, None}
+use Rattle.std.specs.Prelude.{ℕ, ◌≡◌, ◌≢◌, ◌==◌, ◌-◌, Bool, true, false, not, if◌then◌else◌, ◌&&◌, List, []}
+use Rattle.std.specs.Prelude.{◌++◌}
+use Rattle.std.specs.Prelude.{map, length, drop, replicate, slice_get, Option, Some, None}
 use Rattle.std.specs.Option.{is_none, option_map}
 use Rattle.lapdm_frame.specs.declared.Channel.{Channel}
 use Rattle.lapdm_frame.specs.declared.Channel.TheVariants.{Sdcch, Sacch}
@@ -13,17 +14,22 @@ use Rattle.um_air.specs.lapdm_window.declared.Sapi.{Sapi}
 use Rattle.um_air.specs.lapdm_window.declared.Sapi.TheVariants.{Zero, Three}
 use Rattle.um_air.specs.lapdm_window.declared.Notice.{Notice}
 use Rattle.um_air.specs.lapdm_window.declared.Refused.{Refused}
-use Rattle.um_air.specs.lapdm_window.Ends.{Role, command_cr}
-use Rattle.um_air.specs.lapdm_window.Calls.{Call, SendsUi, IsCallAllowedForEndpoint, refusal_of}
+use Rattle.um_air.specs.lapdm_window.Ends.{Role, EndpointState, command_cr}
+use Rattle.um_air.specs.segmenting.declared.buffers.MessageBuffer.{MessageBuffer}
+use Rattle.um_air.specs.segmenting.Buffers.{message_buffer}
+use Rattle.um_air.specs.lapdm_window.Calls.{Call, OpensWithoutInfo, SendsUi, IsCallAllowedForEndpoint, refusal_of}
 use Rattle.lapdm_end.specs.declared.Role.{Role as Side}
 use Rattle.lapdm_end.specs.Parts.{EndpointValues}
 use Rattle.lapdm_datalink.specs.declared.links.Link.{Link}
 use Rattle.lapdm_datalink.specs.declared.data_links.Slot.{Slot}
 use Rattle.lapdm_datalink.specs.Abstraction.{notices_if}
-use Rattle.lapdm_datalink.specs.Links.{LinkState, for_call, after_call, after_frame, ui_frame, slot_outcome}
+use Rattle.lapdm_datalink.specs.Links.{LinkState, for_call, after_call, after_received, slot_outcome}
+use Rattle.lapdm_datalink.specs.Links.{for_establishment, after_establishment, unacked_messages}
+use Rattle.lapdm_datalink.specs.declared.data_links.Establishment.{Establishment}
+use Rattle.lapdm_datalink.specs.declared.data_links.Establishment.TheVariants.{Contention, Normal}
 use Rattle.lapdm_datalink.specs.DataLinks.{DataLinkState, initial_data_link, link_with_sapi, with_link, sapi_for_frame, after_arrival}
 use Rattle.lapdm_datalink.specs.DataLinks.{arrival_notices, data_link_outcome, with_clocks_moved, DataLinkOutcome, with_sapi3}
-use Rattle.lapdm_datalink.specs.DataLinks.{notices_of_taking, is_ui}
+use Rattle.lapdm_datalink.specs.DataLinks.{notices_of_taking, is_ui, unit_frame}
 use Rattle.lapdm_datalink.specs.Parts.{LinkValues, ValuesRepresent, DataLinkValues, RepresentDataLink, acts_in_slot}
 use Rattle.um_c.specs.declared.datalinks.CTimedEnd.{CTimedEnd}
 use Rattle.um_c.specs.declared.datalinks.CDataLink.{CDataLink}
@@ -50,6 +56,7 @@ link_values_if_valid c (Some x) = Some (record {
   answer = answer_from c.owed c.answer;
   is_sent = is_nonzero c.sent;
   clock = c.clock;
+  heard = is_nonzero c.heard;
 })
 
 abbrev pub link_values_from : CTimedEnd → Option LinkValues
@@ -102,6 +109,7 @@ c_timed_end x = record {
   clock = x.clock;
   owed = owed_number x.answer;
   answer = answer_octets x.answer;
+  heard = bit_of_bool x.heard;
 }
 
 -- the struct written for these values
@@ -203,29 +211,44 @@ pub record SucceedsOver (before : CDataLink) (acts : Sapi → Bool) (s : DataLin
   pub answer_is_0 : answer ≡ 0
   pub written : IsWrittenOver before acts s after
 
--- if role, channel and both T200 are valid, the call returns true, and `after` is written for a new data link; otherwise it returns false
--- and writes nothing
-abbrev pub WritesDataLinkIfValid : (role : Option Side) (channel : Option Channel) (t200 t200_sapi3 : ℕ) (are_set : Bool) (answer : Bool)
-    (before after : CDataLink) → Type 0
-WritesDataLinkIfValid (Some role) (Some channel) t t3 true answer before after =
-    (answer ≡ true) × IsWrittenFor (initial_data_link (A.spec_role_of role) channel t t3) after
-WritesDataLinkIfValid role channel t t3 are_set answer before after = (answer ≡ false) × (after ≡ before)
+-- the kind of establishment with this number: 0 is with contention resolution, 1 is normal, any other number is invalid
+abbrev pub establishment_of : (number : ℕ) → Option Establishment
+establishment_of number = if number == 0 then Some Contention else if number == 1 then Some Normal else None
 
--- a call of layer 3 to the link of this SAPI is carried out or refused; the call returns 8 if no link has this SAPI or the link does not
--- support it, and 7 if `before` represents no data link; unless it returns 0, it writes nothing
-pub record DataLinkAnswersCall (sapi : ℕ) (call : Call) (answer : ℕ) (before after : CDataLink) : Type 0 where
-  pub carried_out : (s : DataLinkState) → RepresentsDataLink before s → (p : Sapi) → Some p ≡ sapi_of sapi →
-      IsCallAllowedForEndpoint (link_with_sapi p s).endpoint call →
-      refusal_of call (for_call call (link_with_sapi p s)).endpoint ≡ None →
-      Succeeds (with_link p (after_call call (link_with_sapi p s)) s) answer after
-  pub refused : (s : DataLinkState) → RepresentsDataLink before s → (p : Sapi) → Some p ≡ sapi_of sapi →
-      IsCallAllowedForEndpoint (link_with_sapi p s).endpoint call → (reason : Refused) →
-      refusal_of call (for_call call (link_with_sapi p s)).endpoint ≡ Some reason → answer ≡ call_refusal_number reason
-  pub unsupported_call : (s : DataLinkState) → RepresentsDataLink before s → (p : Sapi) → Some p ≡ sapi_of sapi →
-      (IsCallAllowedForEndpoint (link_with_sapi p s).endpoint call → ⊥) → answer ≡ 8
-  pub no_such_sapi : RepresentsSomeDataLink before → None ≡ sapi_of sapi → answer ≡ 8
-  pub invalid_struct : (RepresentsSomeDataLink before → ⊥) → answer ≡ 7
-  pub unchanged : answer ≢ 0 → after ≡ before
+-- if role, channel, kind of establishment and both T200 are valid, the call returns true, and `after` is written for a new data link;
+-- otherwise it returns false and writes nothing
+abbrev pub WritesDataLinkIfValid : (role : Option Side) (channel : Option Channel) (establishment : Option Establishment)
+    (t200 t200_sapi3 : ℕ) (are_set : Bool) (answer : Bool) (before after : CDataLink) → Type 0
+WritesDataLinkIfValid (Some role) (Some channel) (Some establishment) t t3 true answer before after =
+    (answer ≡ true) × IsWrittenFor (initial_data_link (A.spec_role_of role) channel establishment t t3) after
+WritesDataLinkIfValid role channel establishment t t3 are_set answer before after = (answer ≡ false) × (after ≡ before)
+
+-- a request of layer 3 to the link of this SAPI is carried out as a change, or refused; the call returns 8 if no link has this SAPI or the
+-- link does not support the request, and 7 if `before` represents no data link; unless it returns 0, it writes nothing
+pub record DataLinkAnswers (sapi : ℕ) (Supports : EndpointState → Type 0) (refusal : LinkState → Option Refused)
+    (change : LinkState → LinkState) (answer : ℕ) (before after : CDataLink) : Type 0
+  where
+    pub carried_out : (s : DataLinkState) → RepresentsDataLink before s → (p : Sapi) → Some p ≡ sapi_of sapi →
+        Supports (link_with_sapi p s).endpoint → refusal (link_with_sapi p s) ≡ None →
+        Succeeds (with_link p (change (link_with_sapi p s)) s) answer after
+    pub refused : (s : DataLinkState) → RepresentsDataLink before s → (p : Sapi) → Some p ≡ sapi_of sapi →
+        Supports (link_with_sapi p s).endpoint → (reason : Refused) → refusal (link_with_sapi p s) ≡ Some reason →
+        answer ≡ call_refusal_number reason
+    pub unsupported_call : (s : DataLinkState) → RepresentsDataLink before s → (p : Sapi) → Some p ≡ sapi_of sapi →
+        (Supports (link_with_sapi p s).endpoint → ⊥) → answer ≡ 8
+    pub no_such_sapi : RepresentsSomeDataLink before → None ≡ sapi_of sapi → answer ≡ 8
+    pub invalid_struct : (RepresentsSomeDataLink before → ⊥) → answer ≡ 7
+    pub unchanged : answer ≢ 0 → after ≡ before
+
+-- so is a call of layer 3
+abbrev pub DataLinkAnswersCall : (sapi : ℕ) (call : Call) (answer : ℕ) (before after : CDataLink) → Type 0
+DataLinkAnswersCall sapi call = DataLinkAnswers sapi (λ e. IsCallAllowedForEndpoint e call)
+    (λ l. refusal_of call (for_call call l).endpoint) (after_call call)
+
+-- and so the establishment of a link without information, which every link supports
+abbrev pub DataLinkEstablishes : (sapi : ℕ) (answer : ℕ) (before after : CDataLink) → Type 0
+DataLinkEstablishes sapi = DataLinkAnswers sapi (λ e. Unit {0}) (λ l. refusal_of OpensWithoutInfo (for_establishment l).endpoint)
+    after_establishment
 
 -- a change of the link of this SAPI that is never refused
 pub record DataLinkChangesLink (sapi : ℕ) (change : LinkState → LinkState) (answer : ℕ) (before after : CDataLink) : Type 0 where
@@ -298,7 +321,7 @@ pub record SlotIsFilled (s : DataLinkState) (slot : Slot) (before after : CDataL
 -- the data link after the link of this SAPI, if any, takes a frame
 abbrev pub passed_to : Option Sapi → Frame → DataLinkState → DataLinkState
 passed_to None f s = s
-passed_to (Some sapi) f s = with_link sapi (after_frame f (link_with_sapi sapi s)) s
+passed_to (Some sapi) f s = with_link sapi (after_received f (link_with_sapi sapi s)) s
 
 -- so it did, and these are its notices
 pub record FrameIsPassed (sapi : Option Sapi) (f : Frame) (s : DataLinkState) (before after : CDataLink) (notices : List Notice) : Type 0
@@ -316,9 +339,21 @@ pub record DataLinkEncodesUnit (sapi : ℕ) (m : Message) (layer1 : List ℕ) (a
     pub carried_out : (s : DataLinkState) → RepresentsDataLink c s → (p : Sapi) → Some p ≡ sapi_of sapi →
         refusal_of (SendsUi m) (link_with_sapi p s).endpoint ≡ None →
         (answer ≡ 0) × (block ≡ with_layer1 s.link0.endpoint.channel layer1
-        (octets_of s.link0.endpoint.channel (ui_frame m (link_with_sapi p s).endpoint)))
+        (octets_of s.link0.endpoint.channel (unit_frame p m s)))
     pub refused : (s : DataLinkState) → RepresentsDataLink c s → (p : Sapi) → Some p ≡ sapi_of sapi → (reason : Refused) →
         refusal_of (SendsUi m) (link_with_sapi p s).endpoint ≡ Some reason → answer ≡ call_refusal_number reason
     pub no_such_sapi : RepresentsSomeDataLink c → None ≡ sapi_of sapi → answer ≡ 8
     pub invalid_struct : (RepresentsSomeDataLink c → ⊥) → answer ≡ 7
     pub unchanged : answer ≢ 0 → block ≡ block_old
+
+-- the message with this index, of those that the link of this SAPI was asked to send and that are not acknowledged whole, is written; the
+-- call returns 4 if there is none, 8 if no link has this SAPI, and 7 if the struct represents no data link; unless it returns 0, it writes
+-- nothing
+pub record DataLinkHasUnacked (sapi index answer : ℕ) (c : CDataLink) (before after : MessageBuffer) : Type 0 where
+  pub written : (s : DataLinkState) → RepresentsDataLink c s → (p : Sapi) → Some p ≡ sapi_of sapi → (m : Message) →
+      slice_get (unacked_messages (link_with_sapi p s).endpoint) index ≡ Some m → (answer ≡ 0) × (after ≡ message_buffer m)
+  pub no_more : (s : DataLinkState) → RepresentsDataLink c s → (p : Sapi) → Some p ≡ sapi_of sapi →
+      slice_get (unacked_messages (link_with_sapi p s).endpoint) index ≡ None → answer ≡ 4
+  pub no_such_sapi : RepresentsSomeDataLink c → None ≡ sapi_of sapi → answer ≡ 8
+  pub invalid_struct : (RepresentsSomeDataLink c → ⊥) → answer ≡ 7
+  pub unchanged : answer ≢ 0 → after ≡ before

@@ -16,7 +16,8 @@ use Rattle.um_air.specs.lapdm_link.Events.{other}
 use Rattle.um_air.specs.lapdm_link.Claims.{LogLine, Asked, Notified}
 use Rattle.lapdm_datalink.specs.Links.{IsLinkCall, is_reopened_by_call}
 use Rattle.lapdm_datalink.specs.DataLinks.{DataLinkState, initial_data_link, link_with_sapi, having_main}
-use Rattle.lapdm_datalink.specs.Runs.{OpensNoClosedLink}
+use Rattle.lapdm_datalink.specs.declared.data_links.Establishment.{Establishment}
+use Rattle.lapdm_delivery.specs.Runs.{OpensNoClosedLink}
 use Rattle.um_c.specs.declared.datalinks.CDataLink.{CDataLink}
 use Rattle.um_c.specs.declared.datalinks.CReport.{CReport}
 use Rattle.um_c.specs.declared.effects.CNotice.{CNotice}
@@ -79,7 +80,7 @@ IsPairStep a (Loses sender) b = b ≡ record a { blocks = without_oldest_item se
 IsPairStep a (HasMain r established answer) b =
     DataLinkChanges (having_main established) answer (a.struct_of r) (b.struct_of r) × Replaces r a b a.blocks
 
--- the step opens no closed link again
+-- the step opens no link again that is closed or open
 abbrev pub OpensNoneAgain : (a : PairState) (step : PairStep) → Type 0
 OpensNoneAgain a (Calls r s call answer) =
     (d : DataLinkState) → RepresentsDataLink (a.struct_of r) d → is_reopened_by_call call (link_with_sapi s d) ≡ false
@@ -87,12 +88,12 @@ OpensNoneAgain a (Takes r block answer report) = (d : DataLinkState) → Represe
     IsFrameCoding d.link0.endpoint.channel f block → OpensNoClosedLink (Some f) d
 OpensNoneAgain a step = Unit {0}
 
--- the program at its start: `um_datalink_new` wrote each struct, and no block is in transit
-pub record IsPairStart (channel : Channel) (t200 : Role → Sapi → ℕ) (a : PairState) : Type 0 where
-  pub new_struct : (r : Role) → IsWrittenFor (initial_data_link r channel (t200 r Zero) (t200 r Three)) (a.struct_of r)
+-- the program at its start: `um_datalink_new_for` wrote each struct, and no block is in transit
+pub record IsPairStart (channel : Channel) (establishment : Establishment) (t200 : Role → Sapi → ℕ) (a : PairState) : Type 0 where
+  pub new_struct : (r : Role) → IsWrittenFor (initial_data_link r channel establishment (t200 r Zero) (t200 r Three)) (a.struct_of r)
   pub blocks : a.blocks ≡ empty_queues
 
--- the steps lead from `a` to `z`, and none opens a closed link again
+-- the steps lead from `a` to `z`, and none opens a link again
 abbrev pub IsPairRun : (a : PairState) (steps : List PairStep) (z : PairState) → Type 0
 IsPairRun a [] z = z ≡ a
 IsPairRun a (step ∷ steps) z = OpensNoneAgain a step × (b : PairState) × IsPairStep a step b × IsPairRun b steps z

@@ -13,4 +13,7 @@ pub mod DataLinkRuns
 pub mod Opening
 pub mod TimeCalls
 pub mod SlotCalls
+pub mod FacchReports
+pub mod TrafficPlaces
+pub mod TrafficCalls
 pub mod Version

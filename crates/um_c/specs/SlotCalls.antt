@@ -1,11 +1,12 @@
 -- The C structs of erasure decoding and of a receiver of a time slot, and what the calls answer.
-use Rattle.std.specs.Prelude.{ℕ, ◌≡◌, ℤ, pos, List, map, replicate, Option, Some, None, MatchOption}
-use Rattle.um_block.specs.Received.{coded_soft_bits}
+use Rattle.std.specs.Prelude.{ℕ, ◌≡◌, ◌+◌, ◌-◌, nat_le, max, if◌then◌else◌, Bool, true, false, ℤ, pos}
+use Rattle.std.specs.Prelude.{List, map, replicate, slice_index, Option, Some, None, MatchOption, IsSome}
+use Rattle.um_block.specs.Received.{IsReceivedTsc, coded_soft_bits}
 use Rattle.um_block.specs.interleave.Bursts.{IsInterleaved}
-use Rattle.um_erasing.specs.Erasing.{IsErasingDecodedBlock, without_burst}
+use Rattle.um_erasing.specs.Erasing.{IsErasingDecodedBlock, without_burst, wrong_training_of_bursts}
 use Rattle.um_erasing.specs.declared.blocks.ErasingDecodedBlock.{ErasingDecodedBlock}
 use Rattle.um_slot.specs.Numbers.{channel_number}
-use Rattle.um_slot.specs.Slots.{frame_refusal, settings_of, softened, take_frame}
+use Rattle.um_slot.specs.Slots.{end_block, frame_refusal, restarted, settings_of, softened, take_frame}
 use Rattle.um_slot.specs.declared.settings.Settings.{Settings}
 use Rattle.um_slot.specs.declared.slots.Slot.{Slot}
 use Rattle.um_slot.specs.declared.slots.FinishedBlock.{FinishedBlock}
@@ -34,6 +35,25 @@ pub record IsErasingReport (bursts : List (List ℤ)) (max_words erasures rank :
   pub wrong_training : erasure.wrong_training ≡ received.wrong_training
   pub erased : MatchOption received.erased (erasure.erased ≡ 4) (λ index. erasure.erased ≡ index)
 
+-- the sum of the three least of four numbers of wrong training bits: those of a block's three best bursts
+abbrev pub three_best : (wrong : List ℕ) → ℕ
+three_best wrong =
+    slice_index wrong 0 + slice_index wrong 1 + slice_index wrong 2 + slice_index wrong 3
+    - max (max (slice_index wrong 0) (slice_index wrong 1)) (max (slice_index wrong 2) (slice_index wrong 3))
+
+-- how much is tried where a limit is set: `full` if the three best bursts have at most `limit` wrong training bits, else `least`
+abbrev pub tried : (limit : ℕ) (wrong : List ℕ) (full least : ℕ) → ℕ
+tried limit wrong full least = if nat_le (three_best wrong) limit then full else least
+
+-- the report on a block of which words and erasures are tried only where its three best bursts have at most `limit` wrong training bits, of
+-- the training sequence that the four bursts have
+pub record IsLimitedReport (bursts : List (List ℤ)) (max_words erasures limit rank : ℕ) (report : BlockReport) (erasure : Erasure) :
+    Type 0 where
+  pub tsc : ℕ
+  pub detected : IsReceivedTsc bursts tsc
+  pub reported : IsErasingReport bursts (tried limit (wrong_training_of_bursts bursts tsc) max_words 1)
+      (tried limit (wrong_training_of_bursts bursts tsc) erasures 0) rank report erasure
+
 -- the number in the C API for the reason why a frame was not taken
 abbrev pub slot_refusal_number : Refusal → ℕ
 slot_refusal_number Invalid = 3
@@ -42,8 +62,8 @@ slot_refusal_number Doubled = 5
 slot_refusal_number Late = 6
 
 -- `block` is the report on a block whose bursts a receiver has collected
-pub record IsSlotBlock (words erasures : ℕ) (finished : FinishedBlock) (bursts : List (List ℤ)) (block : SlotBlock) : Type 0 where
-  pub report : IsErasingReport (map (map softened) bursts) words erasures block.rank block.report block.erasure
+pub record IsSlotBlock (words erasures limit : ℕ) (finished : FinishedBlock) (bursts : List (List ℤ)) (block : SlotBlock) : Type 0 where
+  pub report : IsLimitedReport (map (map softened) bursts) words erasures limit block.rank block.report block.erasure
   pub first : block.first ≡ finished.place.first
   pub channel : block.channel ≡ channel_number finished.place.position.channel
   pub subchannel : block.subchannel ≡ finished.place.position.subchannel
@@ -64,10 +84,26 @@ SlotTakesWith (Some settings) None old frame came burst before answer new after 
     let step = take_frame settings frame came burst old no_bursts in
     (new ≡ step.slot) × MatchOption step.finished
     ((answer ≡ 0) × (after ≡ before))
-    (λ finished. (answer ≡ 1) × IsSlotBlock old.words old.erasures finished step.done after)
+    (λ finished. (answer ≡ 1) × IsSlotBlock old.words old.erasures old.limit finished step.done after)
 
 -- what a call that takes a frame answers and writes
 abbrev pub SlotTakes : (old : Slot) (frame came : ℕ) (burst : List ℤ) (before : SlotBlock) (answer : ℕ) (new : Slot)
     (after : SlotBlock) → Type 0
 SlotTakes old frame came burst before answer new after =
     SlotTakesWith (settings_of old) (frame_refusal old frame) old frame came burst before answer new after
+
+-- the call returns 1 and writes the block that was being collected, or 0 if none was, and writes the receiver; or 3 if its state is not
+-- valid, and writes nothing
+abbrev pub SlotEnds : (settings : Option Settings) (old : Slot) (before : SlotBlock) (answer : ℕ) (new : Slot) (after : SlotBlock) →
+    Type 0
+SlotEnds None old before answer new after = (answer ≡ 3) × (new ≡ old) × (after ≡ before)
+SlotEnds (Some settings) old before answer new after =
+    let step = end_block settings.collecting (record { slot = old; finished = None; done = no_bursts }) in
+    (new ≡ step.slot) × MatchOption step.finished
+    ((answer ≡ 0) × (after ≡ before))
+    (λ finished. (answer ≡ 1) × IsSlotBlock old.words old.erasures old.limit finished step.done after)
+
+-- the call returns true and sets the receiver back, or false if a setting is out of range, and writes nothing
+abbrev pub SlotRestarts : (old : Slot) (answer : Bool) (new : Slot) → Type 0
+SlotRestarts old true new = IsSome (settings_of (restarted old)) × (new ≡ restarted old)
+SlotRestarts old false new = (settings_of (restarted old) ≡ None) × (new ≡ old)

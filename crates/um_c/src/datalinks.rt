@@ -15,12 +15,15 @@ ghost use Rattle.um_air.specs.lapdm_window.Ends.{command_cr};
 ghost use Rattle.um_air.specs.lapdm_window.Calls.{endpoint_call_of, IsCallAllowedFor, IsCallAllowedForEndpoint, Opens, OpensWithoutInfo};
 ghost use Rattle.um_air.specs.lapdm_window.Calls.{Sends, Closes};
 ghost use Rattle.lapdm_end.specs.Addresses.{spec_role_of};
-ghost use Rattle.lapdm_datalink.specs.Links.{LinkState, afresh, IsLinkCall, slot_outcome, after_frame, frame_notices};
+ghost use Rattle.lapdm_datalink.specs.Links.{LinkState, afresh, IsLinkCall, slot_outcome, after_received, received_notices};
 ghost use Rattle.lapdm_datalink.specs.DataLinks.{DataLinkState, link_with_sapi, having_main, holds_up_sapi3, is_ui};
 ghost use Rattle.lapdm_datalink.specs.Abstraction as L;
-ghost use Rattle.lapdm_datalink.specs.Abstraction.{channel_of as link_channel};
+ghost use Rattle.lapdm_datalink.specs.Abstraction.{channel_of as link_channel, sapi_of as link_sapi};
+ghost use Rattle.lapdm_datalink.specs.declared.data_links.Establishment.{Establishment as KindOf};
+ghost use Rattle.lapdm_datalink.specs.declared.data_links.Establishment.TheVariants.{Contention};
+ghost use Rattle.lapdm_delivery.specs.Runs.{log_of_link};
 ghost use Rattle.lapdm_datalink.specs.Parts.{acts_in_slot, values_of_parts, IsWritable, data_link_values_of, data_link_values_of_parts};
-ghost use Rattle.lapdm_datalink.specs.Sides.{role_of as data_link_role, Represents};
+ghost use Rattle.lapdm_datalink.specs.Sides.{role_of as data_link_role, link_of, Represents};
 ghost use Rattle.um_c.specs.declared.datalinks.CDataLink.{CDataLink as Struct};
 ghost use Rattle.um_c.specs.declared.datalinks.CTimedEnd.{CTimedEnd as LinkStruct};
 ghost use Rattle.um_c.specs.Plain.{channel_of, is_nonzero};
@@ -43,7 +46,10 @@ ghost use Rattle.um_c.specs.DataLinkCalls.{
   reports_of,
   reports_if_taken,
   WritesDataLinkIfValid,
+  establishment_of,
   DataLinkAnswersCall,
+  DataLinkEstablishes,
+  DataLinkHasUnacked,
   DataLinkChangesLink,
   DataLinkChanges,
   DataLinkReceivesBlock,
@@ -67,12 +73,15 @@ use crate::ends::{CALL_NOT_SUPPORTED, INVALID_ENDPOINT, INVALID_FRAME, call_refu
 use crate::frames::channel_of;
 use crate::states::{CEndpoint, endpoint_view_of, role_of, sapi_of, write_endpoint_view};
 use lapdm_datalink::{
-    DataLink, DataLinkView, Link, LinkSlot, LinkView, Slot, are_of_one_data_link, holds_up_sapi3,
+    DataLink, DataLinkView, Establishment, Link, LinkSlot, LinkView, Slot, any_on_sapi0,
+    are_of_one_data_link, holds_up_sapi3,
 };
 use lapdm_end::{Call, Effects, MessageBuffer, Notice, Role, Sapi};
 use lapdm_frame::{BLOCK_OCTETS, Body, Channel, FrameView, fill_on, read_on};
 
-const SLOT_IS_FREE: u8 = 10;
+const NO_MESSAGE: u32 = 4;
+
+const SLOT_IS_FREE: u32 = 10;
 
 /// The state of one link of a data link.
 #[repr(C)]
@@ -89,6 +98,8 @@ pub struct CTimedEnd {
     pub owed: u8,
     /// The block of a UA, DM, RR or REJ; zeros if none is owed.
     pub answer: [u8; BLOCK_OCTETS],
+    /// Whether an I, RR, RNR or REJ was received in Open: a SABM opens the link again from then on.
+    pub heard: u8,
 }
 
 /// The state of a data link.
@@ -124,16 +135,19 @@ pub fn law_equal_data_links_have_equal_structs()
     ensures counts { (is_stopped : Bool) (c : LinkStruct) → IsCanonicalLink c → IsCanonicalLink (counted is_stopped c) }
 {}
 
-/// Law: in a program that connects two new data links, makes no end anew and opens no closed link again, in which each side takes the
-/// oldest block in transit to it or the other side's fill frame, messages are delivered in order and before they are acknowledged, and each
-/// link is closed at most once.
+/// Law: in a program that connects two new data links, makes no end anew and opens no link again, in which each side takes the oldest block
+/// in transit to it or the other side's fill frame, messages are delivered in order and before they are acknowledged, and each link is
+/// closed at most once. With normal establishment of SAPI 0 that holds of the log of each link, which tells of it as of one of SAPI 3.
 pub fn law_joined_data_links_deliver_in_order()
     ensures delivery { (channel : ChannelOf) (t200 : SpecRole → SapiOf → ℕ) (a z : PairState) (steps : List PairStep)
-        → IsPairStart channel t200 a → IsPairRun a steps z → Claims (pair_log steps) }
+        → IsPairStart channel Contention t200 a → IsPairRun a steps z → Claims (pair_log steps) }
     ensures acked_at_most_delivered { (channel : ChannelOf) (t200 : SpecRole → SapiOf → ℕ) (a z : PairState) (steps : List PairStep)
-        → IsPairStart channel t200 a → IsPairRun a steps z → AckedAtMostDelivered (pair_log steps) }
+        → IsPairStart channel Contention t200 a → IsPairRun a steps z → AckedAtMostDelivered (pair_log steps) }
     ensures order { (channel : ChannelOf) (t200 : SpecRole → SapiOf → ℕ) (a z : PairState) (steps : List PairStep)
-        → IsPairStart channel t200 a → IsPairRun a steps z → HasNoticesInOrder (pair_log steps) }
+        → IsPairStart channel Contention t200 a → IsPairRun a steps z → HasNoticesInOrder (pair_log steps) }
+    ensures links { (channel : ChannelOf) (e : KindOf) (t200 : SpecRole → SapiOf → ℕ) (a z : PairState) (steps : List PairStep)
+        → IsPairStart channel e t200 a → IsPairRun a steps z → (sapi : SapiOf) → (let log = log_of_link e sapi (pair_log steps) in
+        Claims log × AckedAtMostDelivered log × HasNoticesInOrder log) }
 {}
 
 fn answer_of(c_struct: &CTimedEnd) -> Option<[u8; BLOCK_OCTETS]>
@@ -156,6 +170,7 @@ fn link_view_of(c_struct: &CTimedEnd) -> Option<LinkView<'_>>
         answer: answer_of(c_struct),
         is_sent: c_struct.sent != 0,
         clock: c_struct.clock,
+        heard: c_struct.heard != 0,
     })
 }
 
@@ -185,7 +200,7 @@ fn placeholder_for(data_link: &CDataLink) -> DataLink {
         Some(channel) => channel,
         None => Channel::Sdcch,
     };
-    DataLink::new_on(role, channel, 1, 1)
+    DataLink::new_on(role, channel, Establishment::Contention, 1, 1)
 }
 
 /// Reads the state into `held` in place, and returns true if it represents a data link; otherwise returns false. Copies of a data link took
@@ -209,6 +224,7 @@ fn write_link(parts: &LinkView<'_>, c_struct: &mut CTimedEnd)
     c_struct.t200 = parts.t200;
     c_struct.sent = u8::from(parts.is_sent);
     c_struct.clock = parts.clock;
+    c_struct.heard = u8::from(parts.heard);
     match parts.answer {
         None => {
             c_struct.owed = 0;
@@ -231,8 +247,19 @@ fn write_data_link(held: &DataLink, data_link: &mut CDataLink)
     data_link.main = u8::from(parts.is_main_established);
 }
 
-/// Writes the state of a new data link, with T200 of SAPI 0 and of SAPI 3 in slots. Returns false, and writes nothing, if the role or
-/// channel is invalid or a T200 is 0.
+/// Returns the kind of establishment with this number.
+fn establishment_of(number: u8) -> Option<Establishment>
+    ensures { result ≡ establishment_of number }
+{
+    match number {
+        0 => Some(Establishment::Contention),
+        1 => Some(Establishment::Normal),
+        _ => None,
+    }
+}
+
+/// Writes the state of a new data link, with T200 of SAPI 0 and of SAPI 3 in slots; SAPI 0 is established with contention resolution.
+/// Returns false, and writes nothing, if the role or channel is invalid or a T200 is 0.
 #[unsafe(no_mangle)]
 pub extern "C" fn um_datalink_new(
     data_link: &mut CDataLink,
@@ -241,13 +268,34 @@ pub extern "C" fn um_datalink_new(
     t200: u8,
     t200_sapi3: u8,
 ) -> bool
-    ensures { WritesDataLinkIfValid (role_of role) (channel_of channel) t200 t200_sapi3 (not (t200 == 0) && not (t200_sapi3 == 0)) result
-        data_link.old data_link.new }
+    ensures { WritesDataLinkIfValid (role_of role) (channel_of channel) (Some Contention) t200 t200_sapi3
+        (not (t200 == 0) && not (t200_sapi3 == 0)) result data_link.old data_link.new }
+{
+    um_datalink_new_for(data_link, role, channel, 0, t200, t200_sapi3)
+}
+
+/// Writes the state of a new data link, with T200 of SAPI 0 and of SAPI 3 in slots; SAPI 0 is established with contention resolution (0),
+/// or without information by either side (1). Returns false, and writes nothing, if the role, channel or kind of establishment is invalid
+/// or a T200 is 0.
+#[unsafe(no_mangle)]
+pub extern "C" fn um_datalink_new_for(
+    data_link: &mut CDataLink,
+    role: u8,
+    channel: u8,
+    establishment: u8,
+    t200: u8,
+    t200_sapi3: u8,
+) -> bool
+    ensures { WritesDataLinkIfValid (role_of role) (channel_of channel) (establishment_of establishment) t200 t200_sapi3
+        (not (t200 == 0) && not (t200_sapi3 == 0)) result data_link.old data_link.new }
 {
     let Some(role) = role_of(role) else {
         return false;
     };
     let Some(channel) = channel_of(channel) else {
+        return false;
+    };
+    let Some(establishment) = establishment_of(establishment) else {
         return false;
     };
     // Two `if`s, since the prover takes `||` badly in a function with many exits.
@@ -257,7 +305,7 @@ pub extern "C" fn um_datalink_new(
     if t200_sapi3 == 0 {
         return false;
     }
-    let held = DataLink::new_on(role, channel, t200, t200_sapi3);
+    let held = DataLink::new_on(role, channel, establishment, t200, t200_sapi3);
     write_data_link(&held, data_link);
     true
 }
@@ -271,22 +319,23 @@ pub extern "C" fn um_datalink_valid(data_link: &CDataLink) -> bool
     read_data_link(data_link, &mut held)
 }
 
-/// Returns whether the link of this SAPI supports the call: only a mobile establishes the link of SAPI 0, with information in its SABM;
-/// either side establishes that of SAPI 3, without information. A mobile would answer the network's SABM on SAPI 0 with a DM.
+/// Returns whether the link of this SAPI supports the call: only a mobile establishes a link with contention resolution, with information
+/// in its SABM; either side establishes one of normal establishment and that of SAPI 3, without information.
 fn link_supports_call(held: &DataLink, sapi: Sapi, call: &Call<'_>) -> bool
-    ensures exists { IsTrue result → IsCallAllowedFor (data_link_role held.now) sapi (endpoint_call_of call.now) }
+    ensures exists { IsTrue result
+        → IsCallAllowedFor (data_link_role held.now) (link_sapi (link_of sapi held.now)) (endpoint_call_of call.now) }
     ensures allowed { IsTrue result → (s : DataLinkState) → Represents held.now s
         → IsCallAllowedForEndpoint (link_with_sapi sapi s).endpoint (endpoint_call_of call.now) }
     ensures never { result ≡ false → (s : DataLinkState) → Represents held.now s
         → IsCallAllowedForEndpoint (link_with_sapi sapi s).endpoint (endpoint_call_of call.now) → ⊥ }
 {
     match *call {
-        Call::Open(_) => match (sapi, held.role()) {
+        Call::Open(_) => match (held.endpoint_sapi(sapi), held.role()) {
             (Sapi::Zero, Role::Mobile) => true,
             (Sapi::Zero, Role::Network) => false,
             (Sapi::Three, _) => false,
         },
-        Call::OpenBare => match sapi {
+        Call::OpenBare => match held.endpoint_sapi(sapi) {
             Sapi::Zero => false,
             Sapi::Three => true,
         },
@@ -299,7 +348,7 @@ fn link_supports_call(held: &DataLink, sapi: Sapi, call: &Call<'_>) -> bool
 }
 
 /// Carries out a call of layer 3 to the link of this SAPI. Returns 0, or an error number.
-fn call_data_link(data_link: &mut CDataLink, sapi: u8, call: &Call<'_>) -> u8
+fn call_data_link(data_link: &mut CDataLink, sapi: u8, call: &Call<'_>) -> u32
     requires { IsLinkCall (endpoint_call_of call.now) }
     ensures { DataLinkAnswersCall sapi (endpoint_call_of call.now) result data_link.old data_link.new }
 {
@@ -324,16 +373,37 @@ fn call_data_link(data_link: &mut CDataLink, sapi: u8, call: &Call<'_>) -> u8
 
 /// Begins to establish the link of SAPI 0, at the mobile, with this information in its SABM. Returns 0, or an error number.
 #[unsafe(no_mangle)]
-pub extern "C" fn um_datalink_open(data_link: &mut CDataLink, info: &MessageBuffer) -> u8
+pub extern "C" fn um_datalink_open(data_link: &mut CDataLink, info: &MessageBuffer) -> u32
     ensures { DataLinkAnswersCall 0 (Opens (octets_in_buffer info.now)) result data_link.old data_link.new }
 {
     call_data_link(data_link, 0, &Call::Open(info.octets()))
 }
 
-/// Begins to establish the link of SAPI 3. If it is closed, it starts afresh first, since an endpoint stays closed. Returns 0, or an error
-/// number.
+/// Begins to establish the link of this SAPI without information. A link that is closed or open starts afresh first; that of SAPI 0 is one
+/// of normal establishment from then on. Returns 0, or an error number.
 #[unsafe(no_mangle)]
-pub extern "C" fn um_datalink_open_bare(data_link: &mut CDataLink) -> u8
+pub extern "C" fn um_datalink_establish(data_link: &mut CDataLink, sapi: u8) -> u32
+    ensures { DataLinkEstablishes sapi result data_link.old data_link.new }
+{
+    let mut held = placeholder_for(data_link);
+    if !read_data_link(data_link, &mut held) {
+        return INVALID_ENDPOINT;
+    }
+    let Some(sapi) = sapi_of(sapi) else {
+        return CALL_NOT_SUPPORTED;
+    };
+    match held.establish(sapi) {
+        Err(refusal) => call_refusal_number(refusal),
+        Ok(()) => {
+            write_data_link(&held, data_link);
+            0
+        }
+    }
+}
+
+/// Begins to establish the link of SAPI 3. If it is closed or open, it starts afresh first. Returns 0, or an error number.
+#[unsafe(no_mangle)]
+pub extern "C" fn um_datalink_open_bare(data_link: &mut CDataLink) -> u32
     ensures { DataLinkAnswersCall 3 OpensWithoutInfo result data_link.old data_link.new }
 {
     call_data_link(data_link, 3, &Call::OpenBare)
@@ -345,15 +415,42 @@ pub extern "C" fn um_datalink_send(
     data_link: &mut CDataLink,
     sapi: u8,
     message: &MessageBuffer,
-) -> u8
+) -> u32
     ensures { DataLinkAnswersCall sapi (Sends (octets_in_buffer message.now)) result data_link.old data_link.new }
 {
     call_data_link(data_link, sapi, &Call::Send(message.octets()))
 }
 
+/// Writes the message with this index of those that the link of this SAPI was asked to send and that are not completely acknowledged,
+/// oldest first. Returns 0, 4 if there is none, or an error number.
+#[unsafe(no_mangle)]
+pub extern "C" fn um_datalink_unacked(
+    data_link: &CDataLink,
+    sapi: u8,
+    index: u8,
+    message: &mut MessageBuffer,
+) -> u32
+    ensures { DataLinkHasUnacked sapi index result data_link.now message.old message.new }
+{
+    let mut held = placeholder_for(data_link);
+    if !read_data_link(data_link, &mut held) {
+        return INVALID_ENDPOINT;
+    }
+    let Some(sapi) = sapi_of(sapi) else {
+        return CALL_NOT_SUPPORTED;
+    };
+    match held.unacked(sapi).get(usize::from(index)) {
+        None => NO_MESSAGE,
+        Some(unacked) => {
+            message.write(unacked.octets());
+            0
+        }
+    }
+}
+
 /// Begins to release the link of this SAPI. Unacknowledged messages are discarded. Returns 0, or an error number.
 #[unsafe(no_mangle)]
-pub extern "C" fn um_datalink_close(data_link: &mut CDataLink, sapi: u8) -> u8
+pub extern "C" fn um_datalink_close(data_link: &mut CDataLink, sapi: u8) -> u32
     ensures { DataLinkAnswersCall sapi Closes result data_link.old data_link.new }
 {
     call_data_link(data_link, sapi, &Call::Close)
@@ -361,7 +458,7 @@ pub extern "C" fn um_datalink_close(data_link: &mut CDataLink, sapi: u8) -> u8
 
 /// Local end release: the link of this SAPI starts afresh, and nothing is reported. Returns 0, or an error number.
 #[unsafe(no_mangle)]
-pub extern "C" fn um_datalink_close_local(data_link: &mut CDataLink, sapi: u8) -> u8
+pub extern "C" fn um_datalink_close_local(data_link: &mut CDataLink, sapi: u8) -> u32
     ensures { DataLinkChangesLink sapi afresh result data_link.old data_link.new }
 {
     let mut held = placeholder_for(data_link);
@@ -378,7 +475,7 @@ pub extern "C" fn um_datalink_close_local(data_link: &mut CDataLink, sapi: u8) -
 
 /// At a mobile on SACCH, says whether the link of SAPI 0 on the main channel is established. Returns 0, or 7.
 #[unsafe(no_mangle)]
-pub extern "C" fn um_datalink_main(data_link: &mut CDataLink, established: bool) -> u8
+pub extern "C" fn um_datalink_main(data_link: &mut CDataLink, established: bool) -> u32
     ensures { DataLinkChanges (having_main established) result data_link.old data_link.new }
 {
     let mut held = placeholder_for(data_link);
@@ -396,7 +493,7 @@ pub extern "C" fn um_datalink_take(
     data_link: &mut CDataLink,
     octets: &[u8; BLOCK_OCTETS],
     report: &mut CReport,
-) -> u8
+) -> u32
     ensures { DataLinkReceivesBlock octets.now result data_link.old data_link.new report.old report.new }
 {
     let mut held = placeholder_link();
@@ -504,12 +601,12 @@ fn pass_frame_to(
 )
     requires { FrameFits (link_channel held.old) (frame_of_view frame.now) }
     ensures represents { (l : LinkState) → RepresentsLink c_struct.old l → L.Represents held.old l
-        → RepresentsLink c_struct.new (after_frame (frame_of_view frame.now) l) }
+        → RepresentsLink c_struct.new (after_received (frame_of_view frame.now) l) }
     ensures written { IsLinkWritten (not (is_ui (frame_of_view frame.now).content)) c_struct.old c_struct.new }
     ensures notices { (l : LinkState) → L.Represents held.old l
-        → effects.new.notices ≡ frame_notices (frame_of_view frame.now) l }
+        → effects.new.notices ≡ received_notices (frame_of_view frame.now) l }
 {
-    held.take(frame, effects);
+    held.receive(frame, effects);
     if is_ui(&frame.body) {
         return;
     }
@@ -596,7 +693,7 @@ pub extern "C" fn um_datalink_unit(
     message: &MessageBuffer,
     layer1: &[u8; 2],
     block: &mut [u8; BLOCK_OCTETS],
-) -> u8
+) -> u32
     ensures { DataLinkEncodesUnit sapi (octets_in_buffer message.now) layer1.now result data_link.now block.old block.new }
 {
     let mut held = placeholder_for(data_link);
@@ -622,7 +719,7 @@ pub extern "C" fn um_datalink_next(
     layer1: &[u8; 2],
     block: &mut [u8; BLOCK_OCTETS],
     report: &mut CReport,
-) -> u8
+) -> u32
     ensures { DataLinkFillsSlot layer1.now result data_link.old data_link.new block.old block.new report.old report.new }
 {
     let mut held = placeholder_link();
@@ -708,10 +805,12 @@ fn fill_slot(acts3: bool, held: &mut Link, data_link: &mut CDataLink) -> Slot
     ensures { (s : DataLinkState) → RepresentsDataLink data_link.old s → L.Represents held.old s.link0
         → acts3 ≡ acts_in_slot s.link3 → SlotIsFilled s result data_link.old data_link.new }
 {
+    let endpoint_sapi = held.endpoint_sapi();
+    let channel = held.channel();
     let slot0 = use_slot(held, &mut data_link.link0);
     if let Some(_) = slot0.block {
         return Slot {
-            block: slot0.block,
+            block: any_on_sapi0(endpoint_sapi, channel, slot0.block),
             gave_up0: slot0.gave_up,
             gave_up3: false,
         };
@@ -736,7 +835,7 @@ fn slot_block(block: Option<[u8; BLOCK_OCTETS]>, role: Role, channel: Channel) -
     }
 }
 
-fn slot_answer(block: Option<[u8; BLOCK_OCTETS]>) -> u8
+fn slot_answer(block: Option<[u8; BLOCK_OCTETS]>) -> u32
     ensures { result ≡ (if is_none block then 10 else 0) }
 {
     match block {

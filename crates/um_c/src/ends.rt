@@ -24,11 +24,11 @@ use crate::states::{CEndpoint, read_endpoint, role_of, sapi_of, write_endpoint};
 use lapdm_end::{Call, Effects, Endpoint, MessageBuffer, Refused, Role, Sapi};
 use lapdm_frame::{BLOCK_OCTETS, Channel, read_on};
 
-pub(crate) const INVALID_ENDPOINT: u8 = 7;
+pub(crate) const INVALID_ENDPOINT: u32 = 7;
 
-pub(crate) const CALL_NOT_SUPPORTED: u8 = 8;
+pub(crate) const CALL_NOT_SUPPORTED: u32 = 8;
 
-pub(crate) const INVALID_FRAME: u8 = 9;
+pub(crate) const INVALID_FRAME: u32 = 9;
 
 /// Writes the state of a new endpoint. Returns false, and writes nothing, if the role, SAPI or channel is invalid.
 #[unsafe(no_mangle)]
@@ -56,7 +56,7 @@ pub extern "C" fn um_end_open(
     end: &mut CEndpoint,
     info: &MessageBuffer,
     effects: &mut CEffects,
-) -> u8
+) -> u32
     ensures answers_call { EndpointAnswersCall (Opens (octets_in_buffer info.now)) result end.old end.new effects.old effects.new }
     ensures c_struct { result ≡ 0 → IsCanonicalStruct end.new }
 {
@@ -65,7 +65,7 @@ pub extern "C" fn um_end_open(
 
 /// Begins to establish the link of SAPI 3: sends a SABM without information. Returns 0, or an error number.
 #[unsafe(no_mangle)]
-pub extern "C" fn um_end_open_bare(end: &mut CEndpoint, effects: &mut CEffects) -> u8
+pub extern "C" fn um_end_open_bare(end: &mut CEndpoint, effects: &mut CEffects) -> u32
     ensures answers_call { EndpointAnswersCall OpensWithoutInfo result end.old end.new effects.old effects.new }
     ensures c_struct { result ≡ 0 → IsCanonicalStruct end.new }
 {
@@ -78,7 +78,7 @@ pub extern "C" fn um_end_send(
     end: &mut CEndpoint,
     message: &MessageBuffer,
     effects: &mut CEffects,
-) -> u8
+) -> u32
     ensures answers_call { EndpointAnswersCall (Sends (octets_in_buffer message.now)) result end.old end.new effects.old effects.new }
     ensures c_struct { result ≡ 0 → IsCanonicalStruct end.new }
 {
@@ -91,7 +91,7 @@ pub extern "C" fn um_end_unit(
     end: &CEndpoint,
     message: &MessageBuffer,
     effects: &mut CEffects,
-) -> u8
+) -> u32
     ensures { EndpointAnswersCall (SendsUi (octets_in_buffer message.now)) result end.now end.now effects.old effects.new }
 {
     send_ui_frame(end, &Call::Unit(message.octets()), effects)
@@ -99,7 +99,7 @@ pub extern "C" fn um_end_unit(
 
 /// Begins to release the link: sends a DISC. Unacknowledged messages are discarded. Returns 0, or an error number.
 #[unsafe(no_mangle)]
-pub extern "C" fn um_end_close(end: &mut CEndpoint, effects: &mut CEffects) -> u8
+pub extern "C" fn um_end_close(end: &mut CEndpoint, effects: &mut CEffects) -> u32
     ensures answers_call { EndpointAnswersCall Closes result end.old end.new effects.old effects.new }
     ensures c_struct { result ≡ 0 → IsCanonicalStruct end.new }
 {
@@ -108,7 +108,7 @@ pub extern "C" fn um_end_close(end: &mut CEndpoint, effects: &mut CEffects) -> u
 
 /// Handles T200 expiry. Returns 0, or an error number.
 #[unsafe(no_mangle)]
-pub extern "C" fn um_end_timer(end: &mut CEndpoint, effects: &mut CEffects) -> u8
+pub extern "C" fn um_end_timer(end: &mut CEndpoint, effects: &mut CEffects) -> u32
     ensures answers_call { EndpointAnswersCall T200Expires result end.old end.new effects.old effects.new }
     ensures c_struct { result ≡ 0 → IsCanonicalStruct end.new }
 {
@@ -117,7 +117,7 @@ pub extern "C" fn um_end_timer(end: &mut CEndpoint, effects: &mut CEffects) -> u
 
 /// Sends the fill frame, for use when there is nothing else to send in a block. Returns 0, or 7 if the struct represents no endpoint.
 #[unsafe(no_mangle)]
-pub extern "C" fn um_end_idle(end: &CEndpoint, effects: &mut CEffects) -> u8
+pub extern "C" fn um_end_idle(end: &CEndpoint, effects: &mut CEffects) -> u32
     ensures { EndpointAnswersCall SendsFillFrame result end.now end.now effects.old effects.new }
 {
     let mut output = Effects::new();
@@ -135,7 +135,7 @@ pub extern "C" fn um_end_take(
     end: &mut CEndpoint,
     octets: &[u8; BLOCK_OCTETS],
     effects: &mut CEffects,
-) -> u8
+) -> u32
     ensures answers_block { EndpointReceivesBlock octets.now result end.old end.new effects.old effects.new }
     ensures c_struct { result ≡ 0 → IsCanonicalStruct end.new }
 {
@@ -154,7 +154,7 @@ pub extern "C" fn um_end_take(
 /// Carries out a layer 3 call to an endpoint. Returns 0, or an error number.
 // Inlined, as `Endpoint::call`, because most callers pass a constant call.
 #[inline(always)]
-pub(crate) fn call_endpoint(end: &mut CEndpoint, call: &Call<'_>, effects: &mut CEffects) -> u8
+pub(crate) fn call_endpoint(end: &mut CEndpoint, call: &Call<'_>, effects: &mut CEffects) -> u32
     ensures answers_call { EndpointAnswersCall (endpoint_call_of call.now) result end.old end.new effects.old effects.new }
     ensures c_struct { result ≡ 0 → IsCanonicalStruct end.new }
 {
@@ -172,7 +172,7 @@ pub(crate) fn call_endpoint(end: &mut CEndpoint, call: &Call<'_>, effects: &mut 
 
 /// Carries out a call that sends a UI frame. It leaves the endpoint unchanged, so the state is not written back.
 #[inline(always)]
-pub(crate) fn send_ui_frame(end: &CEndpoint, call: &Call<'_>, effects: &mut CEffects) -> u8
+pub(crate) fn send_ui_frame(end: &CEndpoint, call: &Call<'_>, effects: &mut CEffects) -> u32
     requires { IsUiFrameCall (endpoint_call_of call.now) }
     ensures { EndpointAnswersCall (endpoint_call_of call.now) result end.now end.now effects.old effects.new }
 {
@@ -225,7 +225,7 @@ fn write_call_result(
     endpoint_after: &Endpoint,
     end: &mut CEndpoint,
     effects: &mut CEffects,
-) -> u8
+) -> u32
     ensures done { OnOk answer ((result ≡ 0) × (end.new ≡ c_endpoint (values_of endpoint_after.now))
         × (effects.new ≡ c_effects output.now.frames output.now.notices)) }
     ensures c_struct { result ≡ 0 → end.new ≡ c_endpoint (values_of endpoint_after.now) }
@@ -240,7 +240,7 @@ fn write_call_result(
 }
 
 /// Writes the effects of a call and returns 0, or returns the number of the refusal and writes nothing.
-fn write_call_effects(answer: Result<(), Refused>, output: &Effects, effects: &mut CEffects) -> u8
+fn write_call_effects(answer: Result<(), Refused>, output: &Effects, effects: &mut CEffects) -> u32
     ensures done { OnOk answer ((result ≡ 0) × (effects.new ≡ c_effects output.now.frames output.now.notices)) }
     ensures refused { IfErr answer (λ reason. (result ≡ call_refusal_number reason) × (effects.new ≡ effects.old)) }
 {
@@ -253,8 +253,8 @@ fn write_call_effects(answer: Result<(), Refused>, output: &Effects, effects: &m
     }
 }
 
-pub(crate) fn call_refusal_number(reason: Refused) -> u8
+pub(crate) fn call_refusal_number(reason: Refused) -> u32
     ensures { result ≡ call_refusal_number reason }
 {
-    reason as u8 + 1
+    reason as u32 + 1
 }

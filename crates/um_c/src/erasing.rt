@@ -13,7 +13,7 @@ use um_erasing::{detect_training, receive_first, receive_later_erasing, without_
 use um_list_receive::MAX_RANK;
 
 /// The index of an erased burst if none was erased.
-const NO_BURST: u8 = 4;
+pub(crate) const NO_BURST: u8 = 4;
 
 /// Which burst was erased, and the wrong training bits of each burst.
 #[repr(C)]
@@ -27,10 +27,10 @@ pub struct Erasure {
 
 /// The report on a block that was decoded with erasures.
 #[derive(Drop)]
-struct ErasingReport {
-    report: BlockReport,
-    rank: u32,
-    erasure: Erasure,
+pub(crate) struct ErasingReport {
+    pub(crate) report: BlockReport,
+    pub(crate) rank: u32,
+    pub(crate) erasure: Erasure,
 }
 
 /// Decodes the soft values of four bursts as `um_receive_block_among` does. If the CRC of no word holds, decodes them again with one burst
@@ -99,7 +99,7 @@ pub(crate) fn write_erasing_report(
 // Kept out of the caller: with the list decoder inlined there, a block whose first word holds took 707 instructions over
 // `um_receive_block`, and now it takes 207.
 #[cold]
-fn later_report_of(
+pub(crate) fn later_report_of(
     bursts: &[[i8; BURST_BITS]; 4],
     soft: &[i8; CODED_BITS],
     first: &Received,

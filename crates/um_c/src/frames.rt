@@ -37,7 +37,7 @@ pub struct CFrame {
 /// Reads the frame in a block of 23 octets on SDCCH (`channel` 0) or SACCH (1), and returns 0. If the block is not a frame, writes nothing
 /// and returns the number of the reason, 1 to 7. Returns 8 for any other channel.
 #[unsafe(no_mangle)]
-pub extern "C" fn um_read_frame(octets: &[u8; BLOCK_OCTETS], channel: u8, frame: &mut CFrame) -> u8
+pub extern "C" fn um_read_frame(octets: &[u8; BLOCK_OCTETS], channel: u8, frame: &mut CFrame) -> u32
     ensures { MatchOption (channel_of channel)
         ((result ≡ 8) × (frame.new ≡ frame.old))
         (λ known. IsFrameReadResult known octets.now result frame.old frame.new) }
@@ -90,10 +90,10 @@ pub(crate) fn channel_of(number: u8) -> Option<Channel>
     }
 }
 
-fn frame_refusal_number(refusal: Refusal) -> u8
+fn frame_refusal_number(refusal: Refusal) -> u32
     ensures { result ≡ frame_refusal_number refusal }
 {
-    refusal as u8 + 1
+    refusal as u32 + 1
 }
 
 /// Converts the frame, which must fit in a block, to a C struct.

@@ -6,6 +6,7 @@ use crate::bursts::{AccessReport, SyncReport};
 use crate::datalinks::{CDataLink, CReport, CTimedEnd};
 use crate::effects::{CEffects, CNotice};
 use crate::erasing::Erasure;
+use crate::facch_erasing::FacchErasure;
 use crate::frames::CFrame;
 use crate::margins::MarginReport;
 use crate::places::CPlace;
@@ -14,8 +15,11 @@ use crate::sides::CSide;
 use crate::slots::SlotBlock;
 use crate::states::CEndpoint;
 use crate::times::CSch;
+use crate::traffic::TrafficBlock;
+use crate::traffic_places::CTrafficPlace;
 use lapdm_end::MessageBuffer;
 use um_slot::{FrameTime, Slot};
+use um_traffic::Traffic;
 
 const CHECK_BLOCK_REPORT_SIZE: [u8; 268] = [0; size_of::<BlockReport>()];
 
@@ -56,3 +60,11 @@ const CHECK_PLACE_SIZE: [u8; 8] = [0; size_of::<CPlace>()];
 const CHECK_SLOT_SIZE: [u8; 608] = [0; size_of::<Slot>()];
 
 const CHECK_SLOT_BLOCK_SIZE: [u8; 284] = [0; size_of::<SlotBlock>()];
+
+const CHECK_TRAFFIC_PLACE_SIZE: [u8; 3] = [0; size_of::<CTrafficPlace>()];
+
+const CHECK_TRAFFIC_SIZE: [u8; 1808] = [0; size_of::<Traffic>()];
+
+const CHECK_TRAFFIC_BLOCK_SIZE: [u8; 892] = [0; size_of::<TrafficBlock>()];
+
+const CHECK_FACCH_ERASURE_SIZE: [u8; 9] = [0; size_of::<FacchErasure>()];

@@ -2,17 +2,23 @@
 //!
 //! Each exported function checks all preconditions, so a caller only has to respect the types. No function allocates memory, keeps state or
 //! waits, and any thread may call any of them. `bindings/c/um.h` declares them.
+//!
+//! An answer is a number of 32 bits, below 256, so that a caller reads it right whether it takes an enum to have one octet or four.
 #![tactic(auto)]
 
 mod blocks;
 mod bursts;
+mod ciphers;
 mod datalinks;
 mod effects;
 mod ends;
 mod erasing;
+mod facch;
+mod facch_erasing;
 mod frames;
 mod joined;
 mod layout;
+mod limited;
 mod margins;
 mod opening;
 mod places;
@@ -22,6 +28,8 @@ mod slots;
 mod soft;
 mod states;
 mod times;
+mod traffic;
+mod traffic_places;
 mod version;
 
 pub use datalinks::{

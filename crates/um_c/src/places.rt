@@ -9,13 +9,13 @@ use um_slot::{
 };
 
 /// The answer if the frame has a place.
-const PLACED: u8 = 0;
+pub(crate) const PLACED: u32 = 0;
 
 /// The answer if the frame has none of the channels.
-const UNPLACED: u8 = 1;
+pub(crate) const UNPLACED: u32 = 1;
 
 /// The answer if an argument is out of range.
-const NO_PLACE: u8 = 2;
+pub(crate) const NO_PLACE: u32 = 2;
 
 /// Where the burst of a frame belongs.
 #[repr(C)]
@@ -41,7 +41,7 @@ pub extern "C" fn um_place_frame(
     timeslot: u8,
     frame: u32,
     place: &mut CPlace,
-) -> u8
+) -> u32
     ensures { IsPlaceResult (combination_of combination) (direction_of direction) (are_in_hyperframe timeslot frame) timeslot frame result
         place.old place.new }
 {

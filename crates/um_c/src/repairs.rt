@@ -20,7 +20,7 @@ pub struct RepairReport {
 /// Repairs a word of 184 data bits and 40 CRC bits if all its wrong bits lie within twelve consecutive bits. Returns 0 if the CRC holds, 1
 /// if the word was repaired, 2 if there is no such repair, and 3 if an octet is neither 0 nor 1. Writes the report only if it returns 1.
 #[unsafe(no_mangle)]
-pub extern "C" fn um_repair(word: &[u8; 224], report: &mut RepairReport) -> u8
+pub extern "C" fn um_repair(word: &[u8; 224], report: &mut RepairReport) -> u32
     ensures answer { IsRepairCallResult word.now result report.old report.new }
     ensures only { (answer : ℕ) (other : RepairReport)
         → IsRepairCallResult word.now answer report.old other → (answer ≡ result) × (other ≡ report.new) }

@@ -45,7 +45,11 @@ pub extern "C" fn um_side_new(side: &mut CSide, role: u8, channel: u8) -> bool
 /// Begins to establish the link of SAPI 0: sends a SABM with this information. Only a mobile supports this call. Returns 0, or an error
 /// number.
 #[unsafe(no_mangle)]
-pub extern "C" fn um_side_open(side: &mut CSide, info: &MessageBuffer, effects: &mut CEffects) -> u8
+pub extern "C" fn um_side_open(
+    side: &mut CSide,
+    info: &MessageBuffer,
+    effects: &mut CEffects,
+) -> u32
     ensures answers_call { SideAnswersCall 0 (Opens (octets_in_buffer info.now)) result side.old side.new effects.old effects.new }
     ensures c_struct { result ≡ 0 → IsCanonicalStruct side.new.link0 }
 {
@@ -54,7 +58,7 @@ pub extern "C" fn um_side_open(side: &mut CSide, info: &MessageBuffer, effects: 
 
 /// Begins to establish the link of SAPI 3: sends a SABM without information. Returns 0, or an error number.
 #[unsafe(no_mangle)]
-pub extern "C" fn um_side_open_bare(side: &mut CSide, effects: &mut CEffects) -> u8
+pub extern "C" fn um_side_open_bare(side: &mut CSide, effects: &mut CEffects) -> u32
     ensures answers_call { SideAnswersCall 3 OpensWithoutInfo result side.old side.new effects.old effects.new }
     ensures c_struct { result ≡ 0 → IsCanonicalStruct side.new.link3 }
 {
@@ -68,7 +72,7 @@ pub extern "C" fn um_side_send(
     sapi: u8,
     message: &MessageBuffer,
     effects: &mut CEffects,
-) -> u8
+) -> u32
     ensures answers_call { SideAnswersCall sapi (Sends (octets_in_buffer message.now)) result side.old side.new effects.old effects.new }
     ensures c_struct { result ≡ 0 → (s : LinkSapi) → Some s ≡ sapi_of sapi → IsCanonicalStruct (endpoint_of s side.new) }
 {
@@ -82,7 +86,7 @@ pub extern "C" fn um_side_unit(
     sapi: u8,
     message: &MessageBuffer,
     effects: &mut CEffects,
-) -> u8
+) -> u32
     ensures { SideAnswersCall sapi (SendsUi (octets_in_buffer message.now)) result side.now side.now effects.old effects.new }
 {
     if !is_valid_side(side) {
@@ -98,7 +102,7 @@ pub extern "C" fn um_side_unit(
 
 /// Begins to release the link of this SAPI: sends a DISC. Unacknowledged messages are discarded. Returns 0, or an error number.
 #[unsafe(no_mangle)]
-pub extern "C" fn um_side_close(side: &mut CSide, sapi: u8, effects: &mut CEffects) -> u8
+pub extern "C" fn um_side_close(side: &mut CSide, sapi: u8, effects: &mut CEffects) -> u32
     ensures answers_call { SideAnswersCall sapi Closes result side.old side.new effects.old effects.new }
     ensures c_struct { result ≡ 0 → (s : LinkSapi) → Some s ≡ sapi_of sapi → IsCanonicalStruct (endpoint_of s side.new) }
 {
@@ -107,7 +111,7 @@ pub extern "C" fn um_side_close(side: &mut CSide, sapi: u8, effects: &mut CEffec
 
 /// Handles T200 expiry on the link of this SAPI. Returns 0, or an error number.
 #[unsafe(no_mangle)]
-pub extern "C" fn um_side_timer(side: &mut CSide, sapi: u8, effects: &mut CEffects) -> u8
+pub extern "C" fn um_side_timer(side: &mut CSide, sapi: u8, effects: &mut CEffects) -> u32
     ensures answers_call { SideAnswersCall sapi T200Expires result side.old side.new effects.old effects.new }
     ensures c_struct { result ≡ 0 → (s : LinkSapi) → Some s ≡ sapi_of sapi → IsCanonicalStruct (endpoint_of s side.new) }
 {
@@ -116,7 +120,7 @@ pub extern "C" fn um_side_timer(side: &mut CSide, sapi: u8, effects: &mut CEffec
 
 /// Sends the fill frame, for use when there is nothing else to send in a block.
 #[unsafe(no_mangle)]
-pub extern "C" fn um_side_idle(side: &CSide, effects: &mut CEffects) -> u8
+pub extern "C" fn um_side_idle(side: &CSide, effects: &mut CEffects) -> u32
     ensures { SideAnswersCall 0 SendsFillFrame result side.now side.now effects.old effects.new }
 {
     if !is_valid_side(side) {
@@ -133,7 +137,7 @@ pub extern "C" fn um_side_take(
     octets: &[u8; BLOCK_OCTETS],
     sapi: &mut u8,
     effects: &mut CEffects,
-) -> u8
+) -> u32
     ensures answers_block { SideReceivesBlock octets.now result side.old side.new sapi.old sapi.new effects.old effects.new }
     ensures c_struct { result ≡ 0 → (s : LinkSapi) → Some s ≡ sapi_of sapi.new → IsCanonicalStruct (endpoint_of s side.new) }
 {
@@ -151,7 +155,7 @@ pub extern "C" fn um_side_take(
     answer
 }
 
-fn write_sapi_if_successful(call_status: u8, answering_sapi: u8, sapi: &mut u8)
+fn write_sapi_if_successful(call_status: u32, answering_sapi: u8, sapi: &mut u8)
     ensures written { call_status ≡ 0 → sapi.new ≡ answering_sapi }
     ensures unchanged { call_status ≢ 0 → sapi.new ≡ sapi.old }
 {
@@ -160,7 +164,7 @@ fn write_sapi_if_successful(call_status: u8, answering_sapi: u8, sapi: &mut u8)
     }
 }
 
-fn call_endpoint_of_side(side: &mut CSide, sapi: u8, call: &Call<'_>, effects: &mut CEffects) -> u8
+fn call_endpoint_of_side(side: &mut CSide, sapi: u8, call: &Call<'_>, effects: &mut CEffects) -> u32
     ensures answers_call { SideAnswersCall sapi (endpoint_call_of call.now) result side.old side.new effects.old effects.new }
     ensures c_struct { result ≡ 0 → (s : LinkSapi) → Some s ≡ sapi_of sapi → IsCanonicalStruct (endpoint_of s side.new) }
 {

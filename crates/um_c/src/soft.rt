@@ -27,5 +27,31 @@ fn is_soft_bit(value: i8) -> bool
 pub(crate) fn are_soft_bursts(bursts: &[[i8; BURST_BITS]; 4]) -> bool
     ensures { IsTrue result ↔ All AllSoftBits bursts.now }
 {
+    are_soft_rows(bursts)
+}
+
+#[inline(always)]
+pub(crate) fn are_soft_rows(bursts: &[[i8; BURST_BITS]]) -> bool
+    ensures { IsTrue result ↔ All AllSoftBits bursts.now }
+{
     are_soft_bits(bursts.as_flattened())
+}
+
+/// Returns whether all octets of some bursts are bits.
+#[inline(always)]
+pub(crate) fn are_bit_rows(bursts: &[[u8; BURST_BITS]]) -> bool
+    ensures { IsTrue result ↔ All AllBits bursts.now }
+{
+    are_bits(bursts.as_flattened())
+}
+
+// Never ends early, so that sixteen octets are compared at a time.
+fn are_bits(values: &[u8]) -> bool
+    ensures { IsTrue result ↔ AllBits values.now }
+{
+    let mut are = true;
+    for value in values {
+        are &= *value < 2;
+    }
+    are
 }

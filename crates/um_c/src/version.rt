@@ -5,7 +5,7 @@ ghost use Rattle.um_c.specs.Version.{version_number};
 /// Returns the version of the library as one number, so that `<` compares versions: 1,000,000 major + 1,000 minor + patch.
 #[unsafe(no_mangle)]
 pub extern "C" fn um_version() -> u32
-    ensures { result ≡ version_number 0 2 0 }
+    ensures { result ≡ version_number 0 3 0 }
 {
-    2_000
+    3_000
 }

@@ -2,27 +2,34 @@
 use Rattle.{
   std.{
     proofs.Common.{List, None, Ok, Option, Some, [], ap, arith, inl, inr, length, length-append, map, refl, sym, true, ℕ, ℤ, ◌++◌},
-    proofs.{Common.{◌<◌, ◌∙◌, ◌∷◌, ◌≡◌, ◌≢◌, ◌≤◌}, lemmas.Bool.{cases_Bool, cases_lt, le-ltb, lt-ltb}},
+    proofs.{Common.{◌<◌, ◌∙◌, ◌∷◌, ◌≡◌, ◌≢◌, ◌≤◌}, lemmas.Bool.{cases_Bool, leb-true}},
     proofs.lemmas.{Int.ints, List.Elements.{All-append, All-cons, All-nil}, Slice.Eq.bytes_eq-Decides},
     specs.{List.All, Str.bytes_eq},
   },
-  um_replay.specs.{BurstRules.answer_to_burst, Replay.{replay_answers, replay_rules}},
+  um_replay.{
+    proofs.Reporting.{AreHeld, AreReports, all_bursts, held_in_run, lines_are_reported, replay_reports},
+    specs.{Replay.{replay_answers, replay_rules}, Reporting.ReportsReception},
+  },
   um_cli.specs.{
     Arrivals.{LinkDecodesToMostLikelyWords, ReceivesMostLikelyWord, ReportsMostLikelyWord},
     EndAnswers.EndDecodesToMostLikelyWords,
-    Decoded.{DecodesBurstsToMostLikelyWord, IsMaximumLikelihood, IsMostLikelyWord, ReplayDecodesToMostLikelyWords},
+    Decoded.{DecodesBurstsToMostLikelyWord, IsMaximumLikelihood, IsMostLikelyAccessWord, IsMostLikelySyncWord, IsMostLikelyWord},
+    Decoded.{IsReportOfMostLikelyWord, ReplayDecodesToMostLikelyWords},
   },
   um_code.{
     proofs.um_formats.BurstLines.{access_burst, burst_line_means, normal_burst, sync_burst},
-    specs.um_formats.{BurstLines.burst_line, declared.burst_lines.BurstLine.{TheVariants.{Access, Normal, Skip, Sync}, BurstLine}},
+    specs.um_formats.BurstLines.{burst_line, completes_block},
+    specs.um_formats.declared.burst_lines.BurstLine.{TheVariants.{Access, Normal, Skip, Sync}, BurstLine},
   },
-  um_driver.{proofs.Outputs.{Runs-keep, meaning_of_answer, step_of_answer}, specs.Rules.{Runs, answer_to_line}},
+  um_driver.specs.Rules.Runs,
   um_end.{
     proofs.{EndLineLaws.burst_of_line, EndSteps.held_are_bursts, um_block.Lemmas.IsReceivedAccess-received_access},
     proofs.um_block.{Lemmas.IsReceivedSync-received_sync, ComputedReports.block_computed, conv_code.Lemmas.length-coded},
-    specs.{lapdm_frame.{Content.Frame, declared.Channel.Channel}, um_block.{Computed.received_block, Received.IsReceivedBlock}},
-    specs.um_block.{Received.soft_bits, conv_code.{Code.encoding, Likelihood.{IsMostLikely, likelihood}}},
-    specs.{um_block.declared.received.Received.Received, um_link.{lapdm_link.Events.Deliver, lapdm_window.Ends.Role}},
+    specs.{lapdm_frame.{Content.Frame, declared.Channel.Channel}, um_block.Computed.received_block},
+    specs.um_block.Received.{IsReceivedAccess, IsReceivedBlock, IsReceivedSync, soft_bits},
+    specs.um_block.conv_code.{Code.encoding, Likelihood.{IsMostLikely, likelihood}},
+    specs.um_block.declared.received.{Received.Received, ReceivedAccess.ReceivedAccess, ReceivedSync.ReceivedSync},
+    specs.um_link.{lapdm_link.Events.Deliver, lapdm_window.Ends.Role},
     specs.um_link.um_air.{Computed.air_step, Air.{Accepts, AirState, Answer, Event, EventDelivers, IsAirStep, Refuses, with_bits_inverted}},
   },
   um_link_command.proofs.Lemmas.answer_is_air_step,
@@ -53,63 +60,62 @@ best_word bursts r received = record {
   accepted = received.accepted;
 }
 
+best_access : (burst : List ℤ) (bsic : List ℕ) (r : ReceivedAccess) → IsReceivedAccess burst bsic r →
+    IsMostLikelyAccessWord burst bsic r
+best_access burst bsic r received =
+    record { max_likelihood = none_more_likely _ _ received.best; accepted = received.accepted }
+
+best_sync : (burst : List ℤ) (r : ReceivedSync) → IsReceivedSync burst r → IsMostLikelySyncWord burst r
+best_sync burst r received = record { max_likelihood = none_more_likely _ _ received.best; accepted = received.accepted }
+
 -- ---- `replay`
 
-pub record AreHeld (held : List (List ℤ)) : Type 0 where
-  pub few : length held < 4
-  pub each : All (λ (burst : List ℤ). length burst ≡ 148) held
-
-pub none_held : AreHeld []
-none_held = record { few = omega arith; each = All-nil (λ (burst : List ℤ). length burst ≡ 148) }
-
-pub all_bursts : (held : List (List ℤ)) (soft : List ℤ) → AreHeld held → length soft ≡ 148 →
-    All (λ (burst : List ℤ). length burst ≡ 148) (held ++ soft ∷ [])
-all_bursts held soft h long =
-    let IsBurst = λ (burst : List ℤ). length burst ≡ 148 in
-    All-append IsBurst held (soft ∷ []) h.each (All-cons IsBurst soft [] long (All-nil IsBurst))
-
 pub fourth-most_likely : (held : List (List ℤ)) (soft : List ℤ) → AreHeld held → length soft ≡ 148 →
-    4 ≤ length (held ++ soft ∷ []) → IsMostLikelyWord (held ++ soft ∷ []) (received_block (held ++ soft ∷ []))
-fourth-most_likely held soft h long many = best_word (held ++ soft ∷ []) _
-    (block_computed (held ++ soft ∷ []) (omega (arith, h.few, many, length-append held (soft ∷ []))) (all_bursts held soft h long))
+    completes_block held soft ≡ true → IsMostLikelyWord (held ++ soft ∷ []) (received_block (held ++ soft ∷ []))
+fourth-most_likely held soft h long whole =
+    let many = leb-true 4 (length (held ++ soft ∷ [])) whole in
+    let four : length (held ++ soft ∷ []) ≡ 4 = omega (arith, h.few, many, length-append held (soft ∷ [])) in
+    best_word (held ++ soft ∷ []) _ (block_computed (held ++ soft ∷ []) four (all_bursts held soft h long))
 
-line_keeps : (held after : List (List ℤ)) (line text : List ℕ) → AreHeld held →
-    answer_to_line replay_rules held line ≡ Ok (text, after) → AreHeld after
-line_keeps held after line text h step =
-    let (meaning, parses, is) = meaning_of_answer (answer_to_burst replay_answers held) (burst_line (length held) line) (text, after)
-    (step_of_answer replay_rules held line (text, after) step) in
-    rw (ap (λ next. next.1) is) (go meaning parses)
-  where
-    go : (meaning : BurstLine) → burst_line (length held) line ≡ Ok meaning → AreHeld (answer_to_burst replay_answers held meaning).1
-    go Skip parses = h
-    go (Access bsic soft) parses = h
-    go (Sync soft) parses = h
-    go (Normal soft) parses =
-        let long = (normal_burst (length held) line soft (burst_line_means (length held) line (Normal soft) parses)).0 in
-        elim (cases_lt (length (held ++ soft ∷ [])) 4) [
-          | inl few ↦ rw (lt-ltb (length (held ++ soft ∷ [])) 4 few) (record { few = few; each = all_bursts held soft h long })
-          | inr many ↦ rw (le-ltb (length (held ++ soft ∷ [])) 4 many) none_held
-        ]
-
-pub replay-most_likely : ReplayDecodesToMostLikelyWords
-replay-most_likely lines answers held line meaning runs parses =
-    go meaning parses (Runs-keep replay_rules AreHeld line_keeps [] held lines answers none_held runs)
+replay-decoded : (lines answers : List (List ℕ)) (held : List (List ℤ)) (line : List ℕ) (meaning : BurstLine) →
+    Runs replay_rules [] lines answers held → burst_line (length held) line ≡ Ok meaning → DecodesBurstsToMostLikelyWord held meaning
+replay-decoded lines answers held line meaning runs parses =
+    go meaning parses (held_in_run replay_answers ReportsReception replay_reports lines answers held runs)
   where
     go : (meaning : BurstLine) → burst_line (length held) line ≡ Ok meaning → AreHeld held →
         DecodesBurstsToMostLikelyWord held meaning
     go Skip parses h = tt
-    go (Normal soft) parses h = λ many.
+    go (Normal soft) parses h = λ whole.
         let long = (normal_burst (length held) line soft (burst_line_means (length held) line (Normal soft) parses)).0 in
-        fourth-most_likely held soft h long many
+        fourth-most_likely held soft h long whole
     go (Access bsic soft) parses h =
         let (none, count, bits, long, values) =
         access_burst (length held) line bsic soft (burst_line_means (length held) line (Access bsic soft) parses) in
-        let received = IsReceivedAccess-received_access soft bsic long count bits in
-        record { max_likelihood = none_more_likely _ _ received.best; accepted = received.accepted }
+        best_access soft bsic _ (IsReceivedAccess-received_access soft bsic long count bits)
     go (Sync soft) parses h =
         let (none, long, values) = sync_burst (length held) line soft (burst_line_means (length held) line (Sync soft) parses) in
-        let received = IsReceivedSync-received_sync soft long in
-        record { max_likelihood = none_more_likely _ _ received.best; accepted = received.accepted }
+        best_sync soft _ (IsReceivedSync-received_sync soft long)
+
+-- the reports of `replay` are those of most likely words
+reports_most_likely : AreReports replay_answers IsReportOfMostLikelyWord
+reports_most_likely = record {
+  skips = λ held. refl;
+  block = λ held soft four each.
+      let (r, received, text) = replay_reports.block held soft four each in
+      (r, best_word (held ++ soft ∷ []) r received, text);
+  access = λ held bsic soft count bits long.
+      let (r, received, text) = replay_reports.access held bsic soft count bits long in
+      (r, best_access soft bsic r received, text);
+  sync = λ held soft long.
+      let (r, received, text) = replay_reports.sync held soft long in
+      (r, best_sync soft r received, text);
+}
+
+pub replay-most_likely : ReplayDecodesToMostLikelyWords
+replay-most_likely = record {
+  decoded = replay-decoded;
+  reported = lines_are_reported replay_answers IsReportOfMostLikelyWord reports_most_likely;
+}
 
 -- ---- `link`: a step receives a block as `IsReceivedBlock` says
 
@@ -137,7 +143,7 @@ link-most_likely tsc channel within lines answers s line event runs parses =
 -- ---- `end`
 
 pub end-most_likely : (role : Role) (tsc : ℕ) → tsc ≤ 7 → EndDecodesToMostLikelyWords role tsc
-end-most_likely role tsc within lines answers s line soft runs parses many =
+end-most_likely role tsc within lines answers s line soft runs parses whole =
     let (few, each) = held_are_bursts role tsc lines answers s within runs in
     fourth-most_likely s.held_bursts soft (record { few = omega (arith, few); each = each })
-    (burst_of_line s.role (length s.held_bursts) line soft parses) many
+    (burst_of_line s.role (length s.held_bursts) line soft parses) whole

@@ -1,3 +1,4 @@
 pub mod Lemmas
 pub mod Deciding
 pub mod Restoring
+mod Refuted

@@ -1,7 +1,7 @@
 -- `replay` recovers the information given to `code`. The proof goes line by line: each line that `code` writes is a line of `replay`, and
 -- an undamaged block is decoded correctly.
 use Rattle.{
-  std.proofs.{lemmas.{Bool.{le-ltb, lt-ltb}, List.{Elements.{All-map, All-weaker, All-append, All-cons, All-nil}, length-map}}, Common.Err},
+  std.proofs.{lemmas.{Bool.{le-ltb, lt-leb}, List.{Elements.{All-map, All-weaker, All-append, All-cons, All-nil}, length-map}}, Common.Err},
   std.proofs.Common.{List, Ok, Result, [], append-nil, append_assoc, ap, arith, inl, length, lit<, map, refl, subst, sym, ℕ, ℤ},
   std.{proofs.Common.{◌++◌, ◌<◌, ◌∙◌, ◌∷◌, ◌≡◌}, specs.List.All},
   um_replay.specs.{BurstRules.answer_to_burst, Replay.{replay_answers, replay_rules}},
@@ -138,7 +138,7 @@ hold_burst : (held : List (List ℤ)) (burst : List ℕ) (lines answers : List (
     Runs replay_rules held (normal_line burst ∷ lines) ([] ∷ answers) []
 hold_burst held burst lines answers b few runs =
     replay-first held (held ++ soft_bits burst ∷ []) [] (normal_line burst) [] lines answers (Normal (soft_bits burst))
-    (normal_restored (length held) burst b.right_length b.each) (rw (lt-ltb (length (held ++ soft_bits burst ∷ [])) 4 few) refl) runs
+    (normal_restored (length held) burst b.right_length b.each) (rw (lt-leb 4 (length (held ++ soft_bits burst ∷ [])) few) refl) runs
 
 replay-block : (bursts : List (List ℕ)) → length bursts ≡ 4 → All (AreBits 148) bursts →
     Runs replay_rules [] (map normal_line bursts) ([] ∷ [] ∷ [] ∷ block_report_text (received_block (map soft_bits bursts)) ∷ []) []

@@ -26,10 +26,12 @@ use um_show::Show;
 /// The rules that the clauses `run` and `due` name are functions. What they give is said by these laws and clauses:
 /// - of all commands, `law_more_octets_continue_response` of `um_driver`;
 /// - of lines, `law_parsed_line_is_its_meaning_or_fault` of `um_lines` and `law_read_lines_are_meanings_or_faults` of `um_formats`;
-/// - of `replay`, `law_computed_reports_are_those_of_reception` of `um_block`, `law_decoded_words_are_most_likely`, and with `code`
-///   `law_replay_recovers_code_input`; of `code`, the clauses `sent`, `value` and `only` of the calls of `um_block` that send;
-/// - of `show`, `law_text_of_octets_is_that_of_their_frame` of `um_formats`;
-/// - of `margin`, `law_comparison_is_of_two_most_likely_words` of `um_margin`; of `repair`, `law_repair_result_is_correct` of `um_repair`;
+/// - of `replay`, `law_replay_reports_what_was_received` of `um_replay`, `law_computed_reports_are_those_of_reception` of `um_block`,
+///   `law_decoded_words_are_most_likely`, and with `code` `law_replay_recovers_code_input`; of `code`, the clauses `sent`, `value` and
+///   `only` of the calls of `um_block` that send;
+/// - of `show`, `law_text_of_octets_is_that_of_their_frame` of `um_formats` and `law_frame_reading_is_unique` of `lapdm_frame`;
+/// - of `margin`, `law_margin_compares_what_was_received` and `law_comparison_is_of_two_most_likely_words` of `um_margin`; of `repair`,
+///   `law_repair_result_is_correct` of `um_repair`;
 /// - of `link`, `law_link_answers_are_air_steps` of `um_link_command`, `law_event_answer_is_air_step` of `um_air`, and
 ///   `law_every_session_delivers`; of `make`, `law_generated_answers_are_a_session` of `um_make`;
 /// - of `end`, `law_end_command_lines_are_terminal_steps` and `law_received_bursts_are_computed` of `um_end`.
@@ -64,7 +66,7 @@ pub fn run<S: Source, K: Sink, R: Radio>(
         (radio.new ≡ radio.old) }
 
     // Each block is decoded to a codeword that is at least as likely as any other, given the soft values received, and its data is accepted
-    // if and only if its CRC holds.
+    // if and only if its CRC holds. What `replay` answers to a line is the report of such a word for the bursts of the line.
     ensures most_likely { (command : Invocation) → command_of_words words.now ≡ Some command → DecodesToMostLikelyWords command }
 
     // After any lines that `link` answers, the log of the session is ordered, and the claims about delivery hold if the session is benign,

@@ -7,7 +7,7 @@ use Rattle.{
   um_end.specs.{
     EndLines.{Calls, EndCommandLineMeaning, EndCommandLineMeans, Nothing, TakesBurst, TerminalCanCarryOutLine},
     EndLines.{burst_line_fault_in_end_command, call_line_fault_inside_block, call_line_forms, end_command_line_fault, end_command_line},
-    EndLines.{meaning_of_burst_line, meaning_of_end_command_line, meaning_of_parsed_line, meaning_of_script_event, names_endpoint_of_side},
+    EndLines.{meaning_of_burst_line, meaning_of_end_command_line, meaning_of_parsed_line, names_endpoint_of_side},
     EndLines.{end_parse_result, meaning_of_parse_result},
     Terminals.IsCallOfRole,
     declared.lines.EndCommandLine.EndCommandLine,
@@ -76,6 +76,11 @@ IsOwnForm-side Network (name ∷ ws) e =
     (λ a.
     by_word (λ n. IsOwnForm Network (n ∷ ws)) (codes "net3") name (form-renamed L.Call (codes "net3" ∷ ws) network_call_line_forms)
     (λ b. absurd cc))
+
+-- the meaning, in the `end` command, of a script line with this event; `None` is a skipped line
+abbrev meaning_of_script_event : Option Event → EndCommandLineMeaning
+meaning_of_script_event None = Nothing
+meaning_of_script_event (Some event) = Calls event
 
 -- the fault of a call line in `end`, given its fault in a script; `b` says whether the line is inside a block
 abbrev order_fault_if : Bool → Option LineFault → Option LineFault

@@ -4,7 +4,7 @@ use Rattle.{
   std.{
     proofs.Common.{Err, Ok, append-nil, append_assoc, get_or, take, ◌⊎◌, All, List, None, Option, Some, [], ap, arith, inl, inr},
     proofs.Common.{length-append, length, map, refl, subst, sym, ℕ, ℤ, ◌++◌, ◌+◌, ◌<◌, ◌∙◌, ◌∷◌, ◌≡◌},
-    proofs.{Common.◌≤◌, lemmas.{Bool.{cases_lt, le-ltb, lt-ltb}, List.{Elements.{All-head, All-nil, All-push, All-tail}, take_more}}},
+    proofs.{Common.◌≤◌, lemmas.{Bool.{cases_lt, le-leb, lt-leb}, List.{Elements.{All-head, All-nil, All-push, All-tail}, take_more}}},
     specs.{List.All, Prelude.IfSome},
   },
   um_driver.{proofs.Outputs.{meaning_of_answer, step_of_answer}, specs.Rules.Runs},
@@ -15,7 +15,7 @@ use Rattle.{
       EndLines.{Calls, Nothing as NoLine, TakesBurst, end_command_line, end_command_line_fault, EndCommandLineMeaning, EndCommandLineMeans},
       EndRuns.{EndCommandState, answer_to_end_command_line, burst_lines_of_frames, end_answer_text, end_command_rules},
       EndRuns.{initial_end_command_state, IsAnswerText, frames_in_answer},
-      EndTurns.{AnswersLineByStep, AnswersLinesBySteps, IsTerminalStepOfLine},
+      EndTurns.{AnswersByStep, AnswersLineByStep, AnswersLinesBySteps, IsTerminalStepOfLine},
       Terminals.{SideStep, answer_of_endpoint, answer_to_block, layer3_call_step, with_sapi_endpoint_replaced, IsCallOfRole},
       Terminals.{ReceivesBursts, SideState, answer_to_call, call_answer_unless, endpoint_step, endpoint_with_sapi, no_op_step},
       Terminals.{step_for_read_frame, terminal_step_of},
@@ -288,58 +288,73 @@ Invariant-start role tsc known = record {
 links_after : (role : Role) (links : SideState) (es : BothSides) → side_with_role role (with_side_replaced role links es) ≡ links
 links_after role links es = grind arith
 
--- the answer to a line with this meaning keeps the invariant; it is a step of two terminals, or changes no endpoint
+-- the answer to a line with this meaning keeps the invariant, the role and the training sequence; it is a step of two terminals, or changes
+-- no endpoint
 record IsSound (s : EndCommandState) (meaning : EndCommandLineMeaning) (next : List ℕ × EndCommandState) : Type 0 where
   pub keeps : Invariant next.1
-  pub by_step : ((next.1.links ≡ s.links) × (next.0 ≡ []))
-      ⊎ ((a : TwoTerminals) → side_with_role s.role a.sides ≡ s.links → IsTerminalStepOfLine s meaning next.0 next.1 a)
+  pub same_role : next.1.role ≡ s.role
+  pub same_tsc : next.1.tsc ≡ s.tsc
+  pub by_step : AnswersByStep s meaning next.0 next.1
 
 module _ (s : EndCommandState) (k : Invariant s) where
   IsSound-block : (soft : List ℤ) → (let bursts = s.held_bursts ++ soft ∷ [] in let next = answer_to_block s.role s.links bursts in
-      length bursts ≡ 4 → All Whole bursts →
+      length s.held_bursts ≡ 3 → length bursts ≡ 4 → All Whole bursts →
       IsSound s (TakesBurst soft) (end_answer_text s.tsc (Accepts next.1), record s { links = next.0; held_bursts = [] }))
-  IsSound-block soft four each =
+  IsSound-block soft three four each =
       let bursts = s.held_bursts ++ soft ∷ [] in
       let heard = ReceivesBursts-answer_to_block s.role s.links bursts four each in
       let fit = fit_bursts s.role s.tsc k.tsc s.links k.links bursts _ _ heard in
       record {
         keeps = record { tsc = k.tsc; links = fit.links; at_most_3 = omega arith; each = All-nil Whole };
-        by_step = inr (λ a same. record {
-          turn = T.TakesBurst s.role bursts (answer_to_block s.role s.links bursts).1;
-          next = state_after_step s.role (answer_to_block s.role s.links bursts).0 (answer_to_block s.role s.links bursts).1.frames
-              (without_oldest_item (other s.role) a.queues) a;
-          is_step = (_, rw same heard, refl);
-          of_line = (refl, refl, fit.text);
-          new_links = links_after s.role _ a.sides;
-        });
+        same_role = refl;
+        same_tsc = refl;
+        by_step = inr (
+          (three, refl),
+          λ a same. record {
+            turn = T.TakesBurst s.role bursts (answer_to_block s.role s.links bursts).1;
+            next = state_after_step s.role (answer_to_block s.role s.links bursts).0 (answer_to_block s.role s.links bursts).1.frames
+                (without_oldest_item (other s.role) a.queues) a;
+            is_step = (_, rw same heard, refl);
+            of_line = (refl, refl, fit.text);
+            new_links = links_after s.role _ a.sides;
+          },
+        );
       }
 
   IsSound-answer : (meaning : EndCommandLineMeaning) → CanBeCarriedOut s.role meaning →
       IsSound s meaning (answer_to_end_command_line s meaning)
-  IsSound-answer NoLine can = record { keeps = k; by_step = inl (refl, refl) }
+  IsSound-answer NoLine can = record { keeps = k; same_role = refl; same_tsc = refl; by_step = inl (refl, refl, refl) }
   IsSound-answer (TakesBurst soft) can =
       let bursts = s.held_bursts ++ soft ∷ [] in
       let more : length bursts ≡ length s.held_bursts + 1 = length-append s.held_bursts (soft ∷ []) in
       let each : All Whole bursts = All-push Whole _ soft k.each can.0 in
       elim (cases_lt (length bursts) 4) [
-        | inl few ↦ rw (lt-ltb (length bursts) 4 few) (record {
+        | inl few ↦ rw (lt-leb 4 (length bursts) few) (record {
           keeps = record { tsc = k.tsc; links = k.links; at_most_3 = omega (arith, few); each = each };
-          by_step = inl (refl, refl);
+          same_role = refl;
+          same_tsc = refl;
+          by_step = inl ((omega (arith, more, few), refl), refl, refl);
         })
-        | inr many ↦ rw (le-ltb (length bursts) 4 many) (IsSound-block soft (omega (arith, more, many, k.at_most_3)) each)
+        | inr many ↦ rw (le-leb 4 (length bursts) many)
+            (IsSound-block soft (omega (arith, more, many, k.at_most_3)) (omega (arith, more, many, k.at_most_3)) each)
       ]
   IsSound-answer (Calls event) can =
       let fit = fit_event s.role s.tsc k.tsc s.links k.links event can in
       record {
         keeps = record { tsc = k.tsc; links = fit.links; at_most_3 = k.at_most_3; each = k.each };
-        by_step = inr (λ a same. record {
-          turn = T.Calls s.role event (answer_to_call s.role s.links event).1;
-          next = state_after_step s.role (answer_to_call s.role s.links event).0
-              (frames_in_answer (answer_to_call s.role s.links event).1) a.queues a;
-          is_step = (can.0, rw same refl, rw same refl);
-          of_line = (refl, refl, fit.text);
-          new_links = links_after s.role _ a.sides;
-        });
+        same_role = refl;
+        same_tsc = refl;
+        by_step = inr (
+          refl,
+          λ a same. record {
+            turn = T.Calls s.role event (answer_to_call s.role s.links event).1;
+            next = state_after_step s.role (answer_to_call s.role s.links event).0
+                (frames_in_answer (answer_to_call s.role s.links event).1) a.queues a;
+            is_step = (can.0, rw same refl, rw same refl);
+            of_line = (refl, refl, fit.text);
+            new_links = links_after s.role _ a.sides;
+          },
+        );
       }
 
   line_sound : (line text : List ℕ) (after : EndCommandState) → end_command_rules.step s line ≡ Ok (text, after) →
@@ -348,8 +363,16 @@ module _ (s : EndCommandState) (k : Invariant s) where
       let (meaning, parsed, is) = meaning_of_answer (answer_to_end_command_line s) (end_command_line s.role (length s.held_bursts) line)
       (text, after) step in
       let means = end_command_line_means s.role (length s.held_bursts) line meaning parsed in
-      let sound = subst (IsSound s meaning) (sym is) (IsSound-answer meaning (line-possible s.role _ line meaning means)) in
-      ((meaning, means, sound.by_step), sound.keeps)
+      let sound = subst (IsSound s meaning) (sym is) (IsSound-answer meaning (line-possible s.role _ line meaning means)) in (
+        record {
+          meaning = meaning;
+          means = means;
+          same_role = sound.same_role;
+          same_tsc = sound.same_tsc;
+          by_step = sound.by_step;
+        },
+        sound.keeps,
+      )
 
 run_sound : (s : EndCommandState) (lines texts : List (List ℕ)) (after : EndCommandState) → Invariant s →
     Runs end_command_rules s lines texts after → AnswersLinesBySteps s lines texts after × Invariant after

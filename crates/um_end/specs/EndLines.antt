@@ -93,11 +93,6 @@ names_endpoint_of_side role [] = false
 names_endpoint_of_side Mobile (name ∷ words) = bytes_eq name (codes "mob") || bytes_eq name (codes "mob3")
 names_endpoint_of_side Network (name ∷ words) = bytes_eq name (codes "net") || bytes_eq name (codes "net3")
 
--- the meaning, in the `end` command, of a script line with this event; `None` is a skipped line
-abbrev pub meaning_of_script_event : Option Event → EndCommandLineMeaning
-meaning_of_script_event None = Nothing
-meaning_of_script_event (Some event) = Calls event
-
 -- the fault of a call line inside a block, given its fault outside: `Word` stays `Word`, and any other line, valid or not, has the fault
 -- `Order`
 abbrev pub call_line_fault_inside_block : Option LineFault → Option LineFault

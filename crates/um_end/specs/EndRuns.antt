@@ -1,8 +1,8 @@
 -- How the `end` command answers a line (this project's own rule).
-use Rattle.std.specs.Prelude.{ℕ, ℤ, ◌≡◌, List, [], ◌∷◌, ◌++◌, length, map, nat_lt, if◌then◌else◌}
+use Rattle.std.specs.Prelude.{ℕ, ℤ, ◌≡◌, List, [], ◌∷◌, ◌++◌, length, map, if◌then◌else◌}
 use Rattle.std.specs.List.{flat_map}
 use Rattle.um_link.specs.lapdm_window.Ends.{Role}
-use Rattle.um_formats.specs.BurstLines.{unfinished_block_fault}
+use Rattle.um_formats.specs.BurstLines.{completes_block, unfinished_block_fault}
 use Rattle.um_formats.specs.BurstTexts.{bursts_text}
 use Rattle.um_link.specs.um_air.Air.{Octets, Block, Answer, Refuses, Accepts}
 use Rattle.um_link.specs.um_block.Computed.{sent_block}
@@ -44,17 +44,18 @@ pub record IsAnswerText (tsc : ℕ) (answer : Answer) (text : List ℕ) : Type 0
   pub coded : AreCodedBlocks tsc (frames_in_answer answer) blocks
   pub text_is : text ≡ answer_text answer ++ flat_map bursts_text blocks
 
--- the answer to the last of these bursts, and the state after it: the fourth burst gets the answer to the block, an earlier burst gets none
-abbrev pub answer_to_burst : (state : EndCommandState) (bursts : List (List ℤ)) → List ℕ × EndCommandState
-answer_to_burst s bursts =
-    if nat_lt (length bursts) 4 then ([], record s { held_bursts = bursts })
-    else let next = answer_to_block s.role s.links bursts in
-    (end_answer_text s.tsc (Accepts next.1), record s { links = next.0; held_bursts = [] })
+-- the answer to a burst, and the state after it: the burst that completes a block gets the answer to the block, an earlier burst gets none
+abbrev pub answer_to_burst : (state : EndCommandState) (soft : List ℤ) → List ℕ × EndCommandState
+answer_to_burst s soft =
+    let bursts = s.held_bursts ++ soft ∷ [] in
+    let next = answer_to_block s.role s.links bursts in
+    if completes_block s.held_bursts soft then (end_answer_text s.tsc (Accepts next.1), record s { links = next.0; held_bursts = [] })
+    else ([], record s { held_bursts = bursts })
 
 -- the answer to a line with this meaning, and the state after it
 abbrev pub answer_to_end_command_line : (state : EndCommandState) (meaning : EndCommandLineMeaning) → List ℕ × EndCommandState
 answer_to_end_command_line s Nothing = ([], s)
-answer_to_end_command_line s (TakesBurst soft) = answer_to_burst s (s.held_bursts ++ soft ∷ [])
+answer_to_end_command_line s (TakesBurst soft) = answer_to_burst s soft
 answer_to_end_command_line s (Calls event) =
     let next = answer_to_call s.role s.links event in
     (end_answer_text s.tsc next.1, record s { links = next.0 })

@@ -1,5 +1,5 @@
 -- What a line that a process of `um end` answers does, as a step of two terminals of which the process is one (this project's own rule).
-use Rattle.std.specs.Prelude.{ℕ, ◌≡◌, ◌⊎◌, List, [], ◌∷◌, ◌++◌, length}
+use Rattle.std.specs.Prelude.{ℕ, ℤ, ◌≡◌, ◌<◌, ◌⊎◌, List, [], ◌∷◌, ◌++◌, length}
 use Rattle.um_link.specs.lapdm_link.Events.{side_with_role}
 use Rattle.um_link.specs.um_air.Air.{Accepts}
 use Rattle.um_end.specs.EndLines.{EndCommandLineMeaning, EndCommandLineMeans}
@@ -28,12 +28,33 @@ pub record IsTerminalStepOfLine (s : EndCommandState) (meaning : EndCommandLineM
     pub of_line : IsStepOfLine s meaning turn text
     pub new_links : side_with_role s.role next.sides ≡ after.links
 
--- a line leaves the endpoints as they are and gets no answer, or it is a step of two terminals
-abbrev pub AnswersLineByStep : (s : EndCommandState) (line text : List ℕ) (after : EndCommandState) → Type 0
-AnswersLineByStep s line text after = (meaning : EndCommandLineMeaning)
-    × EndCommandLineMeans s.role (length s.held_bursts) line meaning
-    × (((after.links ≡ s.links) × (text ≡ []))
-    ⊎ ((a : TwoTerminals) → side_with_role s.role a.sides ≡ s.links → IsTerminalStepOfLine s meaning text after a))
+-- the line is skipped, or has one of the first three bursts of a block; `held` are the bursts of the block held before it, and `after`
+-- those held after it
+abbrev pub BringsNoStep : (held : List (List ℤ)) (meaning : EndCommandLineMeaning) (after : List (List ℤ)) → Type 0
+BringsNoStep held L.Nothing after = after ≡ held
+BringsNoStep held (L.TakesBurst soft) after = (length held < 3) × (after ≡ held ++ soft ∷ [])
+BringsNoStep held (L.Calls event) after = ⊥
+
+-- the line is a call, which leaves the bursts held, or has the fourth burst of a block, after which none are held
+abbrev pub BringsStep : (held : List (List ℤ)) (meaning : EndCommandLineMeaning) (after : List (List ℤ)) → Type 0
+BringsStep held L.Nothing after = ⊥
+BringsStep held (L.TakesBurst soft) after = (length held ≡ 3) × (after ≡ [])
+BringsStep held (L.Calls event) after = after ≡ held
+
+-- a line that brings no step leaves the endpoints as they are and gets no answer; any other is a step of two terminals
+abbrev pub AnswersByStep : (s : EndCommandState) (meaning : EndCommandLineMeaning) (text : List ℕ) (after : EndCommandState) → Type 0
+AnswersByStep s meaning text after =
+    (BringsNoStep s.held_bursts meaning after.held_bursts × (after.links ≡ s.links) × (text ≡ []))
+    ⊎ (BringsStep s.held_bursts meaning after.held_bursts
+    × ((a : TwoTerminals) → side_with_role s.role a.sides ≡ s.links → IsTerminalStepOfLine s meaning text after a))
+
+-- the line has a meaning and is answered so; the process stays on its side, and keeps its training sequence
+pub record AnswersLineByStep (s : EndCommandState) (line text : List ℕ) (after : EndCommandState) : Type 0 where
+  pub meaning : EndCommandLineMeaning
+  pub means : EndCommandLineMeans s.role (length s.held_bursts) line meaning
+  pub same_role : after.role ≡ s.role
+  pub same_tsc : after.tsc ≡ s.tsc
+  pub by_step : AnswersByStep s meaning text after
 
 -- the lines get these answers, each by a step of two terminals or without a change of the endpoints
 abbrev pub AnswersLinesBySteps : (s : EndCommandState) (lines texts : List (List ℕ)) (after : EndCommandState) → Type 0

@@ -49,7 +49,7 @@ impl EndCommand {
         requires soft { AllSoftBits burst }
         requires empty { out.old ≡ [] }
         ensures answers { (s : EndCommandState) → CommandRepresents self.old s →
-            let next = answer_to_burst s (s.held_bursts ++ burst ∷ []) in
+            let next = answer_to_burst s burst in
             (out.new ≡ next.0) × CommandRepresents self.new next.1 }
         ensures size { (s : EndCommandState) → CommandRepresents self.old s → length out.new < 2000 }
     {

@@ -4,6 +4,7 @@ ghost use Rattle.std.specs.List.{All};
 ghost use Rattle.um_link.specs.bit_blocks.Bits.{AllBits};
 ghost use Rattle.um_link.specs.um_block.conv_code.Likelihood.{AllSoftBits};
 ghost use Rattle.um_link.specs.um_block.Computed.{sent_block};
+ghost use Rattle.um_link.specs.um_block.Received.{IsReceivedBlock};
 ghost use Rattle.um_link.specs.um_block.Sent.{IsSentBlock};
 ghost use Rattle.um_link.specs.lapdm_frame.declared.Channel.TheVariants.{Sdcch};
 ghost use Rattle.lapdm_end.specs.Sides.{channel_of, role_of};
@@ -30,7 +31,7 @@ pub struct Terminal {
 }
 
 impl Terminal {
-    ghost use Rattle.um_end.specs.Terminals.{SideState, idle_side, IsCallOfRole, ReceivesBursts, answer_to_block};
+    ghost use Rattle.um_end.specs.Terminals.{SideState, idle_side, IsCallOfRole};
     ghost use Rattle.um_end.specs.Abstraction.{Represents, CallRefinesSideStep, BurstsRefineSideStep, KeepsSideAndTsc, role_of_terminal};
 
     /// Creates a side with both endpoints in Idle. The training sequence code `tsc` must be 0 to 7.
@@ -95,10 +96,9 @@ impl Terminal {
     pub fn receive(&mut self, bursts: &[[i8; BURST_BITS]; 4]) -> Step
         requires soft { All AllSoftBits bursts.now }
         ensures refines { BurstsRefineSideStep bursts.now self.old result self.new }
-        ensures lawful { (a : SideState) → let next = answer_to_block (role_of_terminal self.old) a bursts.now in
-            ReceivesBursts (role_of_terminal self.old) a bursts.now next.0 next.1 }
         ensures who { spec_who_of result.who ≡ E.BySide (role_of_terminal self.old) }
         ensures received { IsSome result.received }
+        ensures reception { (r : Received) → result.received ≡ Some r → IsReceivedBlock bursts.now r }
         ensures numbers { (r : Received) → result.received ≡ Some r → ReceptionIsInRange (reception_quality r) }
         ensures same { KeepsSideAndTsc self.old self.new }
     {
@@ -112,10 +112,9 @@ impl Terminal {
     pub fn receive_into(&mut self, bursts: &[[i8; BURST_BITS]; 4], step: &mut Step)
         requires soft { All AllSoftBits bursts.now }
         ensures refines { BurstsRefineSideStep bursts.now self.old step.new self.new }
-        ensures lawful { (a : SideState) → let next = answer_to_block (role_of_terminal self.old) a bursts.now in
-            ReceivesBursts (role_of_terminal self.old) a bursts.now next.0 next.1 }
         ensures who { spec_who_of step.new.who ≡ E.BySide (role_of_terminal self.old) }
         ensures received { IsSome step.new.received }
+        ensures reception { (r : Received) → step.new.received ≡ Some r → IsReceivedBlock bursts.now r }
         ensures numbers { (r : Received) → step.new.received ≡ Some r → ReceptionIsInRange (reception_quality r) }
         ensures same { KeepsSideAndTsc self.old self.new }
     {

@@ -21,8 +21,10 @@ pub fn law_two_terminals_deliver_in_order()
         → HasNoticesInOrder (session_log turns) }
 {}
 
-/// Law: each line that a process answers leaves its endpoints as they are and gets no answer, or it is a step of any two terminals of which
-/// the process is one: the call of the line, or the reception of the four bursts that it completes.
+/// Law: a line that is skipped, or has one of the first three bursts of a block, leaves the endpoints of a process as they are and gets no
+/// answer. Every other line that it answers is a step of any two terminals of which the process is one: the call of the line, or the
+/// reception of the four bursts of a block, which are those of the last four lines with a burst. The process stays on its side and keeps
+/// its training sequence.
 pub fn law_end_command_lines_are_terminal_steps()
     ensures { (role : Role) (tsc : ℕ) (lines texts : List (List ℕ)) (after : EndCommandState) → tsc ≤ 7 →
         Runs end_command_rules (initial_end_command_state role tsc) lines texts after →

@@ -28,20 +28,21 @@ without_burst bursts b = slice_set bursts b (replicate 148 (pos 0))
 abbrev pub greater_of : (numbers : List ℕ) (first second : ℕ) → ℕ
 greater_of numbers a b = if nat_lt (slice_index numbers a) (slice_index numbers b) then b else a
 
--- the index of the greatest of four numbers, the first of equal ones
-abbrev pub index_of_greatest : (numbers : List ℕ) → ℕ
-index_of_greatest numbers = greater_of numbers (greater_of numbers (greater_of numbers 0 1) 2) 3
+-- the index, 0 to `last`, of the greatest number, the first of equal ones
+abbrev pub index_of_greatest : (last : ℕ) (numbers : List ℕ) → ℕ
+index_of_greatest zero numbers = 0
+index_of_greatest (suc n) numbers = greater_of numbers (index_of_greatest n numbers) (suc n)
 
 -- `found` is the first block that is accepted when at most `count` bursts are erased in turn, that with the greatest distrust first; an
--- erased burst gets the distrust 0, those not erased yet have more
-abbrev pub IsErasingSearch : (bursts : List (List ℤ)) (max_words count : ℕ) (distrust : List ℕ) (found : Option ErasedBlock) →
-    Type 0
-IsErasingSearch bursts most zero distrust found = found ≡ None
-IsErasingSearch bursts most (suc n) distrust found =
-    let index = index_of_greatest distrust in
-    (decoded : ListDecodedBlock) × IsListDecodedBlock (without_burst bursts index) most decoded
+-- erased burst gets the distrust 0, those not erased yet have more. `IsDecoded` says what the bursts 0 to `last` are decoded to
+abbrev pub IsErasingSearch : (last : ℕ) (IsDecoded : (List (List ℤ) → ListDecodedBlock → Type 0)) (bursts : List (List ℤ))
+    (count : ℕ) (distrust : List ℕ) (found : Option ErasedBlock) → Type 0
+IsErasingSearch last IsDecoded bursts zero distrust found = found ≡ None
+IsErasingSearch last IsDecoded bursts (suc n) distrust found =
+    let index = index_of_greatest last distrust in
+    (decoded : ListDecodedBlock) × IsDecoded (without_burst bursts index) decoded
     × MatchOption decoded.report.accepted
-    (IsErasingSearch bursts most n (slice_set distrust index 0) found)
+    (IsErasingSearch last IsDecoded bursts n (slice_set distrust index 0) found)
     (λ _. found ≡ Some (record { block = decoded; erased = index }))
 
 -- the report with the erased block that was found, or else the block as received
@@ -50,14 +51,20 @@ abbrev pub IsFoundOrFirst : (first : ListDecodedBlock) (found : Option ErasedBlo
 IsFoundOrFirst first None block erased = (block ≡ first) × (erased ≡ None)
 IsFoundOrFirst first (Some e) block erased = (block ≡ e.block) × (erased ≡ Some e.erased)
 
+-- the block is `first` if that is accepted, or else the erased block that is found, or else `first`
+abbrev pub IsErasingChoice : (last : ℕ) (IsDecoded : (List (List ℤ) → ListDecodedBlock → Type 0)) (bursts : List (List ℤ))
+    (erasures : ℕ) (distrust : List ℕ) (first block : ListDecodedBlock) (erased : Option ℕ) → Type 0
+IsErasingChoice last IsDecoded bursts erasures distrust first block erased =
+    MatchOption first.report.accepted
+    ((found : Option ErasedBlock) × IsErasingSearch last IsDecoded bursts erasures distrust found
+    × IsFoundOrFirst first found block erased)
+    (λ _. (block ≡ first) × (erased ≡ None))
+
 -- `decoded` is the report of a block of which at most `max_words` words were tried, and then as many without each of at most `erasures`
 -- bursts
 pub record IsErasingDecodedBlock (bursts : List (List ℤ)) (max_words erasures : ℕ) (decoded : ErasingDecodedBlock) : Type 0 where
   pub first : ListDecodedBlock
   pub first_is_decoded : IsListDecodedBlock bursts max_words first
   pub wrong_training : decoded.wrong_training ≡ wrong_training_of_bursts bursts first.report.tsc
-  pub choice : MatchOption first.report.accepted
-      ((found : Option ErasedBlock)
-      × IsErasingSearch bursts max_words erasures (map (λ wrong. wrong + 1) decoded.wrong_training) found
-      × IsFoundOrFirst first found decoded.block decoded.erased)
-      (λ _. (decoded.block ≡ first) × (decoded.erased ≡ None))
+  pub choice : IsErasingChoice 3 (λ rest block. IsListDecodedBlock rest max_words block) bursts erasures
+      (map (λ wrong. wrong + 1) decoded.wrong_training) first decoded.block decoded.erased

@@ -1,3 +1,4 @@
 pub use Rattle.um_list_receive.specs as um_list_receive
 -- The definitions that the contracts of this crate cite.
 pub mod Erasing
+pub mod ErasingFacch

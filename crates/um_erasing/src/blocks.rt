@@ -154,7 +154,7 @@ fn search(
     requires soft { All AllSoftBits bursts.now }
     requires at_least { 1 ≤ max_rank }
     requires at_most { max_rank ≤ MAX_RANK }
-    ensures found { IsErasingSearch bursts.now max_rank count distrust result }
+    ensures found { IsErasingSearch 3 (λ rest block. IsListDecodedBlock rest max_rank block) bursts.now count distrust result }
     ensures information { IfSome result (λ found. IsEncoderInput found.block.report.u) }
     ensures erased { IfSome result (λ found. found.erased < 4) }
 {
@@ -196,7 +196,7 @@ pub fn without_burst(bursts: &[[i8; BURST_BITS]; 4], index: u8) -> [[i8; BURST_B
 
 /// The index of the greatest of four numbers, the first of equal ones.
 fn index_of_greatest(numbers: &[u8; 4]) -> u8
-    ensures value { result ≡ index_of_greatest numbers.now }
+    ensures value { result ≡ index_of_greatest 3 numbers.now }
     ensures within { result < 4 }
 {
     let mut greatest = 0;

@@ -5,9 +5,10 @@ use Rattle.{
       lemmas.{Bool.{le-ltb, Decides.nat_tests, and_right, ne_eqb}, List.{get_or-set_same, length-set, length-take-le, take_all, take_more}},
       lemmas.List.{Elements.{All-cons, All-map, All-nil, All-replicate}, Splits.{join_with_byte-slice_split, length-slice_split}},
       lemmas.{List.{length-map, length-replicate}, Int.ints},
-      Common.{get_or, Bool, Err, List, None, Ok, Some, [], append_assoc, ap, arith, codes, eqb, false, inl, inr, length-append, length},
-      Common.{map, not, pos, refl, replicate, set, sym, take, true, ℕ, ℤ, ◌&&◌, ◌++◌, ◌+◌, ◌-◌, ◌<◌, ◌==◌},
-      Common.{◌∙◌, ◌∷◌, ◌≡◌, ◌≢◌, ◌≤◌, subst},
+      Common.{get_or, Bool, Err, List, None, Ok, Some, [], append_assoc, ap, arith, codes, eqb, false, inl, inr, length-append},
+      Common.{length, map, not, Option, pos, refl, replicate, set, sym, take, true, ℕ, ℤ, ◌&&◌, ◌++◌, ◌+◌, ◌-◌},
+      Common.◌<◌,
+      Common.{◌==◌, ◌∙◌, ◌∷◌, ◌≡◌, ◌≢◌, ◌≤◌, subst},
     },
     specs.{Cmp.Lexicographic.pointwise, Int.{cast_signed, w8}, List.{All, list_all}, Str.bytes_eq},
   },
@@ -32,10 +33,11 @@ use Rattle.{
     specs.{
       BurstForms.{burst_line_forms, is_burst_out_of_order},
       CodeForms.code_line_forms,
-      Fields.{BitDigits, FixedWord, NumberList, bit_digits, fits_field, is_bit_digit, octets_from_hex},
-      Forms.never_misplaced,
+      Fields.{BitDigits, FixedWord, NumberList, Value, bit_digits, fits_field, is_bit_digit, octets_from_hex},
+      Forms.{LineForms, LineMeans, never_misplaced},
       Hex.is_hex_digit,
       Meanings.HasOneMeaningOrFault,
+      Reading.LineParsesTo,
       Words.{IsNotSpace, is_skipped_line, words},
       declared.fault.LineFault.{TheVariants.Word, LineFault},
     },
@@ -327,3 +329,38 @@ pub burst_line_refused : (held : ℕ) (line : List ℕ) (fault : LineFault) → 
     burst_line held line ≡ Err fault
 unfolding burst_line
 burst_line_refused held line fault bad = rw bad refl
+
+-- ## Unskipped: A line that has a form never has the meaning of a skipped line.
+
+module _ {Name A : Type 0} (table : LineForms Name) (misplaced : Name → Bool) (make : Option (Name × List Value) → A) (skip : A) where
+  abbrev IsUnskipped : Option (Name × List Value) → Type 0
+  IsUnskipped None = Unit {0}
+  IsUnskipped (Some meaning) = make (Some meaning) ≢ skip
+
+  pub skipped_only : Each misplaced (λ name values. make (Some (name, values)) ≢ skip) table → (line : List ℕ) →
+      LineParsesTo table misplaced make line skip → LineMeans table misplaced line None
+  skipped_only each line (None, means, is) = means
+  skipped_only each line (Some meaning, means, is) =
+      let unskipped = line_by_forms table misplaced (λ meaning. meaning) IsUnskipped tt each line in
+      absurd (unskipped (Some meaning) (Some meaning, means, refl) (sym is))
+
+pub skipped_burst_line : (held : ℕ) (line : List ℕ) → BurstLineMeans held line Skip →
+    LineMeans burst_line_forms (is_burst_out_of_order held) line None
+skipped_burst_line held =
+    skipped_only burst_line_forms (is_burst_out_of_order held) burst_line_of_meaning Skip
+    ((λ _ _ _ (bits, _, is, _, none). rw (is, none) (λ q. cc))
+    & (λ _ _ _ (octets, _, is, _, none). rw (is, none) (λ q. cc))
+    & (λ _ _ _ none. rw none (λ q. cc))
+    & (λ _ _ _ (bsic, _, is, _, (bits, _, is', _, none)). rw (is, is', none) (λ q. cc))
+    & (λ _ _ _ (bsic, _, is, _, (octets, _, is', _, none)). rw (is, is', none) (λ q. cc))
+    & (λ _ _ _ (bits, _, is, _, none). rw (is, none) (λ q. cc))
+    & (λ _ _ _ (octets, _, is, _, none). rw (is, none) (λ q. cc))
+    & tt)
+
+pub skipped_code_line : (line : List ℕ) → CodeLineMeans line CodeSkip → LineMeans code_line_forms never_misplaced line None
+skipped_code_line =
+    skipped_only code_line_forms never_misplaced code_line_of_meaning CodeSkip
+    ((λ _ _ _ (tsc, _, is, _, (octets, _, is', _, none)). rw (is, is', none) (λ q. cc))
+    & (λ _ _ _ (info, _, is, _, (bsic, _, is', _, none)). rw (is, is', none) (λ q. cc))
+    & (λ _ _ _ (info, _, is, _, none). rw (is, none) (λ q. cc))
+    & tt)

@@ -2,25 +2,30 @@
 use Rattle.{
   std.{
     proofs.lemmas.{Bool.{cases_eq, cases_Bool}, List.{Splits.join_with_byte-slice_split, append_cancel_right}, Slice.Eq.bytes_eq-Decides},
-    proofs.Common.{Bool, Err, List, None, Ok, Option, Some, [], append-nil, ap, arith, codes, drop, false, inl, inr, length, map, negsuc},
+    proofs.Common.{Bool, Err, List, None, Ok, Option, Result, Some, [], append-nil, ap, arith, codes, drop, false, inl, inr, length, map},
+    proofs.Common.negsuc,
     proofs.Common.{not, pos, refl, replicate, sym, take, true, ℕ, ◌++◌, ◌+◌, ◌-◌, ◌<◌, ◌∙◌, ◌∷◌, ◌≡◌},
     proofs.Common.{◌≢◌, ◌≤◌, ◌⊎◌, if◌then◌else◌, subst},
     specs.{List.join_with_byte, Prelude.{IfSome, MatchOption}, Str.bytes_eq},
   },
   lapdm_frame.{
     specs.{
-      Readings.HasUniqueReading,
+      Computed.frame_reading,
+      Readings.IsOnlyReading,
       Content.{Content, Fields, Frame, I, Rnr, Ui, content_of_fields, fields_of_content, fields, information, all_frame_kinds},
       Frames.{FrameFits, InformationFits, IsCanonicalCoding, bit_of_bool, octets_of, IsFrameCoding},
       Refusals.{IsRefused, RefusalAppliesToBlock, refusal_test_index},
       declared.{Channel.TheVariants.Sdcch, Kind.Kind, Refusal.{TheVariants.Ea, Refusal}},
     },
-    proofs.Lemmas.{FieldsFit, content_fits, fields_fit, never_refused, octets_canonical, one_reading, same_canonical, same_frame},
+    proofs.Lemmas.{FieldsFit, content_fits, fields_fit, IsOnlyReading-frame_reading, never_refused, octets_canonical, same_canonical},
+    proofs.Lemmas.same_frame,
     proofs.Lemmas.{same_reason, bit_bound},
   },
   um_block.specs.{Received.soft_bits, bit_blocks.Octets.{AllOctets, octets_of as octets_of_bits}, declared.received.Received.Received},
+  um_formats.proofs.BurstLines.skipped_only,
   um_formats.specs.{
     FrameTexts.{IsTextOfOctets, frame_text, frame_values, octets_text, line_values_of_fields, line_syntax_of_frame, text_of_octets},
+    FrameTexts.text_of_reading,
     FrameTexts.unreadable_frame_text,
     Reports.{IsBlockReportText, block_report_line, block_report_text, text_of_accepted},
     ShowLines.{ShowLineMeans, content_from_values, frame_from_values, is_bit_set, show_line_fault, show_line_of_frame},
@@ -52,33 +57,13 @@ use Rattle.lapdm_frame.specs.declared.Kind.TheVariants as K
 pub one_frame_text : (octets a b : List ℕ) → IsTextOfOctets octets a → IsTextOfOctets octets b → a ≡ b
 one_frame_text octets a b x y = grind (arith, same_frame, same_reason, never_refused)
 
-pub some_frame_text : (octets : List ℕ) → length octets ≡ 23 → (text : List ℕ) × IsTextOfOctets octets text
-some_frame_text octets count =
-    elim (one_reading Sdcch octets count) [
-      | inl (f, only) ↦ (frame_text f, inl (f, only.frame, refl))
-      | inr (reason, only) ↦ (unreadable_frame_text reason, inr (reason, only.refused, refl))
-    ]
-
 pub IsTextOfOctets-text_of_octets : (octets : List ℕ) → length octets ≡ 23 → IsTextOfOctets octets (text_of_octets octets)
 unfolding text_of_octets
-IsTextOfOctets-text_of_octets octets count = go (cases_eq (length octets) 23)
+IsTextOfOctets-text_of_octets octets count = go (frame_reading Sdcch octets) (IsOnlyReading-frame_reading Sdcch octets count)
   where
-    read : (reading : HasUniqueReading Sdcch octets) → IsTextOfOctets octets (elim reading [
-      | inl reading ↦ frame_text reading.0
-      | inr reading ↦ unreadable_frame_text reading.0
-    ])
-    read (inl (f, only)) = inl (f, only.frame, refl)
-    read (inr (reason, only)) = inr (reason, only.refused, refl)
-
-    go : (known : (length octets ≡ 23) ⊎ (length octets ≢ 23)) → IsTextOfOctets octets (elim known [
-      | inl count ↦ elim (one_reading Sdcch octets count) [
-        | inl reading ↦ frame_text reading.0
-        | inr reading ↦ unreadable_frame_text reading.0
-      ]
-      | inr other ↦ []
-    ])
-    go (inl count) = read (one_reading Sdcch octets count)
-    go (inr other) = absurd (other count)
+    go : (reading : Result Frame Refusal) → IsOnlyReading Sdcch octets reading → IsTextOfOctets octets (text_of_reading reading)
+    go (Ok f) only = inl (f, only.frame, refl)
+    go (Err reason) only = inr (reason, only.refused, refl)
 
 pub text_of_octets-only : (octets text : List ℕ) → length octets ≡ 23 → IsTextOfOctets octets text →
     text ≡ text_of_octets octets
@@ -87,6 +72,16 @@ text_of_octets-only octets text count is = one_frame_text octets text _ is (IsTe
 pub written_text : (octets text out : List ℕ) → length octets ≡ 23 → IsTextOfOctets octets text → out ≡ text →
     out ≡ text_of_octets octets
 written_text octets text out count is e = e ∙ text_of_octets-only octets text count is
+
+pub IsBlockReportText-block_report_text : (r : Received) → IfSome r.accepted (λ octets. length octets ≡ 23) →
+    IsBlockReportText r (block_report_text r)
+IsBlockReportText-block_report_text r = go (block_report_line r) r.accepted
+  where
+    go : (line : List ℕ) (accepted : Option (List ℕ)) → IfSome accepted (λ octets. length octets ≡ 23) →
+        MatchOption accepted (line ++ text_of_accepted accepted ≡ line) (λ octets. (second : List ℕ) × IsTextOfOctets octets second
+        × (line ++ text_of_accepted accepted ≡ line ++ second))
+    go line None count = append-nil line
+    go line (Some octets) count = (text_of_octets octets, IsTextOfOctets-text_of_octets octets count, refl)
 
 pub block_report_text-only : (r : Received) (text : List ℕ) → IfSome r.accepted (λ octets. length octets ≡ 23) →
     IsBlockReportText r text → text ≡ block_report_text r
@@ -98,30 +93,6 @@ block_report_text-only r = go (block_report_line r) r.accepted
         text ≡ line ++ text_of_accepted accepted
     go line None text count is = rw append-nil is
     go line (Some octets) text count (second, is, e) = rw (← text_of_octets-only octets second count is) e
-
--- the text of a report: the given line, followed by the text of the accepted octets if there are any
-abbrev Reported : List ℕ → Option (List ℕ) → List ℕ → Type 0
-Reported line accepted text =
-    MatchOption accepted (text ≡ line) (λ octets. (second : List ℕ) × IsTextOfOctets octets second × (text ≡ line ++ second))
-
-one_reported : (line : List ℕ) (accepted : Option (List ℕ)) (a b : List ℕ) → Reported line accepted a →
-    Reported line accepted b → a ≡ b
-one_reported line None a b is_a is_b = is_a ∙ sym is_b
-one_reported line (Some octets) a b (x, is_x, e) (y, is_y, e') = cc (one_frame_text octets x y is_x is_y)
-
-some_reported : (line : List ℕ) (accepted : Option (List ℕ)) → IfSome accepted (λ octets. length octets ≡ 23)
-    → (text : List ℕ) × Reported line accepted text
-some_reported line None count = (line, refl)
-some_reported line (Some octets) count =
-    let (second, is) = some_frame_text octets count in
-    (line ++ second, (second, is, refl))
-
-pub one_block_report : (r : Received) (a b : List ℕ) → IsBlockReportText r a → IsBlockReportText r b → a ≡ b
-one_block_report r = one_reported (block_report_line r) r.accepted
-
-pub some_block_report : (r : Received) → IfSome r.accepted (λ octets. length octets ≡ 23) → (text : List ℕ)
-    × IsBlockReportText r text
-some_block_report r = some_reported (block_report_line r) r.accepted
 
 -- ## ShowReading: The meaning of the words in a line of `show`: when the line matches no form, and which frame it describes.
 
@@ -243,8 +214,22 @@ said_fits : (line : List ℕ) (name : ShowLineKind) (values : List Value) (f : F
     FrameFits Sdcch f
 said_fits line x values f means is = let k = known line (Some (x, values)) means in grind arith
 
-pub shown_octets : (line octets : List ℕ) → ShowLineMeans line (S.Octets octets) → length octets ≡ 23
-shown_octets line octets (x, means, is) = let k = known line x means in grind arith
+-- ---- a line of `show` that has a form is not skipped
+
+each_unskipped : (ks : List Kind) → Each never_misplaced (λ name values. show_line_of_values name values ≢ S.Skip)
+    (map (λ kind. (SF.Frame kind, Exactly (frame_fields (syntax kind)))) ks)
+each_unskipped [] = tt
+each_unskipped (kind ∷ ks) = (
+  λ _ _ _ (s, _, e1, _, (cr, vs, e2, _, rest)).
+      let x = said_fields (syntax kind).shape kind vs (rw (append-nil (fields_of_frame_format (syntax kind).shape)) at rest) in
+      rw (e1, e2, x.1) (λ q. cc),
+  each_unskipped ks,
+)
+
+pub skipped_show_line : (line : List ℕ) → ShowLineMeans line S.Skip → LineMeans show_line_forms never_misplaced line None
+skipped_show_line =
+    skipped_only show_line_forms never_misplaced show_line_of_meaning S.Skip
+    (λ _ _ _ (octets, _, is, _, none). rw (is, none) (λ q. cc), each_unskipped all_frame_kinds)
 
 -- ## WrittenFrames: Parsing the lines that `show` writes for frames and octets gives these frames and octets back.
 

@@ -1,2 +1,3 @@
 pub mod BurstLines
 pub mod FrameLines
+mod Worked

@@ -1,5 +1,5 @@
 -- The meaning of the input lines of the `replay` command (this project's own rule).
-use Rattle.std.specs.Prelude.{ℕ, ℤ, pos, List, [], ◌∷◌, replicate, Option, Some, None, Result}
+use Rattle.std.specs.Prelude.{ℕ, ℤ, pos, nat_le, Bool, List, [], ◌∷◌, ◌++◌, length, replicate, Option, Some, None, Result}
 use Rattle.um_block.specs.Received.{soft_bits}
 use Rattle.um_lines.specs.declared.fault.LineFault.{LineFault}
 use Rattle.um_lines.specs.declared.fault.LineFault.TheVariants.{Order}
@@ -31,6 +31,10 @@ burst_line_of_meaning (Some meaning) = burst_line_of_values meaning.0 meaning.1
 -- why a line of `replay` is refused after this number of bursts of an incomplete block: the first fault, or `None`
 abbrev pub burst_line_fault : (held_burst_count : ℕ) (line : List ℕ) → Option LineFault
 burst_line_fault held line = line_fault burst_line_forms (is_burst_out_of_order held) line
+
+-- whether a burst completes the block of which these bursts are held: a block has four bursts
+abbrev pub completes_block : (held_bursts : List (List ℤ)) (burst : List ℤ) → Bool
+completes_block held burst = nat_le 4 (length (held ++ burst ∷ []))
 
 -- why an input that ends with these bursts of an incomplete block is refused: `Order`, or `None` if there are no bursts
 abbrev pub unfinished_block_fault : (held_bursts : List (List ℤ)) → Option LineFault

@@ -1,14 +1,12 @@
 -- How frames are written as lines (this project's own rule).
-use Rattle.std.specs.Prelude.{ℕ, ◌≡◌, List, [], ◌∷◌, ◌++◌, length, codes, ◌⊎◌}
-use Rattle.std.proofs.Common.{inl, inr}
-use Rattle.std.proofs.lemmas.Bool.{cases_eq}
-use Rattle.lapdm_frame.proofs.Lemmas.{one_reading}
+use Rattle.std.specs.Prelude.{ℕ, ◌≡◌, List, [], ◌∷◌, ◌++◌, codes, ◌⊎◌, Result, Ok, Err}
 use Rattle.um_lines.specs.Hex.{encode_lower}
 use Rattle.lapdm_frame.specs.declared.Channel.TheVariants.{Sdcch}
 use Rattle.lapdm_frame.specs.declared.Refusal.{Refusal}
 use Rattle.lapdm_frame.specs.declared.Refusal.TheVariants.{Lpd, Ea, Control, El, Length, Empty, More}
 use Rattle.lapdm_frame.specs.Content.{Fields, Frame, fields_of_content}
 use Rattle.lapdm_frame.specs.Frames.{bit_of_bool, IsFrameCoding}
+use Rattle.lapdm_frame.specs.Computed.{frame_reading}
 use Rattle.lapdm_frame.specs.Refusals.{IsRefused}
 use Rattle.um_lines.specs.Fields.{Value, Number, NumberList}
 use Rattle.um_lines.specs.ShowForms.{FrameFormat, NumberedInfo, Supervisory, WithInfo, WithoutInfo, FrameLineSyntax, syntax, frame_fields}
@@ -55,15 +53,14 @@ IsTextOfOctets octets text =
     ((f : Frame) × IsFrameCoding Sdcch f octets × (text ≡ frame_text f))
     ⊎ ((reason : Refusal) × IsRefused Sdcch octets reason × (text ≡ unreadable_frame_text reason))
 
--- the text for the 23 octets of an SDCCH block as a function; `IsTextOfOctets` is its law
+-- the text of the frame read, or of the reason why there is none
+abbrev pub text_of_reading : Result Frame Refusal → List ℕ
+text_of_reading (Ok f) = frame_text f
+text_of_reading (Err reason) = unreadable_frame_text reason
+
+-- the text for the 23 octets of an SDCCH block, computed; `IsTextOfOctets` is its law
 unfoldable pub text_of_octets : (octets : List ℕ) → List ℕ
-text_of_octets octets = elim (cases_eq (length octets) 23) [
-  | inl count ↦ elim (one_reading Sdcch octets count) [
-    | inl reading ↦ frame_text reading.0
-    | inr reading ↦ unreadable_frame_text reading.0
-  ]
-  | inr other ↦ []
-]
+text_of_octets octets = text_of_reading (frame_reading Sdcch octets)
 
 -- the line `octets HEX46` for 23 octets
 abbrev pub octets_text : (octets : List ℕ) → List ℕ

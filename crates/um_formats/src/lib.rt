@@ -22,7 +22,10 @@ pub use bursts::{access_line, normal_line, push_block, sync_line, write_block_bu
 pub use code::{CodeLine, law_code_line_meaning_is_unique, parse_code};
 pub use frames::{frame_line, octets_line};
 pub use held::{BurstsToDecode, HeldBursts, hold_normal_burst, parse_and_hold_burst};
-pub use laws::{law_read_lines_are_meanings_or_faults, law_text_of_octets_is_that_of_their_frame};
+pub use laws::{
+    law_lines_with_a_form_are_not_skipped, law_read_lines_are_meanings_or_faults,
+    law_text_of_octets_is_that_of_their_frame,
+};
 pub use reports::{access_report, block_report, sync_report};
 pub use show::{
     ShowLine, law_show_line_meaning_is_unique, law_written_frames_read_back, parse_show,

@@ -92,7 +92,7 @@ module _ (CrcHolds : List ℕ → Type 0) (s : List ℤ) (most : ℕ) where
     | inr all ↦ All-contains (λ v. ¬ CrcHolds v) none.tried_words u none.crcs_fail (all u (candidate r u h)) h.crc_holds
   ]
 
-  taken_once : {X : Type 0} (data_of : List ℕ → X) (r r' : ℕ) (u u' : List ℕ) (a a' : Option X) →
+  pub taken_once : {X : Type 0} (data_of : List ℕ → X) (r r' : ℕ) (u u' : List ℕ) (a a' : Option X) →
       IsListDecoderChoice CrcHolds data_of s most r u a →
       IsListDecoderChoice CrcHolds data_of s most r' u' a' → (r ≡ r') × (u ≡ u') × (a ≡ a')
   taken_once data_of r r' u u' None None h g = (h.2 ∙ sym g.2, IsMostLikely-only s u' u g.1 h.1, refl)
@@ -143,7 +143,7 @@ module _ (CrcHolds : List ℕ → Type 0) (s : List ℤ) (most : ℕ) where
   taken_of_one data_of r u None e h = h.2
   taken_of_one data_of r u (Some x) e h = omega (arith, h.0.rank_follows_earlier_words, h.0.rank_limit)
 
-  taken_at_once : {X : Type 0} (data_of : List ℕ → X) (u : List ℕ) (a : Option X) → 1 ≤ most → IsMostLikely s u →
+  pub taken_at_once : {X : Type 0} (data_of : List ℕ → X) (u : List ℕ) (a : Option X) → 1 ≤ most → IsMostLikely s u →
       MatchOption a (¬ CrcHolds u) (λ x. CrcHolds u × (x ≡ data_of u)) → IsSome a →
       IsListDecoderChoice CrcHolds data_of s most 1 u a
   taken_at_once data_of u None some best h is = absurd (never is)

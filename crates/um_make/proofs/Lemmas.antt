@@ -15,7 +15,7 @@ use Rattle.{
     specs.{
       Abstraction.Represents,
       Naming.spec_answer_of,
-      Sessions.ExtendsSession,
+      Sessions.{ExtendsSession, IsWorldAfterEvents},
       declared.{events.{No.No, Step.Step}, links.WorldState.WorldState},
       lapdm_frame.declared.Channel.TheVariants.Sdcch,
       lapdm_link.{
@@ -40,7 +40,6 @@ use Rattle.{
     Generated.{message_length, messages, message, message_segment_count, segment_transmissions, segment_transmission, sender},
     Runs.{AckedAtMostReceived, IsGeneratedSession, answers_to, generated_answers, generated_summary},
     Summaries.{crc_fails, endpoint_summary, session_summary, crc_passes, is_loss_event, reports_bad_crc, reports_good_crc},
-    RunProgress.IsRunInProgress,
     declared.{course.SessionStage.{TheVariants.SendNext, SessionStage}, end_summary.EndpointSummary.EndpointSummary},
     declared.summary.Summary.Summary,
   },
@@ -265,6 +264,18 @@ counters-grow n k m old new within h g = search rules
 
 zero_growth : (s : Summary) → CountersGrowAtMost 0 s s
 zero_growth s = search rules
+
+-- the events `script_events` except `remaining_events` have led to `world`, and `counters` counts them and their answers
+pub record IsRunInProgress (tsc : ℕ) (script_events remaining_events : List Event) (world : WorldState) (counters : Summary) : Type 0
+  where
+    pub events : List Event
+    pub answers : List Answer
+    pub state : AirState
+    pub script_events_split : script_events ≡ events ++ remaining_events
+    pub one_answer_per_event : length answers ≡ length events
+    pub world_after_events : IsWorldAfterEvents tsc Sdcch events answers state world
+    pub summary : counters ≡ session_summary events answers
+    pub counters_bounded : CountersAreAtMost (192015 * length events) counters
 
 pub progress-start : (tsc : ℕ) (all script : List Event) (world : WorldState) (s : Summary) → all ≡ script →
     Represents world (initial_session tsc Sdcch) → s ≡ session_summary [] [] → CountersAreAtMost 0 s →

@@ -5,4 +5,3 @@ pub mod Runs
 pub mod Texts
 pub mod Counting
 pub mod Courses
-pub mod RunProgress

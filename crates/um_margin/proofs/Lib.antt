@@ -1,1 +1,4 @@
 pub mod Lemmas
+mod Comparing
+mod Worked
+pub mod Refuted

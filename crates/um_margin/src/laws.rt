@@ -1,5 +1,5 @@
 //! Laws of the `margin` command. A law does nothing at run time; its contract states a theorem.
-ghost use Rattle.std.specs.Prelude.{◌≡◌, ℕ, ◌*◌, ◌-◌, ◌≤◌, ℤ, pos, ◌≤ℤ◌, unsigned_abs, List, length};
+ghost use Rattle.std.specs.Prelude.{◌≡◌, ℕ, ◌*◌, ◌-◌, ◌≤◌, ℤ, pos, ◌≤ℤ◌, unsigned_abs, List, [], length};
 ghost use Rattle.std.specs.List.{All};
 ghost use Rattle.std.proofs.Math.Logic.{◌↔◌};
 ghost use Rattle.um_block.specs.bit_blocks.SoftValues.{count_wrong_bits};
@@ -11,6 +11,11 @@ ghost use Rattle.um_block.specs.declared.received.ReceivedAccess.{ReceivedAccess
 ghost use Rattle.um_block.specs.declared.received.ReceivedSync.{ReceivedSync};
 ghost use Rattle.um_margin.specs.Compared.{TwoMostLikelyWords, AreTwoMostLikelyWords, AreTwoMostLikelyBlockWords};
 ghost use Rattle.um_margin.specs.Compared.{compared_words, compared_block_words};
+ghost use Rattle.um_margin.specs.Comparing.{ComparesWords};
+ghost use Rattle.um_margin.specs.Margins.{margin_command_rules};
+ghost use Rattle.um_replay.specs.Reporting.{AnswersBursts};
+ghost use Rattle.um_replay.specs.um_driver.Rules.{Runs};
+ghost use Rattle.um_replay.specs.um_formats.declared.burst_lines.BurstLine.{BurstLine};
 
 /// Law: `compared_words` and `compared_block_words` compare the two most likely words, and no other comparison does.
 pub fn law_comparison_is_of_two_most_likely_words()
@@ -21,6 +26,15 @@ pub fn law_comparison_is_of_two_most_likely_words()
         AreTwoMostLikelyBlockWords bursts (compared_block_words bursts) }
     ensures only_block { (bursts : List (List ℤ)) (c : TwoMostLikelyWords) → AreTwoMostLikelyBlockWords bursts c →
         c ≡ compared_block_words bursts }
+{}
+
+/// Law: the answer to each line compares the two most likely words: for a block, those for its four bursts in order. Two texts that compare
+/// the words for the same bursts are equal.
+pub fn law_margin_compares_what_was_received()
+    ensures lines { (lines texts : List (List ℕ)) (held : List (List ℤ)) → Runs margin_command_rules [] lines texts held
+        → AnswersBursts ComparesWords [] lines texts held }
+    ensures only { (held : List (List ℤ)) (meaning : BurstLine) (x y : List ℕ) → ComparesWords held meaning x →
+        ComparesWords held meaning y → x ≡ y }
 {}
 
 /// Law: `replay` reports the same most likely word and path metric for the same bursts.

@@ -1,17 +1,26 @@
 -- The lines of `repair`, and the result of a repair.
 use Rattle.{
-  fire_code.{proofs.Lemmas.{AllBits-low_bits, length-low_bits, low_bits-number_of, number_of}, specs.Registers.low_bits},
-  fire_repair.{proofs.RepairResults.{one_answer, some_answer}, specs.{Answers.IsRepairResult, declared.repairs.RepairAnswer.RepairAnswer}},
-  std.proofs.Common.{List, [], subst, ap, arith, drop, length-append, length, refl, sym, ℕ, ◌++◌, ◌∙◌, ◌≡◌},
+  fire_repair.{proofs.RepairResults.one_answer, specs.{Answers.IsRepairResult, declared.repairs.RepairAnswer.RepairAnswer}},
+  std.proofs.{Common.{Err, Ok, Result}, Math.Logic.◌↔◌},
+  std.proofs.Common.{List, [], ap, arith, drop, length-append, length, refl, sym, ℕ, ◌++◌, ◌∙◌, ◌≡◌},
   std.proofs.lemmas.List.{append-nil, drop_all, drop_at, take_at},
   um_lines.{
-    proofs.{FormLaws.line_by_forms, bit_blocks.Lemmas.{AllBits-append, AllBits-bits_of, length-bits_of}},
-    specs.{Forms.{LineMeans, never_misplaced}, Meanings.HasOneMeaningOrFault, RepairForms.repair_line_forms, bit_blocks.Bits.AllBits},
+    proofs.{FormLaws.{line_by_forms, parsed_meaning}, bit_blocks.Lemmas.{AllBits-append, AllBits-bits_of, length-bits_of}},
+    specs.{
+      declared.fault.LineFault.LineFault,
+      Forms.{LineMeans, never_misplaced},
+      Meanings.HasOneMeaningOrFault,
+      RepairForms.repair_line_forms,
+      bit_blocks.Bits.AllBits,
+    },
     specs.bit_blocks.Octets.bits_of,
   },
+  um_driver.specs.Rules.stateless_step,
+  um_repair.proofs.Searching.IsRepairResult-repair_result,
   um_repair.specs.{
-    RepairLines.{RepairLineMeans, bits_of_data_and_crc, repair_line_fault, repair_line_of_meaning},
-    RepairRules.repair_result,
+    RepairLines.{RepairLineMeans, bits_of_data_and_crc, repair_line_fault, repair_line_of_meaning, repair_line},
+    RepairRules.{repair_command_rules, repair_result},
+    Texts.{ReportsRepair, answer_text},
     declared.parsing.RepairLine.{TheVariants.{Skip, Word}, RepairLine},
   },
 }
@@ -54,14 +63,6 @@ written_word x y zeros ex ez =
 
 -- ## Results: `repair_result` is the only result that is correct for a word of 224 bits.
 
-pub IsRepairResult-repair_result : (w : List ℕ) → length w ≡ 224 → AllBits w → IsRepairResult w (repair_result w)
-unfolding repair_result
-IsRepairResult-repair_result w count bits = go (low_bits 224 (number_of w)) (length-low_bits 224 (number_of w))
-    (AllBits-low_bits 224 (number_of w)) (rw count at (low_bits-number_of w bits))
-  where
-    go : (v : List ℕ) (e : length v ≡ 224) (b : AllBits v) → v ≡ w → IsRepairResult w (some_answer v e b).0
-    go v e b same = subst (λ x. IsRepairResult x (some_answer v e b).0) same (some_answer v e b).1
-
 pub repair_result-only : (w : List ℕ) (a : RepairAnswer) → length w ≡ 224 → AllBits w → IsRepairResult w a →
     a ≡ repair_result w
 repair_result-only w a count bits is = one_answer w a _ is (IsRepairResult-repair_result w count bits)
@@ -69,3 +70,32 @@ repair_result-only w a count bits is = one_answer w a _ is (IsRepairResult-repai
 pub result_of_line : (line w : List ℕ) (a : RepairAnswer) → RepairLineMeans line (Word w) → IsRepairResult w a →
     a ≡ repair_result w
 result_of_line line w a means = repair_result-only w a (are_word_bits line (Word w) means).0 (are_word_bits line (Word w) means).1
+
+-- ## Reporting: The answer to a line with a word is the line for a correct result of its repair.
+
+line_meaning : (line w : List ℕ) → RepairLineMeans line (Word w) → repair_line line ≡ Ok (Word w)
+unfolding repair_line
+line_meaning line w means = parsed_meaning repair_line_forms never_misplaced repair_line_of_meaning line (Word w) refl means
+
+text_of : Result (List ℕ × Unit {0}) LineFault → List ℕ
+text_of (Ok next) = next.0
+text_of (Err fault) = []
+
+same_text : (x y : List ℕ) → stateless_step (Ok x) ≡ stateless_step (Ok y) → x ≡ y
+unfolding text_of
+same_text x y same = ap text_of same
+
+pub answer_reports : (line text w : List ℕ) → RepairLineMeans line (Word w) →
+    (repair_command_rules.step tt line ≡ Ok (text, tt)) ↔ ReportsRepair w text
+answer_reports line text w means =
+    let (count, bits) = are_word_bits line (Word w) means in
+    let computed : repair_command_rules.step tt line ≡ Ok (answer_text (repair_result w), tt) = rw (line_meaning line w means) refl in (
+      λ is. (
+        repair_result w,
+        IsRepairResult-repair_result w count bits,
+        same_text text (answer_text (repair_result w)) (sym is ∙ computed),
+      ),
+      λ (result, correct, said).
+          let same = ap answer_text (sym (repair_result-only w result count bits correct)) in
+          computed ∙ ap (λ (x : List ℕ). Ok (x, tt)) (same ∙ sym said),
+    )

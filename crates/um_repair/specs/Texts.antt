@@ -1,8 +1,9 @@
 -- The output lines of `repair` (this project's own rule).
-use Rattle.std.specs.Prelude.{ℕ, List, ◌++◌, take, drop, codes}
+use Rattle.std.specs.Prelude.{ℕ, ◌≡◌, List, ◌++◌, take, drop, codes}
 use Rattle.std.specs.Fmt.{decimal}
 use Rattle.um_lines.specs.Hex.{encode_lower}
 use Rattle.um_lines.specs.bit_blocks.Octets.{octets_of}
+use Rattle.fire_repair.specs.Answers.{IsRepairResult}
 use Rattle.fire_repair.specs.declared.repairs.RepairAnswer.{RepairAnswer}
 use Rattle.fire_repair.specs.declared.repairs.RepairAnswer.TheVariants.{Holds, Repaired, NoRepair}
 
@@ -17,3 +18,7 @@ abbrev pub answer_text : RepairAnswer → List ℕ
 answer_text Holds = codes "holds\n"
 answer_text (Repaired word first span) = repaired_text word first span
 answer_text NoRepair = codes "none\n"
+
+-- `text` is the line for a correct result of the repair of a word
+abbrev pub ReportsRepair : (word text : List ℕ) → Type 0
+ReportsRepair word text = (result : RepairAnswer) × IsRepairResult word result × (text ≡ answer_text result)

@@ -2,7 +2,7 @@
 use Rattle.{
   std.proofs.Common.{Bool, List, Ok, Err, Some, [], ap, arith, false, length, refl, sym},
   std.proofs.Common.{true, ℕ, ℤ, ◌++◌, ◌<◌, ◌∙◌, ◌∷◌, ◌≡◌},
-  std.proofs.lemmas.Bool.{le-ltb, lt-ltb},
+  std.proofs.lemmas.Bool.{le-leb, lt-leb},
   um_driver.specs.um_lines.declared.fault.LineFault.LineFault,
   um_replay.specs.BurstRules.{BurstAnswers, answer_to_burst, answer_to_bursts, burst_rules},
   um_formats.{
@@ -18,10 +18,10 @@ use Rattle.{
 module _ (a : BurstAnswers) (old new : BurstBuffer) where
   normal_answered : (soft : List ℤ) (whole : Bool) → AddsNormalBurst old soft whole new →
       answer_to_burst a old.held (Normal soft) ≡ (answer_to_bursts a (normal_burst_result whole) new.slots, new.held)
-  normal_answered soft false (held, few) = rw (← held, lt-ltb (length new.held) 4 few) refl
+  normal_answered soft false (held, few) = rw (← held, lt-leb 4 (length new.held) few) refl
   normal_answered soft true (slots, four, none) =
       let many : length (old.held ++ soft ∷ []) ≡ 4 = sym (ap length slots) ∙ four in
-      rw (le-ltb (length (old.held ++ soft ∷ [])) 4 (omega arith), slots, none) refl
+      rw (le-leb 4 (length (old.held ++ soft ∷ [])) (omega arith), slots, none) refl
 
   answered : (meaning : BurstLine) (next : BurstsToDecode) → GivesBurstsToDecode old meaning next new →
       answer_to_burst a old.held meaning ≡ (answer_to_bursts a next new.slots, new.held)

@@ -1,1 +1,4 @@
 pub mod Lemmas
+pub mod Reporting
+mod Worked
+mod WorkedSync

@@ -1,8 +1,8 @@
 -- How a command that reads bursts answers a line (this project's own rule).
-use Rattle.std.specs.Prelude.{ℕ, ℤ, List, [], ◌∷◌, ◌++◌, length, nat_lt, if◌then◌else◌}
+use Rattle.std.specs.Prelude.{ℕ, ℤ, List, [], ◌∷◌, ◌++◌, length, if◌then◌else◌}
 use Rattle.um_formats.specs.declared.burst_lines.BurstLine.{BurstLine}
 use Rattle.um_formats.specs.declared.burst_lines.BurstLine.TheVariants.{Skip, Normal, Access, Sync}
-use Rattle.um_formats.specs.BurstLines.{burst_line, unfinished_block_fault}
+use Rattle.um_formats.specs.BurstLines.{burst_line, completes_block, unfinished_block_fault}
 use Rattle.um_formats.specs.declared.held.BurstsToDecode.{BurstsToDecode}
 use Rattle.um_formats.specs.declared.held.BurstsToDecode.TheVariants as N
 use Rattle.um_driver.specs.Rules.{Rules, answer_to_meaning}
@@ -13,12 +13,12 @@ pub record BurstAnswers : Type 0 where
   pub access : (bsic : List ℕ) (burst : List ℤ) → List ℕ
   pub sync : (burst : List ℤ) → List ℕ
 
--- the answer to a line with this meaning, and the bursts held afterwards: the fourth burst of a block gets the answer to the block, an
+-- the answer to a line with this meaning, and the bursts held afterwards: the burst that completes a block gets the answer to the block, an
 -- earlier burst gets none
 abbrev pub answer_to_burst : (answers : BurstAnswers) (held : List (List ℤ)) (line : BurstLine) → List ℕ × List (List ℤ)
 answer_to_burst a held Skip = ([], held)
 answer_to_burst a held (Normal soft) =
-    if nat_lt (length (held ++ soft ∷ [])) 4 then ([], held ++ soft ∷ []) else (a.block (held ++ soft ∷ []), [])
+    if completes_block held soft then (a.block (held ++ soft ∷ []), []) else ([], held ++ soft ∷ [])
 answer_to_burst a held (Access bsic soft) = (a.access bsic soft, held)
 answer_to_burst a held (Sync soft) = (a.sync soft, held)
 

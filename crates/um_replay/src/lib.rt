@@ -3,10 +3,12 @@
 #![tactic(auto)]
 
 mod command;
+mod laws;
 mod replay;
 mod reports;
 
 pub use command::BurstCommand;
+pub use laws::law_replay_reports_what_was_received;
 pub use replay::Replay;
 pub use reports::Reports;
 pub use um_formats::{Text, octets_from_bits_at};

@@ -20,6 +20,7 @@ use Rattle.{
     specs.Fields.{has_forbidden_soft_value, has_octet_count, has_wrong_bit_index, has_wrong_digits, has_wrong_length, is_dash_or_hex},
     specs.{Fields.{is_decimal, octets_from_hex}, Forms.{LineForms, fault_or_value, fields_for_word_count, first_field_fault}},
     specs.Forms.{has_faulty_word, has_repeated_number, line_fault, never_misplaced, bit_indices_of_values, values_of_words},
+    specs.Forms.{first_word_fault, form_of_words, meaning_of_words},
     specs.{LinkForms.{any_octets, direction_word, endpoint_word, link_line_forms}, Words.{skips_line, words}},
     specs.declared.fault.LineFault.{TheVariants.{Digits, Place, Twice}, LineFault},
   },
@@ -29,13 +30,12 @@ use Rattle.{
     um_air.{Air.Event, Sessions.{AreOctets, EventMessageIsOctets}},
   },
   um_script.specs.{
-    Held.{has_marked_or_repeated_index, decimal_word_values},
+    Held.decimal_word_values,
     Names.{action_of_name, actor_of_name, request_of_name},
     Naming.event_or_fault,
     ScriptLines.{ScriptLineMeans, call_event, event_of_script_line_meaning, event_of_values, octets_of_values, script_line, sender_of},
     ScriptReading.{event_from_parsed_list, is_index_above_591, parsed_actor_line, parsed_bit_indices, parsed_bit_inversion},
-    ScriptReading.{parsed_layer3_call, parsed_octets_call, parsed_octets_word, parsed_radio_event, parsed_script_words},
-    ScriptReading.script_parse_result,
+    ScriptReading.{EventOrFault, parsed_layer3_call, parsed_octets_call, parsed_octets_word, parsed_radio_event, parsed_script_words},
   },
 }
 use Rattle.um_link.specs.lapdm_link.Events as E
@@ -79,6 +79,12 @@ cases_verb P verb opens send unit close tick idle other =
     cases_word P (codes "open") verb opens (λ a. cases_word P (codes "send") verb send (λ b. cases_word P (codes "unit") verb unit (λ c.
     cases_word P (codes "close") verb close (λ d. cases_word P (codes "tick") verb tick (λ e. cases_word P (codes "idle") verb idle (λ f.
     other a b c d e f))))))
+
+-- the event that the words describe, or their first fault
+abbrev script_parse_result : (words : List (List ℕ)) → EventOrFault
+script_parse_result ws = fault_or_value (first_word_fault never_misplaced (form_of_words link_line_forms ws) ws)
+    (event_of_script_line_meaning (meaning_of_words
+    (form_of_words link_line_forms ws) ws))
 
 abbrev IsCallRead : L.LinkEndpoint → List (List ℕ) → List ℕ → Type 0
 IsCallRead end ws verb = script_parse_result (endpoint_word end ∷ verb ∷ ws) ≡ parsed_layer3_call end (verb ∷ ws)
@@ -347,6 +353,11 @@ first_small : (w : List ℕ) (ws : List (List ℕ)) → list_any is_index_above_
 first_small w ws in_range =
     let parts = or_parts (is_index_above_591 w) (list_any is_index_above_591 ws) in_range in
     (omega (arith, ltb-false 591 (digits_value 10 w) parts.0), parts.1)
+
+-- whether an index in the list is already marked, or occurs more than once
+abbrev pub has_marked_or_repeated_index : (marks : List Bool) (indices : List ℕ) → Bool
+has_marked_or_repeated_index marks [] = false
+has_marked_or_repeated_index marks (n ∷ ns) = get_or marks n false || has_marked_or_repeated_index (slice_set marks n true) ns
 
 again : (ws : List (List ℕ)) (marks : List Bool) (before : List ℕ) → list_any is_index_above_591 ws ≡ false → Marks marks before
     →

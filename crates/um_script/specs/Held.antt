@@ -1,6 +1,6 @@
 -- The contents of the buffers that the parser of script lines fills (used inside this crate).
-use Rattle.std.specs.Prelude.{ℕ, ◌≡◌, Bool, true, false, not, ◌||◌, List, [], ◌∷◌, Option, Some, None, Result, Ok, Err}
-use Rattle.std.specs.Prelude.{map, slice_index_or, slice_set}
+use Rattle.std.specs.Prelude.{ℕ, ◌≡◌, false, not, List, [], Option, Some, None, Result, Ok, Err}
+use Rattle.std.specs.Prelude.{map}
 use Rattle.std.specs.Borrow.{Bor}
 use Rattle.std.specs.List.{list_any}
 use Rattle.std.specs.Str.Parse.{digits_value}
@@ -18,11 +18,6 @@ octets_or_fault (Err fault) = Err fault
 abbrev pub bit_indices_or_fault : Result (Bor (List ℕ)) LineFault → Result (List ℕ) LineFault
 bit_indices_or_fault (Ok places) = Ok places.now
 bit_indices_or_fault (Err fault) = Err fault
-
--- whether an index in the list is already marked, or occurs more than once
-abbrev pub has_marked_or_repeated_index : (marks : List Bool) (indices : List ℕ) → Bool
-has_marked_or_repeated_index marks [] = false
-has_marked_or_repeated_index marks (n ∷ ns) = slice_index_or marks n false || has_marked_or_repeated_index (slice_set marks n true) ns
 
 abbrev pub decimal_word_values : (words : List (List ℕ)) → List ℕ
 decimal_word_values ws = map (digits_value 10) ws

@@ -10,9 +10,8 @@ use Rattle.um_link.specs.um_air.Air as A
 use Rattle.um_lines.specs.declared.fault.LineFault.{LineFault}
 use Rattle.um_lines.specs.declared.fault.LineFault.TheVariants.{Word, Digits, Length, Place, Twice}
 use Rattle.um_lines.specs.Fields.{is_dash_or_hex, has_octet_count, octets_from_hex, is_decimal}
-use Rattle.um_lines.specs.Forms.{never_misplaced, form_of_words, first_word_fault, meaning_of_words, fault_or_value, has_repeated_number}
+use Rattle.um_lines.specs.Forms.{has_repeated_number}
 use Rattle.um_lines.specs.LinkForms as L
-use Rattle.um_lines.specs.LinkForms.{link_line_forms}
 use Rattle.um_script.specs.declared.names.Actor.{Actor}
 use Rattle.um_script.specs.declared.names.Actor.TheVariants as W
 use Rattle.um_script.specs.declared.names.Request.{Request}
@@ -20,17 +19,11 @@ use Rattle.um_script.specs.declared.names.Request.TheVariants as Q
 use Rattle.um_script.specs.declared.names.RadioAction.{RadioAction}
 use Rattle.um_script.specs.declared.names.RadioAction.TheVariants as T
 use Rattle.um_script.specs.Names.{link_endpoint_of, link_direction_of, actor_of_name, request_of_name, action_of_name}
-use Rattle.um_script.specs.ScriptLines.{role_of, sapi_of, sender_of, call_event, event_of_script_line_meaning}
+use Rattle.um_script.specs.ScriptLines.{role_of, sapi_of, sender_of, call_event}
 
 -- the result of parsing a line: an event, `None` for a skipped line, or the fault
 abbrev pub EventOrFault : Type 0
 EventOrFault = Result (Option A.Event) LineFault
-
--- the event that the words describe, or their first fault
-abbrev pub script_parse_result : (words : List (List ℕ)) → EventOrFault
-script_parse_result ws = fault_or_value (first_word_fault never_misplaced (form_of_words link_line_forms ws) ws)
-    (event_of_script_line_meaning (meaning_of_words
-    (form_of_words link_line_forms ws) ws))
 
 -- the octets that a single word represents, or its first fault; no word, or more than one, is the fault `Word`
 abbrev pub parsed_octets_word : (words : List (List ℕ)) → Result (List ℕ) LineFault

@@ -1,3 +1,5 @@
 -- Lemmas of this crate.
 pub mod Taking
 pub mod Firsts
+mod Recordings
+mod Worked

@@ -1,9 +1,11 @@
 -- The numbers that stand for combinations, directions and channels in plain data (this project's own).
 use Rattle.std.specs.Prelude.{ℕ, ◌==◌, if◌then◌else◌, Bool, true, false, Option, Some, None}
 use Rattle.tdma.specs.declared.channels.Combination.{Combination}
-use Rattle.tdma.specs.declared.channels.Combination.TheVariants.{BcchCcch, BcchCcchSdcch4, Sdcch8, TchF}
+use Rattle.tdma.specs.declared.channels.Combination.TheVariants.{BcchCcch, BcchCcchSdcch4, Sdcch8, TchF, TchH}
 use Rattle.tdma.specs.declared.channels.Direction.{Direction}
 use Rattle.tdma.specs.declared.channels.Direction.TheVariants.{Downlink, Uplink}
+use Rattle.tdma.specs.declared.traffic.TrafficChannel.{TrafficChannel}
+use Rattle.tdma.specs.declared.traffic.TrafficChannel.TheVariants.{FullRate, HalfRate0, HalfRate1}
 use Rattle.tdma.specs.declared.channels.Channel.{Channel}
 use Rattle.tdma.specs.declared.channels.Channel.TheVariants.{Sdcch, Sacch, Bcch, Ccch, Fcch, Sch, Rach}
 
@@ -14,11 +16,24 @@ combination_of number =
     else if number == 1 then Some BcchCcchSdcch4
     else if number == 2 then Some Sdcch8
     else if number == 3 then Some TchF
+    else if number == 4 then Some TchH
     else None
+
+-- the same, if the blocks of its time slot come one after another: the bursts of those of two half rate channels alternate
+abbrev pub slot_combination_of : (number : ℕ) → Option Combination
+slot_combination_of number = if number == 4 then None else combination_of number
 
 -- the direction with this number
 abbrev pub direction_of : (number : ℕ) → Option Direction
 direction_of number = if number == 0 then Some Downlink else if number == 1 then Some Uplink else None
+
+-- the traffic channel with this number
+abbrev pub traffic_channel_of : (number : ℕ) → Option TrafficChannel
+traffic_channel_of number =
+    if number == 0 then Some FullRate
+    else if number == 1 then Some HalfRate0
+    else if number == 2 then Some HalfRate1
+    else None
 
 -- the channel with this number
 abbrev pub channel_of : (number : ℕ) → Option Channel

@@ -1,13 +1,13 @@
 -- A receiver of one time slot (this project's own): the bursts of each block are collected by their frame numbers, in ascending order.
 use Rattle.std.specs.Prelude.{ℕ, ◌≡◌, ◌+◌, ◌-◌, ◌%◌, ◌==◌, nat_lt, nat_le, min, if◌then◌else◌, Bool, true}
-use Rattle.std.specs.Prelude.{false, ◌&&◌, IfSome}
+use Rattle.std.specs.Prelude.{◌&&◌, IfSome}
 use Rattle.std.specs.Prelude.{ℤ, pos, negsuc, int_le, List, replicate, slice_set, Option, Some, None, MatchOption, Result, Ok, Err}
 use Rattle.tdma.specs.declared.TheConstants.{HYPERFRAME}
 use Rattle.tdma.specs.declared.channels.Combination.{Combination}
 use Rattle.tdma.specs.declared.channels.Direction.{Direction}
 use Rattle.tdma.specs.declared.places.Place.{Place}
 use Rattle.tdma.specs.Channels.{place_of}
-use Rattle.um_slot.specs.Numbers.{combination_of, direction_of, is_channel_of_blocks}
+use Rattle.um_slot.specs.Numbers.{direction_of, is_channel_of_blocks, slot_combination_of}
 use Rattle.um_slot.specs.declared.accepting.AcceptedFrame.{AcceptedFrame}
 use Rattle.um_slot.specs.declared.slots.Slot.{Slot}
 use Rattle.um_slot.specs.declared.slots.FinishedBlock.{FinishedBlock}
@@ -30,7 +30,7 @@ block_of_frame c d timeslot frame = block_place (place_of c d timeslot frame)
 abbrev pub has_valid_numbers : Slot → Bool
 has_valid_numbers s =
     nat_le s.last HYPERFRAME && (nat_le s.first HYPERFRAME && (nat_lt s.timeslot 8 && (nat_le 1 s.words && (nat_le s.words 64
-    && (nat_le s.erasures 4 && nat_le s.heard 4)))))
+    && (nat_le s.erasures 4 && (nat_le s.heard 4 && nat_le s.limit 78))))))
 
 -- the settings with the block that is being collected, if a place is the first burst of a block
 abbrev pub settings_from_place : (combination : Combination) (direction : Direction) (place : Option Place) → Option Settings
@@ -48,11 +48,11 @@ settings_if_valid s c d valid = None
 
 -- what a receiver is set to and which block it is collecting; nothing if its state is not valid
 abbrev pub settings_of : Slot → Option Settings
-settings_of s = settings_if_valid s (combination_of s.combination) (direction_of s.direction) (has_valid_numbers s)
+settings_of s = settings_if_valid s (slot_combination_of s.combination) (direction_of s.direction) (has_valid_numbers s)
 
 -- the numbers are in range, and stand for this combination and direction
 abbrev pub AreInRange : (slot : Slot) (combination : Combination) (direction : Direction) → Type 0
-AreInRange s c d = (combination_of s.combination ≡ Some c) × (direction_of s.direction ≡ Some d) × (has_valid_numbers s ≡ true)
+AreInRange s c d = (slot_combination_of s.combination ≡ Some c) × (direction_of s.direction ≡ Some d) × (has_valid_numbers s ≡ true)
 
 -- if it is a place, it is that of a frame
 abbrev pub IsPlaceOfSome : (combination : Combination) (direction : Direction) (timeslot : ℕ) (place : Option Place) → Type 0
@@ -70,7 +70,12 @@ new_slot c d timeslot words erasures = record {
   erasures = erasures;
   heard = 0;
   bursts = replicate 4 (replicate 148 (pos 0));
+  limit = 78;
 }
+
+-- a receiver that has taken no frame, with the settings of another
+abbrev pub restarted : Slot → Slot
+restarted s = record s { last = HYPERFRAME; first = HYPERFRAME; heard = 0; bursts = replicate 4 (replicate 148 (pos 0)) }
 
 -- ## Refusals
 
@@ -193,6 +198,21 @@ abbrev pub Takes : (old : Slot) (frame came : ℕ) (burst : List ℤ) (done_old 
     (answer : Result (Option FinishedBlock) Refusal) (new : Slot) (done_new : List (List ℤ)) → Type 0
 Takes old frame came burst done answer new done' =
     TakesWith (settings_of old) (frame_refusal old frame) old frame came burst done answer new done'
+
+-- ## At the end of a recording
+
+-- the block that is being collected is finished
+abbrev pub end_block : (collecting : Option Place) (step : Step) → Step
+end_block None x = x
+end_block (Some c) x = finish c x
+
+-- a call that ends the block that is being collected gives it, and changes the receiver, whose bursts are still its own
+abbrev pub EndsWith : (settings : Option Settings) (old : Slot) (done : List (List ℤ)) (answer : Result (Option FinishedBlock) Refusal)
+    (new : Slot) → Type 0
+EndsWith None old done answer new = (answer ≡ Err Invalid) × (new ≡ old)
+EndsWith (Some settings) old done answer new =
+    let step = end_block settings.collecting (record { slot = old; finished = None; done = done }) in
+    (answer ≡ Ok step.finished) × (new ≡ step.slot) × AreDone step.finished new done step.done
 
 -- ## Soft bits
 

@@ -1,10 +1,11 @@
 //! The numbers that stand for combinations, directions and channels in plain data.
 ghost use Rattle.std.specs.Prelude.{◌≡◌};
 ghost use Rattle.um_slot.specs.Numbers.{channel_number, channel_of, combination_of, direction_of, is_channel_of_blocks};
+ghost use Rattle.um_slot.specs.Numbers.{slot_combination_of, traffic_channel_of};
 
-use tdma::{Channel, Combination, Direction};
+use tdma::{Channel, Combination, Direction, TrafficChannel};
 
-/// Returns the combination with this number, 0 to 3.
+/// Returns the combination with this number, 0 to 4.
 pub fn combination_of(number: u8) -> Option<Combination>
     ensures { result ≡ combination_of number }
 {
@@ -13,8 +14,19 @@ pub fn combination_of(number: u8) -> Option<Combination>
         1 => Some(Combination::BcchCcchSdcch4),
         2 => Some(Combination::Sdcch8),
         3 => Some(Combination::TchF),
+        4 => Some(Combination::TchH),
         _ => None,
     }
+}
+
+/// Returns the combination with this number, 0 to 3, if the blocks of its time slot come one after another.
+pub(crate) fn slot_combination_of(number: u8) -> Option<Combination>
+    ensures { result ≡ slot_combination_of number }
+{
+    if number == 4 {
+        return None;
+    }
+    combination_of(number)
 }
 
 /// Returns the direction with this number: 0 downlink, 1 uplink.
@@ -65,5 +77,17 @@ pub(crate) fn is_channel_of_blocks(channel: Channel) -> bool
     match channel {
         Channel::Sdcch | Channel::Sacch | Channel::Bcch | Channel::Ccch => true,
         Channel::Fcch | Channel::Sch | Channel::Rach => false,
+    }
+}
+
+/// Returns the traffic channel with this number, 0 to 2.
+pub fn traffic_channel_of(number: u8) -> Option<TrafficChannel>
+    ensures { result ≡ traffic_channel_of number }
+{
+    match number {
+        0 => Some(TrafficChannel::FullRate),
+        1 => Some(TrafficChannel::HalfRate0),
+        2 => Some(TrafficChannel::HalfRate1),
+        _ => None,
     }
 }

@@ -4,8 +4,8 @@ ghost use Rattle.tdma.specs.declared.TheConstants.{HYPERFRAME as FRAMES};
 ghost use Rattle.um_slot.specs.Slots.{AreInRange, IsPlaceOfSome, block_of_frame, frame_refusal, has_valid_numbers, order_refusal};
 ghost use Rattle.um_slot.specs.Slots.{settings_of};
 
-use crate::numbers::{combination_of, direction_of, is_channel_of_blocks};
-use crate::slots::{Refusal, Slot};
+use crate::numbers::{direction_of, is_channel_of_blocks, slot_combination_of};
+use crate::slots::{NO_LIMIT, Refusal, Slot};
 use tdma::{Combination, Direction, HYPERFRAME, Place, Position, place_of_frame};
 
 /// What a receiver is set to, and the block that it is collecting.
@@ -42,6 +42,7 @@ impl Slot {
     pub fn settings(&self) -> Option<Settings>
         ensures value { result ≡ settings_of self.now }
         ensures timeslot { IsSome result → self.now.timeslot < 8 }
+        ensures order { IsSome result → self.now.last ≤ FRAMES }
         ensures decoding { IsSome result → (1 ≤ self.now.words) × (self.now.words ≤ 64) × (self.now.erasures ≤ 4) }
     {
         let (combination, direction) = self.combination_and_direction()?;
@@ -51,7 +52,7 @@ impl Slot {
     pub(crate) fn combination_and_direction(&self) -> Option<(Combination, Direction)>
         ensures { MatchOption result (settings_of self.now ≡ None) (λ found. AreInRange self.now found.0 found.1) }
     {
-        let combination = combination_of(self.combination)?;
+        let combination = slot_combination_of(self.combination)?;
         let direction = direction_of(self.direction)?;
         if self.has_valid_numbers() {
             Some((combination, direction))
@@ -127,9 +128,11 @@ impl Slot {
             && self.words <= 64
             && self.erasures <= 4
             && self.heard <= 4
+            && self.limit <= NO_LIMIT
     }
 
-    pub(crate) fn frame_refusal(&self, frame: u32) -> Option<Refusal>
+    /// Returns why a frame is refused after the one taken last.
+    pub fn frame_refusal(&self, frame: u32) -> Option<Refusal>
         requires { self.now.last ≤ FRAMES }
         ensures { result ≡ frame_refusal self.now frame }
     {

@@ -5,6 +5,9 @@ ghost use Rattle.um_slot.specs.Slots.{Takes, new_slot, settings_of};
 use burst_map::BURST_BITS;
 use tdma::HYPERFRAME;
 
+/// The limit that every block meets: all training bits of three bursts may be wrong.
+pub const NO_LIMIT: u8 = 78;
+
 /// A receiver of one time slot. A caller may copy it, or save and restore it; each call tests it.
 #[repr(C)]
 #[derive(Clone, Copy, PartialEq, Eq, Debug)]
@@ -27,6 +30,8 @@ pub struct Slot {
     pub heard: u8,
     /// The bursts of the block, with zeros where none came.
     pub bursts: [[i8; BURST_BITS]; 4],
+    /// The greatest sum, 0 to 78, of the wrong training bits of a block's three best bursts with which more than one word is tried.
+    pub limit: u8,
 }
 
 /// A block whose bursts were collected.
@@ -71,6 +76,7 @@ impl Slot {
             erasures,
             heard: 0,
             bursts: [[0; BURST_BITS]; 4],
+            limit: NO_LIMIT,
         };
         if slot.settings().is_some() {
             Some(slot)

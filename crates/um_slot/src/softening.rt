@@ -18,7 +18,8 @@ pub fn softened(bursts: &[[i8; BURST_BITS]; 4]) -> [[i8; BURST_BITS]; 4]
     ]
 }
 
-fn softened_burst(burst: &[i8; BURST_BITS]) -> [i8; BURST_BITS]
+/// The same of one burst.
+pub fn softened_burst(burst: &[i8; BURST_BITS]) -> [i8; BURST_BITS]
     ensures value { result ≡ map softened burst.now }
     ensures soft { AllSoftBits result }
 {

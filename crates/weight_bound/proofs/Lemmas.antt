@@ -21,8 +21,8 @@ use Rattle.{
     specs.Prelude.◌⊎◌,
   },
   weight_bound.specs.{
-    Distance.{FreeDistanceAtLeastSeven, SomeDistanceIsSeven, differ_at, distance},
-    Restoring.{AreLeastAndGreatestStrength, CorrectableIsRestored, IsCorrectable},
+    Distance.{SomeDistanceIsSeven, differ_at, distance},
+    Restoring.{AreLeastAndGreatestStrength, IsCorrectable, OthersAreLessLikely},
   },
 }
 
@@ -169,9 +169,6 @@ pub count_by_more : (p : ℕ → Bool) (n : ℕ) →
 count_by_more p n =
     ap (count_by p) (range_more 0 n n (omega arith)) ∙ sum_by_push _ (range_with_len 0 n) n
 
-count_by-le : (p : ℕ → Bool) (n : ℕ) → count_by p (range_with_len 0 n) ≤ n
-count_by-le p n = omega (arith, count_by-le-length p (range_with_len 0 n), length-range_with_len 0 n)
-
 count_by-rest : (p q : ℕ → Bool) (a n : ℕ) → ((k : ℕ) → p (suc k) ≡ q k) →
     count_by p (range_with_len (suc a) n) ≡ count_by q (range_with_len a n)
 count_by-rest p q a zero h = refl
@@ -258,7 +255,8 @@ distance-coded u v same bits_u bits_v =
     distance-xor_bits (encoding u) (encoding v) count (AllBits-coded u) (AllBits-coded v)
     ∙ ap ones (sym (coded-xor_bits u v same) ∙ coded_from_start (xor_bits u v) (AllBits-xor_bits u v))
 
-pub at_least_seven : FreeDistanceAtLeastSeven
+pub at_least_seven : (u v : List ℕ) → IsEncoderInput u → IsEncoderInput v → length u ≡ length v → u ≢ v →
+    7 ≤ distance (encoding u) (encoding v)
 at_least_seven u v information_u information_v same ne =
     let bits_u = information_u.bits in
     let bits_v = information_v.bits in
@@ -333,30 +331,15 @@ bit_metric-zero p = grind arith
 bit_metric-one : (p : ℤ) → bit_metric p 1 ≡ pos 0 -ℤ p
 bit_metric-one p = grind arith
 
-right_or_wrong : (z : ℤ) → ((int_le z (pos 0) ≡ true) × (z ≤ℤ pos 0)) ⊎ ((int_le z (pos 0) ≡ false) × (pos 0 <ℤ z))
-right_or_wrong x = grind arith
-
 -- what a soft bit p adds to the path metric for a bit (a) and for the opposite bit (b): p and -p, in either order
 abbrev Opposite : ℤ → ℤ → ℤ → Type 0
 Opposite p a b = ((a ≡ p) × (b ≡ pos 0 -ℤ p)) ⊎ ((b ≡ p) × (a ≡ pos 0 -ℤ p))
-
-right_place : (p a b : ℤ) (min_abs max_abs : ℕ) → Between min_abs max_abs p → Opposite p a b → pos 0 <ℤ a →
-    (b +ℤ pos (2 * min_abs)) ≤ℤ a
-right_place x a b _ _ between y right = grind arith
-
-wrong_place : (p a b : ℤ) (min_abs max_abs : ℕ) → Between min_abs max_abs p → Opposite p a b → a ≤ℤ pos 0 →
-    b ≤ℤ (a +ℤ pos (2 * max_abs))
-wrong_place x a b _ _ between y _ = grind arith
 
 -- the path metric b of the other encoder input is smaller than a by 2 `min_abs` for each difference, minus 2 (`min_abs` + `max_abs`) for
 -- each wrong soft bit
 abbrev IsOutweighed : ℤ → ℤ → ℕ → ℕ → ℕ → ℕ → Type 0
 IsOutweighed a b min_abs max_abs differ wrong = (b +ℤ pos (2 * (min_abs * differ))) ≤ℤ
     (a +ℤ pos (2 * ((min_abs + max_abs) * wrong)))
-
-differing_place : (p a b : ℤ) (min_abs max_abs : ℕ) → Between min_abs max_abs p → Opposite p a b →
-    IsOutweighed a b min_abs max_abs 1 (cond (int_le a (pos 0)) 1 0)
-differing_place p a b _ _ between opposite = grind arith
 
 -- the bound for one soft bit: equal bits add the same; where the bits differ, the bound depends on whether the soft bit is wrong
 one_place : (p : ℤ) (x y min_abs max_abs : ℕ) → Between min_abs max_abs p → x ≤ 1 → y ≤ 1 →
@@ -393,7 +376,8 @@ less_likely s u v information_u information_v pairs same ne damage =
     let lost = mul-le-mul_left (min_abs + max_abs) damage.at_most_3_wrong_bits in
     omega (arith, ints, sums, gained, lost, damage.similar_strengths)
 
-pub restores : (soft : List ℤ) (u : List ℕ) → CorrectableIsRestored soft u
+pub restores : (soft : List ℤ) (u : List ℕ) → IsEncoderInput u → length soft ≡ 2 * length u →
+    IsCorrectable soft (encoding u) → IsMostLikely soft u × OthersAreLessLikely soft u
 restores soft u information pairs damage = (
   record {
     information = information;

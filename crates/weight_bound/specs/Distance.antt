@@ -1,5 +1,5 @@
 -- The Hamming distance, and the free distance of the convolutional code, which is seven.
-use Rattle.std.specs.Prelude.{ℕ, ◌≡◌, ◌≢◌, ◌≤◌, Bool, not, ◌==◌, List, length, slice_index}
+use Rattle.std.specs.Prelude.{ℕ, ◌≡◌, Bool, not, ◌==◌, List, length, slice_index}
 use Rattle.std.specs.List.{count_by, range_with_len}
 use Rattle.conv_code.specs.Code.{encoding, IsEncoderInput}
 
@@ -10,11 +10,6 @@ differ_at a b k = not (slice_index a k == slice_index b k)
 -- the Hamming distance between two lists of equal length
 abbrev pub distance : (first second : List ℕ) → ℕ
 distance a b = count_by (differ_at a b) (range_with_len 0 (length a))
-
--- the coded bits of any two different encoder inputs of equal length differ in at least seven positions
-abbrev pub FreeDistanceAtLeastSeven : Type 0
-FreeDistanceAtLeastSeven = (u v : List ℕ) → IsEncoderInput u → IsEncoderInput v → length u ≡ length v → u ≢ v →
-    7 ≤ distance (encoding u) (encoding v)
 
 -- there are two encoder inputs of `bit_count` bits whose coded bits differ in exactly seven positions
 pub record SomeDistanceIsSeven (bit_count : ℕ) : Type 0 where

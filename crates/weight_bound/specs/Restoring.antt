@@ -4,7 +4,7 @@ use Rattle.std.specs.Prelude.{ℕ, ◌≡◌, ◌≢◌, ◌<◌, ◌≤◌, ◌
 use Rattle.std.specs.List.{All, Contains}
 use Rattle.bit_blocks.specs.SoftValues.{count_wrong_bits}
 use Rattle.conv_code.specs.Code.{encoding, IsEncoderInput}
-use Rattle.conv_code.specs.Likelihood.{likelihood, IsMostLikely}
+use Rattle.conv_code.specs.Likelihood.{likelihood}
 
 -- `min_abs` is the least and `max_abs` the greatest absolute value of the soft bits `soft`
 pub record AreLeastAndGreatestStrength (soft : List ℤ) (min_abs max_abs : ℕ) : Type 0 where
@@ -25,9 +25,3 @@ pub record IsCorrectable (soft : List ℤ) (coded : List ℕ) : Type 0 where
 abbrev pub OthersAreLessLikely : (soft : List ℤ) (word : List ℕ) → Type 0
 OthersAreLessLikely s u =
     (v : List ℕ) → IsEncoderInput v → length v ≡ length u → v ≢ u → likelihood s (encoding v) <ℤ likelihood s (encoding u)
-
--- if the soft bits are correctable (`IsCorrectable`) to the coded bits of an encoder input, this encoder input is the most likely one, and
--- every other of its length has a smaller path metric
-abbrev pub CorrectableIsRestored : (soft : List ℤ) (word : List ℕ) → Type 0
-CorrectableIsRestored s u =
-    IsEncoderInput u → length s ≡ 2 * length u → IsCorrectable s (encoding u) → IsMostLikely s u × OthersAreLessLikely s u

@@ -9,11 +9,13 @@
 //!     cargo run --manifest-path examples/rust/Cargo.toml --bin receiver bcch_ccch 0 grgsm vectors/grgsm.bursts > capture.pcap
 use std::error::Error;
 use std::io::{self, Read, Write};
-use um::{Carried, Combination, Direction, Slot, SlotBlock};
+use um::{Carried, Combination, Direction, Invalid, Slot, SlotBlock};
 
 type Failed = Box<dyn Error>;
 
-const COMBINATIONS: [Combination; 4] = [Combination::BcchCcch, Combination::BcchCcchSdcch4, Combination::Sdcch8, Combination::TchF];
+const COMBINATIONS: [Combination; 5] =
+    [Combination::BcchCcch, Combination::BcchCcchSdcch4, Combination::Sdcch8, Combination::TchF, Combination::TchH];
+const LATE_IN_A_ROW: u32 = 8;
 const FORMS: [(&str, Form); 4] = [("trx", Form::Trx), ("int8", Form::Int8), ("bits", Form::Bits), ("grgsm", Form::GrGsm)];
 
 #[derive(Clone, Copy, PartialEq)]
@@ -78,11 +80,53 @@ fn kind_of(channel: Carried, combination: Combination) -> u8 {
         (Carried::Sdcch, _) => 8,
         (_, Combination::BcchCcchSdcch4) => 0x87,
         (_, Combination::Sdcch8) => 0x88,
+        (_, Combination::TchH) => 0x8a,
         _ => 0x89,
     }
 }
 
-fn receive(slot: &mut Slot, timeslot: u8, form: Form, mut file: impl Read, mut out: impl Write) -> Result<(), Failed> {
+/// A time slot, and how many late bursts came in a row.
+struct Receiver {
+    slot: Slot,
+    late: u32,
+}
+
+impl Receiver {
+    /// Takes a burst. A doubled or late one is left out; after many late ones in a row a frame number before them was false, or another
+    /// recording begins.
+    fn take(&mut self, frame: u32, soft: &[i8; 148]) -> Result<Option<SlotBlock>, Failed> {
+        let late = match self.slot.take(frame, soft) {
+            Err(Invalid::Doubled) => return Ok(None),
+            Err(Invalid::Late) if self.late + 1 < LATE_IN_A_ROW => self.late + 1,
+            Err(Invalid::Late) => {
+                self.slot.restart();
+                0
+            }
+            taken => {
+                self.late = 0;
+                return taken.map_err(|why| format!("the burst of frame {frame}: {why}").into());
+            }
+        };
+        self.late = late;
+        if late == 0 { Ok(self.slot.take(frame, soft)?) } else { Ok(None) }
+    }
+}
+
+fn write(block: &SlotBlock, timeslot: u8, combination: Combination, out: &mut impl Write) -> Result<(), Failed> {
+    if let Some(octets) = block.report.accepted() {
+        let data = packet(block, octets, timeslot, kind_of(block.channel, combination));
+        let (count, time) = (data.len() as u32, u64::from(block.first) * 120_000 / 26); // a frame takes 120 / 26 ms
+        for field in [(time / 1_000_000) as u32, (time % 1_000_000) as u32, count, count] {
+            out.write_all(&field.to_le_bytes())?;
+        }
+        out.write_all(&data)?;
+        out.flush()?;
+    }
+    Ok(())
+}
+
+fn receive(mut receiver: Receiver, timeslot: u8, form: Form, mut file: impl Read, mut out: impl Write) -> Result<(), Failed> {
+    let combination = receiver.slot.combination();
     out.write_all(&[0xd4, 0xc3, 0xb2, 0xa1, 2, 0, 4, 0, 0, 0, 0, 0, 0, 0, 0, 0, 0xff, 0xff, 0, 0, 101, 0, 0, 0])?;
     for number in 1.. {
         let mut record = Vec::new();
@@ -91,21 +135,14 @@ fn receive(slot: &mut Slot, timeslot: u8, form: Form, mut file: impl Read, mut o
             break;
         }
         let taken = burst_of(&record, form, timeslot).and_then(|burst| match burst {
-            Some((frame, soft)) => slot.take(frame, &soft).map_err(|why| format!("the burst of frame {frame}: {why}").into()),
+            Some((frame, soft)) => receiver.take(frame, &soft),
             None => Ok(None),
         });
-        let block = taken.map_err(|why| format!("record {number}: {why}"))?;
-        if let Some((block, octets)) = block.as_ref().and_then(|block| Some((block, block.report.accepted()?))) {
-            let data = packet(block, octets, timeslot, kind_of(block.channel, slot.combination()));
-            let (count, time) = (data.len() as u32, u64::from(block.first) * 120_000 / 26); // a frame takes 120 / 26 ms
-            for field in [(time / 1_000_000) as u32, (time % 1_000_000) as u32, count, count] {
-                out.write_all(&field.to_le_bytes())?;
-            }
-            out.write_all(&data)?;
-            out.flush()?;
+        if let Some(block) = taken.map_err(|why| format!("record {number}: {why}"))? {
+            write(&block, timeslot, combination, &mut out)?;
         }
     }
-    Ok(())
+    receiver.slot.end().map_or(Ok(()), |block| write(&block, timeslot, combination, &mut out))
 }
 
 fn run(words: &[String]) -> Result<(), Failed> {
@@ -125,7 +162,8 @@ fn run(words: &[String]) -> Result<(), Failed> {
         None => Box::new(io::stdin()),
     };
     let mut slot = Slot::new(combination, Direction::Downlink, timeslot, 16, 4)?;
-    receive(&mut slot, timeslot, form, file, io::stdout())
+    slot.set_limit(20)?;
+    receive(Receiver { slot, late: 0 }, timeslot, form, file, io::stdout())
 }
 
 fn main() {

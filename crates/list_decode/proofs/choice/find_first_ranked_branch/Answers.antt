@@ -4,8 +4,9 @@ use Rattle.{
   std.{proofs.lemmas.List.{length-take, take_all, take_more, Elements.All-take}, specs.Prelude.{IfSome, MatchOption, ◌≤ℤ◌}},
   list_decode.{
     specs.declared.{branch.WordBranch.WordBranch, choice.BranchChoice.BranchChoice, pass.ViterbiPass.ViterbiPass},
-    specs.{Branches.IsBranchOfReturnedWord, Choices.{IsFirstRankedBranch, placeholder_branch}, Words.{open_branches, returned_words}},
+    specs.{Branches.IsBranchOfReturnedWord, Choices.IsFirstRankedBranch, Words.{open_branches, returned_words}},
     proofs.Choices.{None-not_some, first_ranked-lower, first_ranked-empty, first_ranked-deviation, w32-lowest, None-if_not_some},
+    proofs.Choices.placeholder_branch,
     proofs.choice.find_first_ranked_branch.Goals.{then-branch-least+in-Some, then-branch-least+in_default, else-branch-least},
   },
 }

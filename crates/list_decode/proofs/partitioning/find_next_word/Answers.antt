@@ -1,8 +1,8 @@
 use Rattle.{
   std.proofs.Common.{arith, rules, ◌<◌, length, get_or, refl, ap, sym, ◌∙◌, subst},
   list_decode.{
-    specs.{Branches.{IsBranch, IsDeviationInSpan, word_of_deviation}, Choices.placeholder_branch, Words.{open_branches, returned_words}},
-    proofs.{Chosen.{chosen, chosen_branch, is_next, within}, partitioning.find_next_word.Goals.In_ok-choice},
+    specs.{Branches.{IsBranch, IsDeviationInSpan, word_of_deviation}, Words.{open_branches, returned_words}},
+    proofs.{Choices.placeholder_branch, Chosen.{chosen, chosen_branch, is_next, within}, partitioning.find_next_word.Goals.In_ok-choice},
   },
 }
 use Rattle.list_decode.proofs.partitioning.find_next_word.Goals as goal

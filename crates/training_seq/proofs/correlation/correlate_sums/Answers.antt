@@ -32,7 +32,7 @@ loop-i-preserved c = (
       let sign = sign_of_bit (get_or bits i 0) in
       let here : i < length sums = omega arith in
       let there : i < length bits = omega (arith, length-midamble tsc h) in
-      let small : IsMagnitudeWithin 512 value = c.requires.small i (pos 0) here in
+      let small : IsMagnitudeWithin 1024 value = c.requires.small i (pos 0) here in
       let near : IsMagnitudeWithin 1 sign = small_in_row tsc i h (omega arith) in
       let before = c.loop-i.invariant.1 tsc h in
       let each = c.add_product-totals.ensures.each tsc h in
@@ -57,13 +57,13 @@ add_product-totals-requires-clause-signs c tsc h =
 
 pub returns-clause-within : goal.returns-clause-within
 returns-clause-within c =
-    let within : (tsc : ℕ) → tsc ≤ 7 → IsMagnitudeWithin 13312 (soft_bit_at c.loop-i.totals.lanes tsc) =
+    let within : (tsc : ℕ) → tsc ≤ 7 → IsMagnitudeWithin 26624 (soft_bit_at c.loop-i.totals.lanes tsc) =
     λ tsc h. let before = (c.loop-i.invariant.1 tsc h).1 in omega (arith, ints) in
     rw (passed c.loop-i.totals.lanes c.loop-i.invariant.0 within) within
 
 pub returns-clause-value : goal.returns-clause-value
 returns-clause-value c tsc h =
-    let within : (tsc : ℕ) → tsc ≤ 7 → IsMagnitudeWithin 13312 (soft_bit_at c.loop-i.totals.lanes tsc) =
+    let within : (tsc : ℕ) → tsc ≤ 7 → IsMagnitudeWithin 26624 (soft_bit_at c.loop-i.totals.lanes tsc) =
     λ tsc h. let before = (c.loop-i.invariant.1 tsc h).1 in omega (arith, ints) in
     ap (λ l. get_or l tsc (pos 0)) (passed c.loop-i.totals.lanes c.loop-i.invariant.0 within)
     ∙ whole _ c.args.sums.now (midamble tsc) c.loop-i.i (omega arith) (c.loop-i.invariant.1 tsc h).0

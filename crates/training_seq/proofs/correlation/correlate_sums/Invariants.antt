@@ -10,4 +10,4 @@ invariant-loop-i l =
     (length l.totals.lanes ≡ 8)
     × ((tsc : ℕ) → tsc ≤ 7 →
     (soft_bit_at l.totals.lanes tsc +ℤ likelihood (drop l.i l.sums) (drop l.i (midamble tsc)) ≡ likelihood l.sums (midamble tsc))
-    × IsMagnitudeWithin (512 * l.i) (soft_bit_at l.totals.lanes tsc))
+    × IsMagnitudeWithin (1024 * l.i) (soft_bit_at l.totals.lanes tsc))

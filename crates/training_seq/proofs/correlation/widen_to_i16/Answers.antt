@@ -6,7 +6,7 @@ use Rattle.training_seq.proofs.correlation.widen_to_i16.Goals as goal
 
 pub loop-i-init : goal.loop-i-init
 loop-i-init c =
-    (refl, λ k h. absurd (omega arith), All-replicate (IsMagnitudeWithin 512) 26 (pos 0) (omega (arith, ints)))
+    (refl, λ k h. absurd (omega arith), All-replicate (IsMagnitudeWithin 1024) 26 (pos 0) (omega (arith, ints)))
 
 pub returns-clause-value : goal.returns-clause-value
 returns-clause-value c =

@@ -5,4 +5,4 @@ abbrev pub invariant-loop-i : goal.invariant-loop-i
 invariant-loop-i l =
     (length l.wide ≡ 26)
     × ((k : ℕ) → k < l.i → get_or l.wide k (pos 0) ≡ get_or l.soft k (pos 0))
-    × All (IsMagnitudeWithin 512) l.wide
+    × All (IsMagnitudeWithin 1024) l.wide

@@ -1,5 +1,4 @@
-use Rattle.um_air.specs.lapdm_window.Calls.{endpoint_call_of}
-use Rattle.um_c.proofs.DataLinkCalls.{answers_err, answers_ok, answers_unsupported, answers_call_by_7}
+use Rattle.um_c.proofs.DataLinkCalls.{answers_err, answers_ok, answers_unsupported, answers_by_7}
 use Rattle.um_c.proofs.datalinks.call_data_link.Goals as goal
 
 pub returns-then-not-link_supports_call : goal.returns-then-not-link_supports_call
@@ -8,7 +7,7 @@ returns-then-not-link_supports_call c =
     (record {
       represents = c.read_data_link.ensures.represents c.if-not-read_data_link.false;
       some = c.read_data_link.ensures.valid.0 c.if-not-read_data_link.false;
-    }) (endpoint_call_of c.args.call.now)
+    }) _ _ _
     (c.link_supports_call.ensures.never c.if-not-link_supports_call.true)
 
 pub returns-in-Err : goal.returns-in-Err
@@ -17,7 +16,7 @@ returns-in-Err c =
     (record {
       represents = c.read_data_link.ensures.represents c.if-not-read_data_link.false;
       some = c.read_data_link.ensures.valid.0 c.if-not-read_data_link.false;
-    }) (endpoint_call_of c.args.call.now)
+    }) _ _ _
     c.in-Err.refusal c.in-Err.ensures.refusal (c.link_supports_call.ensures.allowed c.if-not-link_supports_call.false))
 
 pub returns-in-Ok : goal.returns-in-Ok
@@ -26,11 +25,11 @@ returns-in-Ok c =
     (record {
       represents = c.read_data_link.ensures.represents c.if-not-read_data_link.false;
       some = c.read_data_link.ensures.valid.0 c.if-not-read_data_link.false;
-    }) (endpoint_call_of c.args.call.now)
+    }) _ _ _
     c.call.new.self _ c.write_data_link.ensures c.in-Ok.ensures.refusal
     (c.link_supports_call.ensures.allowed c.if-not-link_supports_call.false) c.in-Ok.ensures.done
 
 pub returns-then-not-read_data_link : goal.returns-then-not-read_data_link
 returns-then-not-read_data_link c =
-    answers_call_by_7 c.args.data_link.now (c.read_data_link.ensures.invalid c.if-not-read_data_link.true)
-    c.args.sapi (endpoint_call_of c.args.call.now)
+    answers_by_7 c.args.data_link.now (c.read_data_link.ensures.invalid c.if-not-read_data_link.true)
+    c.args.sapi _ _ _

@@ -1,7 +1,7 @@
 use Rattle.{
   std.proofs.Common.{◌≡◌, ◌+◌, length},
   um_link.specs.um_block.Tallies.counter_plus,
-  um_make.specs.{Generated.generated_events, RunProgress.IsRunInProgress},
+  um_make.{proofs.Lemmas.IsRunInProgress, specs.Generated.generated_events},
 }
 use Rattle.um_make.proofs.run.make.Given as goal
 

@@ -2,8 +2,8 @@ use Rattle.{
   std.proofs.Common.{ap, sym, ◌∙◌},
   um_lines.specs.Words.words,
   um_script.{
-    specs.Held.{remaining_words, decimal_word_values, has_marked_or_repeated_index},
-    proofs.ScriptLines.{repeated-no_marks, repeated-next},
+    specs.Held.{remaining_words, decimal_word_values},
+    proofs.ScriptLines.{has_marked_or_repeated_index, repeated-no_marks, repeated-next},
   },
 }
 use Rattle.um_script.proofs.places.has_repeated_index.Goals as goal

@@ -1,7 +1,8 @@
 use Rattle.{
   std.proofs.Common.{◌≡◌, length, false, replicate},
   um_lines.specs.Words.words,
-  um_script.specs.Held.{remaining_words, decimal_word_values, has_marked_or_repeated_index, AreBitIndexWords},
+  um_script.proofs.ScriptLines.has_marked_or_repeated_index,
+  um_script.specs.Held.{remaining_words, decimal_word_values, AreBitIndexWords},
 }
 use Rattle.um_script.proofs.places.has_repeated_index.Given as goal
 

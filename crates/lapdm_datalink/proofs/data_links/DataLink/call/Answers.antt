@@ -9,7 +9,7 @@ returns-in-Zero-clause-done c =
     let call = endpoint_call_of c.args.call.now in
     on_ok_known c.call.result (λ ok f. rw c.in-Zero.is (λ s h. record {
       valid = replaced Zero _ s h.valid (same_after_call call s.link0 h.link0.endpoint.valid
-          (rw (h.valid.sapi0, ← h.link0.endpoint.address.role) (rw c.in-Zero.is at c.requires.allowed))
+          (rw (← h.link0.endpoint.address.role, ← h.link0.endpoint.address.sapi) (rw c.in-Zero.is at c.requires.allowed))
           (sym (c.call.ensures.refusal s.link0 h.link0) ∙ ok));
       link0 = f s.link0 h.link0;
       link3 = h.link3;
@@ -22,7 +22,7 @@ returns-in-Three-clause-done c =
     let call = endpoint_call_of c.args.call.now in
     on_ok_known c.call-in-Three.result (λ ok f. rw c.in-Three.is (λ s h. record {
       valid = replaced Three _ s h.valid (same_after_call call s.link3 h.link3.endpoint.valid
-          (rw (h.valid.sapi3, h.valid.role, ← h.link0.endpoint.address.role) (rw c.in-Three.is at c.requires.allowed))
+          (rw (h.valid.role, ← h.link0.endpoint.address.role, ← h.link3.endpoint.address.sapi) (rw c.in-Three.is at c.requires.allowed))
           (sym (c.call-in-Three.ensures.refusal s.link3 h.link3) ∙ ok));
       link0 = h.link0;
       link3 = f s.link3 h.link3;

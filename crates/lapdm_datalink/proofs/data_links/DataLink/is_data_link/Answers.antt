@@ -5,7 +5,6 @@ pub returns : goal.returns
 returns c s h g =
     let a = c.is_timed.ensures.0 c.if-not-is_timed.false in (
       λ t. (let b = c.is_timed-2.ensures.0 t in record {
-        sapi0 = sym h.endpoint.address.sapi ∙ c.args.self.now.sapi0;
         sapi3 = sym g.endpoint.address.sapi ∙ c.args.self.now.sapi3;
         role = sym g.endpoint.address.role ∙ c.args.self.now.one_role ∙ h.endpoint.address.role;
         channel = sym g.endpoint.address.channel ∙ c.args.self.now.one_channel ∙ h.endpoint.address.channel;

@@ -27,7 +27,9 @@ returns-in-Some-clause-block c s h =
     let g = c.move_clocks.ensures.represents s h in
     let o = slot_outcome moved.link0 in
     let block = c.slot-slot0.ensures.block moved.link0 g.link0 in
-    rw (sapi0_sends o o.frame moved _ _ (sym c.in-Some.is ∙ block)) (rw (h.link0.endpoint.address.channel) block)
+    rw (sapi0_sends o o.frame moved _ _ (sym c.in-Some.is ∙ block), h.link0.endpoint.address.channel)
+    ((rw (c.channel-channel.ensures.represents moved g, c.endpoint_sapi-endpoint_sapi.ensures ∙ g.link0.endpoint.address.sapi) at
+    c.any_on_sapi0.ensures) o.frame block)
 
 pub returns-in-Some-clause-gave_up0 : goal.returns-in-Some-clause-gave_up0
 returns-in-Some-clause-gave_up0 c s h =

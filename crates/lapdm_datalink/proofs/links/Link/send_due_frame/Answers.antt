@@ -33,4 +33,12 @@ returns-clause-represents c l h =
     let due : is_due l ≡ true = sym (c.is_due.ensures l h) ∙ c.if-not-is_due.false in
     let g = c.drop_needless_answer.ensures.represents l h in
     rw (due_first l due (sym (sent_needless l) ∙ sym g.is_sent ∙ c.if-self.false))
-    (record { endpoint = g.endpoint; t200 = g.t200; answer = g.answer; is_answer = g.is_answer; is_sent = refl; clock = g.t200 })
+    (record {
+      endpoint = g.endpoint;
+      t200 = g.t200;
+      answer = g.answer;
+      is_answer = g.is_answer;
+      is_sent = refl;
+      clock = g.t200;
+      heard = g.heard;
+    })

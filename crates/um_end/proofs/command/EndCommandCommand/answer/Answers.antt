@@ -19,7 +19,7 @@ returns-in-Skip-clause-answered c s st = (
 
 pub returns-in-Burst-clause-answered : goal.returns-in-Burst-clause-answered
 returns-in-Burst-clause-answered c s st =
-    let next = answer_to_burst s (s.held_bursts ++ c.in-Burst.burst ∷ []) in
+    let next = answer_to_burst s c.in-Burst.burst in
     let f = c.add_burst_to_block.ensures.answers s
     (record { role = st.role; tsc = st.tsc; links = st.links; held_bursts = st.held_bursts }) in (
       next.1,

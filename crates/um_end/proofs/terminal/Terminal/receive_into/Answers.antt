@@ -3,7 +3,7 @@ use Rattle.{
   std.proofs.Common.{refl, Some},
   um_link.specs.um_air.Computed.frame_in_accepted,
   um_link.proofs.{um_air.Lemmas.ReadsFrame-frame_in_accepted, um_block.Lemmas.{accepted_count, received_block-only}},
-  um_end.{specs.{Abstraction.role_of_terminal, Terminals.step_for_accepted}, proofs.EndSteps.{ReceivesBursts-received, terminal_step-is}},
+  um_end.{specs.{Abstraction.role_of_terminal, Terminals.step_for_accepted}, proofs.EndSteps.terminal_step-is},
 }
 use Rattle.um_end.proofs.terminal.Terminal.receive_into.Goals as goal
 
@@ -20,8 +20,3 @@ returns-clause-refines c a st =
       terminal_step-is _ _ (Some report) (step_for_accepted report.accepted a) _ _ _ _ c.set_side_and_sapi.ensures.step
           refl done,
     )
-
-pub returns-clause-lawful : goal.returns-clause-lawful
-returns-clause-lawful c a =
-    ReceivesBursts-received (role_of_terminal c.args.self.now) a c.args.bursts.now c.receive_block-report.result
-    c.receive_block-report.ensures.received

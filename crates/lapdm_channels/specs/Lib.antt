@@ -1,0 +1,2 @@
+-- Messages of layer 3 over one channel after another.
+pub mod Changes

@@ -1,5 +1,0 @@
-use Rattle.lapdm_datalink.proofs.Runs.{data_links_deliver, data_links_count, data_links_order}
-use Rattle.lapdm_datalink.proofs.laws.law_data_links_deliver_in_order.Goals as goal
-
-pub returns : goal.returns
-returns c = record { delivery = data_links_deliver; acked_at_most_delivered = data_links_count; order = data_links_order }

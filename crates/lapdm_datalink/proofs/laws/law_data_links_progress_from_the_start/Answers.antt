@@ -1,5 +1,0 @@
-use Rattle.lapdm_datalink.proofs.ProgressCut.{progress_from_start}
-use Rattle.lapdm_datalink.proofs.laws.law_data_links_progress_from_the_start.Goals as goal
-
-pub returns : goal.returns
-returns c = progress_from_start

@@ -1,5 +1,0 @@
-use Rattle.lapdm_datalink.proofs.Lockstep.{few_losses_progress}
-use Rattle.lapdm_datalink.proofs.laws.law_whole_data_links_progress_after_few_losses.Goals as goal
-
-pub returns : goal.returns
-returns c = few_losses_progress

@@ -1,5 +1,0 @@
-use Rattle.lapdm_datalink.proofs.LockstepAsked.{sends_what_is_asked}
-use Rattle.lapdm_datalink.proofs.laws.law_whole_data_links_send_what_is_asked.Goals as goal
-
-pub returns : goal.returns
-returns c = sends_what_is_asked
