@@ -13,7 +13,7 @@ ghost use Rattle.lapdm_end.specs.lapdm_window.Calls.{endpoint_call_of, IsCallAll
 ghost use Rattle.lapdm_end.specs.lapdm_window.Calls.{refusal_of, call_outcome};
 ghost use Rattle.lapdm_end.specs.lapdm_window.Ends.{initial_endpoint, awaits_answer, sapi_number};
 ghost use Rattle.lapdm_end.specs.lapdm_window.segmenting.Buffers.{octets_in_buffer};
-ghost use Rattle.lapdm_end.specs.lapdm_window.Tables.{is_command, answers_repeated_sabm};
+ghost use Rattle.lapdm_end.specs.lapdm_window.Tables.{SendsDm, outcome_of_reply, frame_outcome, is_command, answers_repeated_sabm};
 ghost use Rattle.lapdm_end.specs.lapdm_window.declared.Sapi.TheVariants as P;
 ghost use Rattle.lapdm_link.specs.Worlds.{rej_replaced_by_rr};
 ghost use Rattle.lapdm_end.specs.Addresses.{spec_role_of};
@@ -40,6 +40,8 @@ ghost use Rattle.lapdm_datalink.specs.Links.{
   after_frame,
   frame_notices,
   received_outcome,
+  refuses,
+  as_taken,
   is_numbered,
   is_opened_again,
   is_return,
@@ -65,7 +67,7 @@ ghost use Rattle.lapdm_datalink.specs.Parts.{acts_in_slot};
 ghost use Rattle.lapdm_datalink.specs.Abstraction.{channel_of, role_of, sapi_of, Represents, MayBeReturned, notices_if};
 
 use lapdm_end::{Call, Channel, Effects, Endpoint, MessageBuffer, Refused, Role, Sapi, State};
-use lapdm_frame::{BLOCK_OCTETS, Body, FrameView, read_on};
+use lapdm_frame::{BLOCK_OCTETS, Body, FrameView, read_on, write_on};
 
 /// A link of one SAPI, and what it has to send.
 #[derive(Debug, Drop)]
@@ -520,13 +522,60 @@ impl Link {
         }
     }
 
-    // Passes a frame to the endpoint, and keeps the frames that it returns.
+    // Returns whether the link refuses a received frame: a SABM, while it is being released.
+    fn refuses(&self, frame: &FrameView<'_>) -> bool
+        ensures { (l : LinkState) → Represents self.now l → result ≡ refuses (frame_of_view frame.now) l.endpoint }
+    {
+        let Body::Sabm { .. } = frame.body else {
+            return false;
+        };
+        self.endpoint.state() == State::Closing && self.is_command(frame)
+    }
+
+    // Owes the DM that refuses a SABM.
+    fn owe_dm(&mut self)
+        ensures represents { (l : LinkState) → Represents self.old l
+            → Represents self.new (with_outcome (outcome_of_reply SendsDm l.endpoint) l) }
+        ensures role { role_of self.new ≡ role_of self.old }
+        ensures sapi { sapi_of self.new ≡ sapi_of self.old }
+        ensures channel { channel_of self.new ≡ channel_of self.old }
+    {
+        let dm = FrameView {
+            sapi: sapi_number(self.endpoint.sapi()),
+            cr: self.endpoint.role() == Role::Mobile,
+            body: Body::Dm { f: true },
+        };
+        self.answer = Some(write_on(&dm, self.endpoint.channel()));
+    }
+
+    // Refuses a frame, or passes it to the endpoint.
     fn take_considered(&mut self, frame: &FrameView<'_>, effects: &mut Effects)
         requires { FrameFits (channel_of self.old) (frame_of_view frame.now) }
         ensures done { (l : LinkState) → Represents self.old l
             → Represents self.new (with_outcome (received_outcome (frame_of_view frame.now) l) l) }
         ensures notices { (l : LinkState) → Represents self.old l
             → effects.new.notices ≡ (received_outcome (frame_of_view frame.now) l).notices }
+        ensures frames { effects.new.frames ≡ [] }
+        ensures role { role_of self.new ≡ role_of self.old }
+        ensures sapi { sapi_of self.new ≡ sapi_of self.old }
+        ensures channel { channel_of self.new ≡ channel_of self.old }
+    {
+        if self.refuses(frame) {
+            effects.clear();
+            self.owe_dm();
+            return;
+        }
+        self.pass(frame, effects);
+    }
+
+    // Passes a frame to the endpoint, and keeps the frames that it returns.
+    fn pass(&mut self, frame: &FrameView<'_>, effects: &mut Effects)
+        requires { FrameFits (channel_of self.old) (frame_of_view frame.now) }
+        ensures done { (l : LinkState) → Represents self.old l
+            → Represents self.new
+            (with_outcome (frame_outcome (as_taken (frame_of_view frame.now) l.endpoint) l.endpoint) l) }
+        ensures notices { (l : LinkState) → Represents self.old l
+            → effects.new.notices ≡ (frame_outcome (as_taken (frame_of_view frame.now) l.endpoint) l.endpoint).notices }
         ensures frames { effects.new.frames ≡ [] }
         ensures role { role_of self.new ≡ role_of self.old }
         ensures sapi { sapi_of self.new ≡ sapi_of self.old }
