@@ -379,13 +379,6 @@ module _ (l : LinkState) where
   pub found_normal : l.endpoint.sapi ≡ Zero → may_be_established l.endpoint.state ≡ true → for_establishment l ≡ as_normal l
   found_normal h g = rw (h, g) refl
 
-  pub found_called : l.endpoint.sapi ≡ Three → for_establishment l ≡ for_call OpensWithoutInfo l
-  found_called h = rw h refl
-
-  pub found_busy : l.endpoint.sapi ≡ Zero → may_be_established l.endpoint.state ≡ false →
-      refusal_of OpensWithoutInfo (for_establishment l).endpoint ≡ Some NotIdle
-  found_busy h g = grind (arith, h, g)
-
   allowed_establishment : refusal_of OpensWithoutInfo (for_establishment l).endpoint ≡ None →
       (for_establishment l).endpoint.sapi ≡ Three
   allowed_establishment ok = grind (arith, ok)
@@ -485,17 +478,6 @@ valid_with_flags heard main s h = record {
 
 pub valid_clocks : (s : DataLinkState) → IsDataLink s → IsDataLink (with_clocks_moved s)
 valid_clocks s h = grind arith
-
-pub valid_slot : (s : DataLinkState) → IsDataLink s → IsDataLink (data_link_outcome s).new_state
-valid_slot s h = by_frame (slot_outcome (with_clocks_moved s).link0).frame
-  where
-    by_frame : (sent : Option Frame) →
-        IsDataLink (with_sapi3 (slot_outcome (with_clocks_moved s).link0) sent (with_clocks_moved s)).new_state
-    by_frame (Some f) = replaced Zero _ (with_clocks_moved s) (valid_clocks s h) (same_slot (with_clocks_moved s).link0)
-    by_frame None =
-        let m = with_clocks_moved s in
-        replaced Three _ (with_link Zero (slot_outcome m.link0).link m) (replaced Zero _ m (valid_clocks s h) (same_slot m.link0))
-        (same_slot m.link3)
 
 -- what follows from a call that is not refused follows once its refusal is known to be none
 pub on_ok_known : {A E P Q : Type 0} (r : Result A E) → (result_err r ≡ None → P → Q) → OnOk r P → OnOk r Q

@@ -100,12 +100,6 @@ pub view_represents : (c : CTimedEnd) (x : LinkValues) (l : LinkState) → link_
     ValuesRepresent x l
 view_represents c x l is h = subst (λ (y : LinkValues). ValuesRepresent y l) (some_same (sym h.decoded ∙ is)) h.represents
 
-pub no_view : (c : CTimedEnd) (l : LinkState) → link_values_from c ≡ None → RepresentsLink c l → ⊥
-no_view c l none h = some_none (sym h.decoded ∙ none)
-  where
-    some_none : {x : LinkValues} → Some x ≡ None → ⊥
-    some_none e = absurd cc
-
 -- a struct that was written from a link represents what that represents
 pub link_written : (m : Link) (l : LinkState) (c : CTimedEnd) → c ≡ c_timed_end (values_of m) → L.Represents m l →
     RepresentsLink c l
@@ -205,19 +199,6 @@ fields x l h = record {
   t200 = sym (ap (λ (y : LinkValues). y.t200) h.values_match) ∙ h.represents.t200;
   clock = sym (ap (λ (y : LinkValues). y.clock) h.values_match) ∙ h.represents.clock;
 }
-
-pub beside : (x y : LinkValues) (s : DataLinkState) → ValuesRepresent x s.link0 → ValuesRepresent y s.link3 → IsDataLink s →
-    AreOfOneDataLink x y
-beside x y s h g v =
-    let a = fields x s.link0 h in
-    let b = fields y s.link3 g in
-    record {
-      sapi3 = b.sapi ∙ v.sapi3;
-      role = b.role ∙ v.role ∙ sym a.role;
-      channel = b.channel ∙ v.channel ∙ sym a.channel;
-      timed0 = (λ z. v.t200 (sym a.t200 ∙ z), rw (a.clock, a.t200) v.clock);
-      timed3 = (λ z. v.t200_sapi3 (sym b.t200 ∙ z), rw (b.clock, b.t200) v.clock_sapi3);
-    }
 
 one_data_link : (x y : LinkValues) (s : DataLinkState) → ValuesRepresent x s.link0 → ValuesRepresent y s.link3 →
     AreOfOneDataLink x y → IsDataLink s

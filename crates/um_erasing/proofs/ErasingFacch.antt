@@ -23,16 +23,6 @@ use Rattle.{
 
 -- ## The index of the greatest
 
-pub index_of_greatest-within : (last : ℕ) (numbers : List ℕ) → index_of_greatest last numbers ≤ last
-index_of_greatest-within zero numbers = omega arith
-index_of_greatest-within (suc n) numbers = let before = index_of_greatest-within n numbers in grind (arith, before)
-
-pub next_greatest : (index last : ℕ) (numbers : List ℕ) → 1 ≤ index → last ≡ index - 1 →
-    greater_of numbers (index_of_greatest last numbers) index ≡ index_of_greatest index numbers
-next_greatest zero last numbers some is = absurd (omega arith)
-next_greatest (suc n) last numbers some is =
-    let same : last ≡ n = omega (arith, is) in ap (λ k. greater_of numbers (index_of_greatest k numbers) (suc n)) same
-
 -- ## The bursts without one of them, in the first rows of eight
 
 pub erased_rows : (bursts copied rest : List (List ℤ)) (index at : ℕ) (zeros : List ℤ) → copied ≡ bursts → at ≡ index →

@@ -124,14 +124,6 @@ module _ (last : ℕ) (IsDecoded : List (List ℤ) → ListDecodedBlock → Type
         (subst (λ d. IsErasingChoice last IsDecoded bursts erasures distrust' d block erased) same
         (subst (λ w. IsErasingChoice last IsDecoded bursts erasures w first block erased) weighed h)) g
 
--- the index of the greatest is of a burst that there is, where the others have no distrust
-pub index_of_greatest-below : (last count : ℕ) (numbers : List ℕ) → 1 ≤ count →
-    ((k : ℕ) → count ≤ k → get_or numbers k 0 ≡ 0) → index_of_greatest last numbers < count
-index_of_greatest-below zero count numbers some none = omega arith
-index_of_greatest-below (suc n) count numbers some none =
-    let before = index_of_greatest-below n count numbers some none in
-    grind (arith, before, none (suc n))
-
 -- ## Of the four bursts of a block
 
 abbrev Block : ℕ → List (List ℤ) → ListDecodedBlock → Type 0
