@@ -15,7 +15,6 @@ use Rattle.lapdm_frame.specs.Frames.{FrameFits, octets_of}
 use Rattle.lapdm_frame.specs.Readings.{IsOnlyEncodedFrame}
 use Rattle.lapdm_end.specs.lapdm_window.declared.effects.Effects.{Effects}
 use Rattle.lapdm_end.specs.lapdm_window.declared.State.{State}
-use Rattle.lapdm_end.specs.lapdm_window.declared.Refused.TheVariants.{NotIdle}
 use Rattle.lapdm_end.specs.lapdm_window.Ends.{EndpointState, Outcome, awaits_answer, IsValidEndpoint, Role, sapi_number}
 use Rattle.lapdm_end.specs.Addresses.{spec_role_of}
 use Rattle.lapdm_end.specs.lapdm_window.Calls.{Call, OpensWithoutInfo, T200Expires, refusal_of, call_outcome, IsCallAllowedForEndpoint}
@@ -32,7 +31,6 @@ use Rattle.lapdm_datalink.specs.Links.{is_sapi3}
 use Rattle.lapdm_datalink.specs.Links.{may_be_established, for_establishment, after_establishment}
 use Rattle.lapdm_datalink.specs.DataLinks.{DataLinkState, IsDataLink, with_sapi3, link_with_sapi, with_link, having_heard}
 use Rattle.lapdm_datalink.specs.DataLinks.{with_clocks_moved, on_sapi0}
-use Rattle.lapdm_datalink.specs.DataLinks.{data_link_outcome}
 use Rattle.lapdm_end.specs.lapdm_window.declared.Sapi.TheVariants.{Zero, Three}
 use Rattle.lapdm_datalink.specs.Links.{afresh, for_call, for_frame, after_call, after_frame, ignores, received_outcome, slot_outcome}
 use Rattle.lapdm_end.specs.lapdm_window.declared.Sapi.{Sapi}

@@ -1,17 +1,17 @@
 -- What no slot of a link does, and what it means that SAPI 0 goes first.
 use Rattle.{
   std.{
-    specs.Prelude.{◌≡◌, ◌⊎◌, ℕ, false, true, List, [], ◌∷◌, Some, None},
-    proofs.Common.{inl, inr, refl, absurd},
+    specs.Prelude.{◌≡◌, ℕ, false, true, [], ◌∷◌, Some, None},
+    proofs.Common.{ap, inl, inr, refl},
   },
   lapdm_frame.specs.{declared.Channel.TheVariants.Sdcch, Content.{Frame, Sabm}},
   lapdm_end.specs.lapdm_window.{
     declared.{Sapi.{Sapi, TheVariants.{Zero, Three}}, State.{State, TheVariants.{Idle, Opening}}},
-    declared.Notice.{Notice, TheVariants.Opened},
+    declared.Notice.TheVariants.Opened,
     Ends.{Mobile, initial_endpoint},
   },
   lapdm_datalink.specs.{
-    Links.{LinkState, SlotOutcome, link_with, after_received},
+    Links.{LinkState, link_with, after_received},
     DataLinks.{DataLinkState, data_link_outcome, after_arrival},
     Slots.{GoesFirst, IsStepOfEndpoint},
   },
@@ -40,7 +40,7 @@ reports_of_itself (inr (inl h)) = cc h.notices
 reports_of_itself (inr (inr h)) = cc h.awaits
 
 changes_of_itself : IsStepOfEndpoint (link Zero Idle) (record { link = link Zero Opening; frame = None; notices = [] }) → ⊥
-changes_of_itself (inl h) = cc h.endpoint
+changes_of_itself (inl h) = cc (ap (λ e. e.state) h.endpoint)
 changes_of_itself (inr (inl h)) = cc h.awaits
 changes_of_itself (inr (inr h)) = cc h.awaits
 

@@ -1,13 +1,13 @@
 -- A run that is cut: after some slots layer 3 makes no call and no block is lost. Until then both runs are the same.
 use Rattle.{
   lapdm_progress.{
-    proofs.{Known.{mobile_slot, network_slot, Known, Unclosed, known}, FromStart.{closed_calls, from_start, keeps, unclosed, mobile_ready}},
-    proofs.{FromStart.network_ready_open, Slots.slots_same, Runs.NeverReleases, Expiries.pays, Polls.progresses},
+    proofs.{Known.Unclosed, FromStart.{from_start, keeps, unclosed}},
+    proofs.{Slots.slots_same, Runs.NeverReleases, Expiries.pays, Polls.progresses},
     specs.{
-      Progress.{arriving_at, link_at, ready_at, frame_at, is_loss, is_loss_at, is_lossy, waiting_slots, lossy_slots, expiries, is_i_frame},
+      Progress.{link_at, ready_at, frame_at, is_loss, is_loss_at, is_lossy, waiting_slots, lossy_slots, expiries, is_i_frame},
       Progress.{is_repetition, IsWithoutRelease, IsPaidFor, Progress, round_trip, PaysForExpiries, Progresses, frames_of},
       Progress.{ProgressesFromStart, KeepsLinks, NoneGaveUp},
-      Channels.{after_arriving, Turn, Side, side_at, side_after, before_sending, IsUse, Run},
+      Channels.{Turn, Side, side_at, side_after, before_sending, IsUse, Run},
     },
   },
   std.specs.Prelude.{get_or, None, zero, ◌≡◌, ℕ, suc, ◌+◌, ◌≤◌, Bool, true, false, nat_lt, [], ◌≢◌, Option},

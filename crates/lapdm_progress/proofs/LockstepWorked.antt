@@ -16,7 +16,7 @@ use Rattle.{
     Whole.{AreAsAlone, IsAsAlone, IsKept, KeepsLinks, Progress, Progresses, ProgressesAfterFewLosses, SendsWhatIsAsked, asked_at},
     Whole.{awaits, calls_to, endpoints, link_at, sapi_0},
   },
-  lapdm_delivery.specs.Lockstep.{HasCalls, Run, log_before},
+  lapdm_delivery.specs.Lockstep.{HasCalls, IsRegular, Run, log_before},
 }
 use Rattle.lapdm_end.specs.lapdm_window.declared.Notice.TheVariants as N
 
@@ -81,3 +81,19 @@ sends law = law refl calls 6 Mobile
 
 alone : AreAsAlone run → IsAsAlone run 3 Network
 alone law = law refl calls 3 Network
+
+-- ---- slots in which a side opens no link again, and one in which it does
+
+regular : IsRegular run 2 Mobile
+regular = record { arrival = refl; calls = (refl, (refl, tt)); unit = tt }
+
+abbrev calls_again : ℕ → Role → List (Sapi × Call)
+calls_again zero Mobile = (Zero, Opens (1 ∷ [])) ∷ []
+calls_again (suc (suc (suc zero))) Mobile = (Zero, OpensWithoutInfo) ∷ []
+calls_again n role = []
+
+abbrev again : Run
+again = record run { part = λ n role. record (run.part n role) { calls = calls_again n role } }
+
+opens_again : IsRegular again 3 Mobile → ⊥
+opens_again h = cc h.calls.0

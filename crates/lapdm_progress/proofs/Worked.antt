@@ -6,7 +6,7 @@ use Rattle.{
     Calls.{Call, Opens, Sends},
   },
   std.specs.Prelude.{All, Bool, ◌≡◌, ◌≤◌, refl, ℕ, zero, suc, true, false, List, [], ◌∷◌, Option, None, replicate, get_or},
-  std.proofs.Common.{absurd, arith},
+  std.proofs.Common.arith,
   lapdm_frame.specs.{declared.Channel.TheVariants.Sdcch, Content.Frame},
   lapdm_datalink.specs.Links.LinkState,
   lapdm_progress.specs.{

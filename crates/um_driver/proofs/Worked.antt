@@ -3,7 +3,7 @@ use Rattle.std.specs.Prelude.{◌≡◌, ◌++◌, ℕ, Bool, true, false, if◌
 use Rattle.std.specs.Prelude.{replicate}
 use Rattle.std.specs.Fmt.{digits}
 use Rattle.std.specs.Str.{bytes_eq}
-use Rattle.std.proofs.Common.{refl}
+use Rattle.std.proofs.Common.{ap, arith, refl, ◌∷◌}
 use Rattle.um_lines.specs.declared.fault.LineFault.{LineFault}
 use Rattle.um_lines.specs.declared.fault.LineFault.TheVariants.{Order, Word}
 use Rattle.um_driver.specs.Continued.{Continues, MoreOctetsContinueResponse}
@@ -52,11 +52,19 @@ unfinished = refl
 
 -- ## Continued: A response with a status stays, and any other is only continued.
 
+abbrev head : List ℕ → ℕ
+head [] = 0
+head (x ∷ xs) = x
+
+abbrev is_done : Option Status → Bool
+is_done (Some Done) = true
+is_done other = false
+
 another_text : Continues (None, codes "a\n") (Some Done, codes "b\n") → ⊥
-another_text (more, same) = absurd (cc same)
+another_text (more, same) = let first : 98 ≡ 97 = ap head same in omega (arith, first)
 
 another_end : Continues (Some Done, []) (Some BadInput, []) → ⊥
-another_end same = absurd (cc same)
+another_end same = let ends : false ≡ true = ap (λ response. is_done response.0) same in absurd (cc ends)
 
 refused_stays : MoreOctetsContinueResponse echo → (more : List ℕ) (ended : Bool) →
     response echo tt (codes "a\nx\n" ++ more) ended ≡ (Some BadInput, codes "a\nrefused 2 word\n")

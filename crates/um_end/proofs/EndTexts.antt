@@ -1,23 +1,19 @@
 -- The relation that says what a line of `end` does leaves one answer to it: the text that the rules compute.
 use Rattle.{
-  std.{
-    proofs.{
-      Common.{List, [], ap, arith, inl, inr, length, length-append, map, refl, sym, ℕ, ℤ, ◌++◌, ◌<◌, ◌∙◌, ◌∷◌, ◌≡◌},
-      lemmas.Bool.{le-leb, lt-leb},
-    },
-    specs.{List.flat_map, Prelude.◌⊎◌},
+  std.proofs.{
+    Common.{Err, List, Ok, Result, [], ap, arith, inl, inr, length, length-append, map, refl, sym, ℕ, ℤ, ◌++◌, ◌∙◌, ◌∷◌, ◌≡◌},
+    lemmas.Bool.{le-leb, lt-leb},
   },
   um_end.{
     proofs.{EndLineLaws.end_command_line_meaning, EndSteps.{ReceivesBursts-only, links_after}},
     specs.{
-      EndLines.{Calls, EndCommandLineMeaning, EndCommandLineMeans, Nothing as NoLine, TakesBurst, end_command_line},
-      EndRuns.{EndCommandState, IsAnswerText, answer_to_end_command_line, burst_lines_of_frames, end_answer_text, frames_in_answer},
-      EndTurns.{AnswersByStep, AnswersLineByStep, BringsStep, IsStepOfLine, IsTerminalStepOfLine},
+      EndLines.{Calls, EndCommandLineMeaning, Nothing as NoLine, TakesBurst},
+      EndRuns.{EndCommandState, IsAnswerText, answer_to_end_command_line, end_answer_text, frames_in_answer},
+      EndTurns.{AnswersByStep, AnswersLineByStep, BringsStep, IsStepOfLine},
       Terminals.{ReceivesBursts, answer_to_block, answer_to_call},
       TwoTerminals.{IsTerminalStep, TerminalStep, TwoTerminals},
     },
   },
-  um_formats.specs.BurstTexts.bursts_text,
   um_lines.specs.declared.fault.LineFault.LineFault,
   um_link.{
     proofs.um_block.Lemmas.sent_block-only,
@@ -30,7 +26,6 @@ use Rattle.{
     },
   },
 }
-use Rattle.std.proofs.Common.{Err, Ok, Result}
 use Rattle.um_end.specs.TwoTerminals as T
 
 -- the blocks of these frames are those that are computed

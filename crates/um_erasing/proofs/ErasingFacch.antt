@@ -1,7 +1,7 @@
 -- The report on a block of FACCH is unique.
 use Rattle.{
   std.{
-    proofs.Common.{arith, List, None, Option, ap, map, set, subst, suc, sym, take, zero, ℕ, ℤ, ◌++◌, ◌+◌, ◌-◌},
+    proofs.Common.{List, None, Option, ap, map, set, subst, sym, take, ℕ, ℤ, ◌++◌, ◌+◌, ◌-◌},
     proofs.{Common.{◌<◌, ◌∙◌, ◌≡◌, ◌≤◌, length}, Math.Seq.{take-append_seam, take-set-lt}},
     specs.Prelude.IsSome,
   },
@@ -9,7 +9,7 @@ use Rattle.{
   um_erasing.{
     proofs.Lemmas.{chosen_first, chosen_found, one_choice},
     specs.{
-      Erasing.{IsErasingSearch, IsFoundOrFirst, greater_of, index_of_greatest},
+      Erasing.{IsErasingSearch, IsFoundOrFirst},
       ErasingFacch.IsErasingDecodedFacch,
       declared.{blocks.ErasedBlock.ErasedBlock, facch.ErasingDecodedFacch.ErasingDecodedFacch},
     },

@@ -1,8 +1,8 @@
 -- The report is unique; without erasures it is that of the list decoder.
 use Rattle.{
-  std.proofs.Common.{arith, List, None, Option, Some, ap, map, refl, set, subst, suc, sym, zero, ℕ, ℤ, ◌+◌, ◌-◌, ◌<◌},
+  std.proofs.Common.{arith, List, None, Option, Some, ap, map, refl, set, subst, suc, sym, zero, ℕ, ℤ, ◌+◌, ◌-◌},
   std.proofs.Common.{◌∙◌},
-  std.{proofs.Common.{◌≡◌, ◌≢◌, ◌≤◌, get_or}, specs.Prelude.{IsSome, MatchOption}},
+  std.{proofs.Common.{◌≡◌, ◌≢◌, ◌≤◌}, specs.Prelude.{IsSome, MatchOption}},
   um_list_receive.specs.{declared.reports.ListDecodedBlock.ListDecodedBlock, ListDecoding.{IsBlockChoice, IsListDecodedBlock}},
   um_list_receive.proofs.Lemmas.{block_at_once, one_block_among},
   um_block.specs.{bit_blocks.SoftValues.likelihood, conv_code.Code.encoding, declared.received.Received.Received},

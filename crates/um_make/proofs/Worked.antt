@@ -12,7 +12,7 @@ use Rattle.{
     um_block.declared.received.Received.Received,
   },
   um_make.specs.{
-    Generated.{generated_events, inverted_bits, message, segment_events},
+    Generated.{generated_events, inverted_bits, segment_events},
     Summaries.session_summary,
     Texts.summary_text,
   },

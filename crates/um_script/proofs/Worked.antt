@@ -1,6 +1,6 @@
 -- Worked answers: each word and each number is in its place. docs/COMMANDS.md has these lines.
 use Rattle.{
-  std.{specs.{Fmt.digits, Prelude.{◌≡◌, [], ◌∷◌, ◌++◌, List, ℕ, None, Some, pos, negsuc, replicate, codes}}, proofs.Common.refl},
+  std.{specs.{Fmt.digits, Prelude.{◌≡◌, [], ◌∷◌, ◌++◌, List, ℕ, Some, pos, negsuc, replicate, codes}}, proofs.Common.refl},
   um_lines.specs.Hex.encode_with,
   um_link.specs.{
     lapdm_link.Events.{AirFull, BySide, Nothing, OtherMobile, RefusedByEndpoint},
@@ -15,7 +15,7 @@ use Rattle.{
     },
     um_air.Air.{Accepts, Refuses},
   },
-  um_script.specs.AnswerLines.{Drops, FinalOk, No, Reports, Sends, Takes, answer_line_text, answer_text},
+  um_script.specs.AnswerLines.{Drops, FinalOk, Reports, Sends, Takes, answer_line_text, answer_text},
 }
 
 -- the SABM with the octet 01, and the UA to it
