@@ -5,7 +5,8 @@ use Rattle.{
     declared.{Sapi.TheVariants.Zero, State.TheVariants.{Open, Closed}},
     Calls.{Call, Opens, Sends},
   },
-  std.specs.Prelude.{All, Bool, ◌≡◌, ◌≤◌, refl, ℕ, zero, suc, true, false, List, [], ◌∷◌, Option, None, replicate, get_or},
+  std.specs.Prelude.{All, Bool, ◌≡◌, ◌≤◌, refl, ℕ, zero, suc, true, false, List, [], ◌∷◌},
+  std.specs.Prelude.{Option, None, replicate, get_or},
   std.proofs.Common.arith,
   lapdm_frame.specs.{declared.Channel.TheVariants.Sdcch, Content.Frame},
   lapdm_datalink.specs.Links.LinkState,
@@ -127,7 +128,8 @@ five = refl
 abbrev silent : ℕ → Role → Option Frame
 silent n role = None
 
-unpaid : (is_lost : ℕ → Role → Bool) (link : ℕ → Role → LinkState) (n : ℕ) → IsPaidFor 0 2 silent is_lost link n Mobile → ⊥
+unpaid : (is_lost : ℕ → Role → Bool) (link : ℕ → Role → LinkState) (n : ℕ) →
+    IsPaidFor 0 2 silent is_lost link n Mobile → ⊥
 unpaid is_lost link n h = cc h.sent
 
 -- ---- what the laws say of these runs

@@ -2,7 +2,8 @@
 -- says nothing of its bursts.
 use Rattle.{
   std.{
-    proofs.Common.{Bool, List, None, Option, Some, [], ap, false, refl, replicate, subst, sym, true, ℕ, ℤ, ◌++◌, ◌∷◌, ◌≡◌},
+    proofs.Common.{Bool, List, None, Option, Some, [], ap, false, refl, replicate, subst, sym, true},
+    proofs.Common.{ℕ, ℤ, ◌++◌, ◌∷◌, ◌≡◌},
     specs.Prelude.MatchOption,
   },
   um_code.specs.um_formats.{
@@ -104,7 +105,8 @@ silent_report r report = by r.accepted report
 silent_block : (held : List (List ℤ)) (burst : List ℤ) → IsReportOfMostLikelyWord held (Normal burst) [] → ⊥
 silent_block held burst (r, word, report) = silent_report r report
 
-silent_access : (held : List (List ℤ)) (bsic : List ℕ) (burst : List ℤ) → IsReportOfMostLikelyWord held (Access bsic burst) [] → ⊥
+silent_access : (held : List (List ℤ)) (bsic : List ℕ) (burst : List ℤ) →
+    IsReportOfMostLikelyWord held (Access bsic burst) [] → ⊥
 silent_access held bsic burst (r, word, same) = not_silent (access_report_text bsic r) refl same
 
 silent_sync : (held : List (List ℤ)) (burst : List ℤ) → IsReportOfMostLikelyWord held (Sync burst) [] → ⊥

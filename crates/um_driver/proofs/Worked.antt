@@ -1,6 +1,6 @@
 -- Worked responses of a command that answers each line by the line itself, and refuses the line `x`.
-use Rattle.std.specs.Prelude.{◌≡◌, ◌++◌, ℕ, Bool, true, false, if◌then◌else◌, List, [], Option, Some, None, Result, Ok, Err, codes}
-use Rattle.std.specs.Prelude.{replicate}
+use Rattle.std.specs.Prelude.{◌≡◌, ◌++◌, ℕ, Bool, true, false, if◌then◌else◌, List, [], Option, Some, None}
+use Rattle.std.specs.Prelude.{Result, Ok, Err, codes, replicate}
 use Rattle.std.specs.Fmt.{digits}
 use Rattle.std.specs.Str.{bytes_eq}
 use Rattle.std.proofs.Common.{ap, arith, refl, ◌∷◌}

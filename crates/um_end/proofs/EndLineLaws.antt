@@ -312,6 +312,10 @@ line-possible Network held line meaning means =
     & (λ count values here (m, rest, is, known, none). rw is (refl, known.2)) & (λ count values here none. (refl, tt))
     & (λ count values here none. (refl, tt)) & (λ count values here none. (refl, tt)) & tt) line meaning means
 
+pub call_of_line : (role : Role) (held : ℕ) (line : List ℕ) (event : Event) → EndCommandLineMeans role held line (Calls event) →
+    IsCallOfRole role event
+call_of_line role held line event means = (line-possible role held line (Calls event) means).0
+
 pub burst_of_line : (role : Role) (held : ℕ) (line : List ℕ) (soft : List ℤ) →
     end_command_line role held line ≡ Ok (TakesBurst soft) →
     length soft ≡ 148
@@ -330,13 +334,15 @@ line_is_possible role held line (V.Ask event) means = (line-possible role held l
 pub skipped_end_line : (role : Role) (held : ℕ) (line : List ℕ) → EndCommandLineMeans role held line Nothing →
     LineMeans (end_command_line_forms (call_line_forms role)) (is_end_command_line_out_of_order held) line None
 skipped_end_line Mobile held =
-    skipped_only (end_command_line_forms mobile_call_line_forms) (is_end_command_line_out_of_order held) meaning_of_end_command_line Nothing
+    skipped_only (end_command_line_forms mobile_call_line_forms) (is_end_command_line_out_of_order held)
+    meaning_of_end_command_line Nothing
     ((λ _ _ _ (bits, _, is, _, none). rw (is, none) (λ q. cc)) & (λ _ _ _ (octets, _, is, _, none). rw (is, none) (λ q. cc))
     & (λ _ _ _ none. rw none (λ q. cc))
     & (λ _ _ _ _ q. cc) & (λ _ _ _ _ q. cc) & (λ _ _ _ _ q. cc) & (λ _ _ _ _ q. cc) & (λ _ _ _ _ q. cc) & (λ _ _ _ _ q. cc)
     & (λ _ _ _ _ q. cc) & (λ _ _ _ _ q. cc) & (λ _ _ _ _ q. cc) & (λ _ _ _ _ q. cc) & (λ _ _ _ _ q. cc) & tt)
 skipped_end_line Network held =
-    skipped_only (end_command_line_forms network_call_line_forms) (is_end_command_line_out_of_order held) meaning_of_end_command_line Nothing
+    skipped_only (end_command_line_forms network_call_line_forms) (is_end_command_line_out_of_order held)
+    meaning_of_end_command_line Nothing
     ((λ _ _ _ (bits, _, is, _, none). rw (is, none) (λ q. cc)) & (λ _ _ _ (octets, _, is, _, none). rw (is, none) (λ q. cc))
     & (λ _ _ _ none. rw none (λ q. cc))
     & (λ _ _ _ _ q. cc) & (λ _ _ _ _ q. cc) & (λ _ _ _ _ q. cc) & (λ _ _ _ _ q. cc) & (λ _ _ _ _ q. cc) & (λ _ _ _ _ q. cc)

@@ -1,7 +1,8 @@
 -- The relation that says what a line of `end` does leaves one answer to it: the text that the rules compute.
 use Rattle.{
   std.proofs.{
-    Common.{Err, List, Ok, Result, [], ap, arith, inl, inr, length, length-append, map, refl, sym, ℕ, ℤ, ◌++◌, ◌∙◌, ◌∷◌, ◌≡◌},
+    Common.{Err, List, Ok, Result, [], ap, arith, inl, inr, length, length-append, map, refl, sym},
+    Common.{ℕ, ℤ, ◌++◌, ◌∙◌, ◌∷◌, ◌≡◌},
     lemmas.Bool.{le-leb, lt-leb},
   },
   um_end.{

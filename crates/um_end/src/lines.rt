@@ -10,9 +10,11 @@ ghost use Rattle.um_lines.specs.LinkForms.{end_command_line_forms, is_end_comman
 ghost use Rattle.um_lines.specs.Meanings.{HasOneMeaningOrFault};
 ghost use Rattle.um_link.specs.lapdm_window.Ends.{Role};
 ghost use Rattle.um_link.specs.Naming.{spec_role_of};
+ghost use Rattle.um_link.specs.um_air.Air.{Event as EventOf};
 ghost use Rattle.um_end.specs.EndLines.{end_command_line_fault, EndCommandLineMeans, meaning_of_parsed_line, TerminalCanCarryOutLine};
 ghost use Rattle.um_end.specs.EndLines.{call_line_forms, names_endpoint_of_side};
-ghost use Rattle.um_end.specs.EndLines.{Nothing as NoLine};
+ghost use Rattle.um_end.specs.EndLines.{Calls as CallsEvent, Nothing as NoLine};
+ghost use Rattle.um_end.specs.Terminals.{IsCallOfRole};
 ghost use Rattle.um_end.specs.EndLines.{meaning_of_burst_line, meaning_of_parse_result, end_parse_result};
 ghost use Rattle.um_end.specs.EndLines.{call_line_fault_inside_block, burst_line_fault_in_end_command};
 
@@ -146,8 +148,11 @@ pub fn law_end_line_meaning_is_unique()
         HasOneMeaningOrFault (end_command_line_fault role held line) (EndCommandLineMeans role held line) }
 {}
 
-/// Law: a line of the `end` command that has a form is not read as a skipped line.
+/// Law: a line of the `end` command that has a form is not read as a skipped line, and a call is one that this side supports: an arrival,
+/// a loss or the SABM of another mobile is none.
 pub fn law_end_line_is_not_skipped()
-    ensures { (role : Role) (held : ℕ) (line : List ℕ) → EndCommandLineMeans role held line NoLine
+    ensures skipped { (role : Role) (held : ℕ) (line : List ℕ) → EndCommandLineMeans role held line NoLine
         → LineMeans (end_command_line_forms (call_line_forms role)) (is_end_command_line_out_of_order held) line None }
+    ensures calls { (role : Role) (held : ℕ) (line : List ℕ) (event : EventOf) → EndCommandLineMeans role held line (CallsEvent event)
+        → IsCallOfRole role event }
 {}

@@ -21,7 +21,8 @@ use Rattle.um_link.specs.lapdm_link.Events.{Who}
 use Rattle.std.specs.Prelude.{Option}
 
 -- The messages 1, 2 and 3 have 38, 75 and 112 octets, the numbers from 1, 2 and 3 on, and 2, 4 and 6 segments. Transmission 8 is lost, so
--- there are 13. Each has two events, the establishment three, and each message one; each sends a block, and each but the lost one an answer.
+-- there are 13. Each has two events, the establishment three, and each message one; each sends a block, and each but the lost one has an
+-- answer.
 text : summary_text 3 5 (record {
   steps = 32;
   sent_blocks = 27;
@@ -38,13 +39,14 @@ text = refl
 -- ## Events
 
 one_message : generated_events 1 ≡ Open (1 ∷ []) ∷ Deliver Mobile [] ∷ Deliver Network []
-    ∷ Ask Mobile Zero (Send (range_with_len 1 38)) ∷ Deliver Mobile [] ∷ Deliver Network [] ∷ Deliver Mobile [] ∷ Deliver Network [] ∷ []
+    ∷ Ask Mobile Zero (Send (range_with_len 1 38)) ∷ Deliver Mobile [] ∷ Deliver Network [] ∷ Deliver Mobile []
+    ∷ Deliver Network [] ∷ []
 one_message = refl
 
 flipped : segment_events Network 4 ≡ Deliver Network (28 ∷ 29 ∷ 78 ∷ []) ∷ Deliver Mobile [] ∷ []
 flipped = refl
 
--- 7 times 172 is 592 and 592 and 20
+-- 7 times 172 is 20 more than 2 times 592
 flipped_late : inverted_bits 172 ≡ 20 ∷ 21 ∷ 70 ∷ []
 flipped_late = refl
 

@@ -1,6 +1,7 @@
 -- Worked answers: each word and each number is in its place. docs/COMMANDS.md has these lines.
 use Rattle.{
-  std.{specs.{Fmt.digits, Prelude.{◌≡◌, [], ◌∷◌, ◌++◌, List, ℕ, Some, pos, negsuc, replicate, codes}}, proofs.Common.refl},
+  std.{specs.Prelude.{◌≡◌, [], ◌∷◌, ◌++◌, List, ℕ, Some, pos, negsuc, replicate, codes}, proofs.Common.refl},
+  std.specs.Fmt.digits,
   um_lines.specs.Hex.encode_with,
   um_link.specs.{
     lapdm_link.Events.{AirFull, BySide, Nothing, OtherMobile, RefusedByEndpoint},
