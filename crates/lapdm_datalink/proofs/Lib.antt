@@ -7,4 +7,6 @@ pub mod First
 mod SabmInOpen
 mod Normal
 mod NormalWorked
+mod ReopenedWorked
+mod SlotsWorked
 pub mod Kept
