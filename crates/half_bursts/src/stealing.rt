@@ -45,8 +45,8 @@ fn steal_burst(count: usize, index: usize, burst: &[u8; BURST_BITS], into: &mut 
     }
 }
 
-/// Overwrites all of a burst but one half: 1 its odd positions, 2 its even ones, 3 none. The first loop has nine times sixteen positions and
-/// no remainder: a block takes 320 instructions less than with one loop.
+/// Overwrites all of a burst but one half: 1 its odd positions, 2 its even ones, 3 none. The first loop has nine times sixteen
+/// positions and no remainder: a block takes 320 instructions less than with one loop.
 #[inline(always)]
 pub fn write_other_than(half: u8, burst: &[u8; BURST_BITS], into: &mut [u8; BURST_BITS])
     ensures value { into.new ≡ with_half half burst.now into.old }

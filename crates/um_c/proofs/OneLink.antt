@@ -23,7 +23,8 @@ use Rattle.{
   um_c.{
     specs.{
       declared.datalinks.{CTimedEnd.CTimedEnd, CDataLink.CDataLink, CReport.CReport},
-      DataLinkCalls.{passed_to, FrameIsPassed, IsSeen, LinkTakesFrame, LinkUsesSlot, DataLinkReceivesBlock, DataLinkFillsSlot, c_report, reports_of, reports_if_taken},
+      DataLinkCalls.{passed_to, FrameIsPassed, IsSeen, LinkTakesFrame, LinkUsesSlot, DataLinkReceivesBlock},
+      DataLinkCalls.{DataLinkFillsSlot, c_report, reports_of, reports_if_taken},
       DataLinkCalls.{with_layer1, slot_answer, slot_frame, link_values_if_valid, link_values_from, data_link_values_if_valid},
       DataLinkCalls.{c_timed_end, counted, RepresentsLink, RepresentsDataLink, RepresentsSomeDataLink, IsLinkWritten, with_clocks_counted},
       DataLinkCalls.{IsCanonicalLink, IsWrittenOver, IsWrittenFor, SlotIsFilled, acts_on_frame, is_empty_ui},
@@ -189,10 +190,12 @@ channel_of_values x l h =
     sym (ap (λ (y : LinkValues). y.endpoint.window.channel) h.values_match) ∙ h.represents.endpoint.variables.channel
 
 -- links that one struct represents have one channel
-pub one_channel : (c : CTimedEnd) (l m : LinkState) → RepresentsLink c l → RepresentsLink c m → l.endpoint.channel ≡ m.endpoint.channel
+pub one_channel : (c : CTimedEnd) (l m : LinkState) → RepresentsLink c l → RepresentsLink c m →
+    l.endpoint.channel ≡ m.endpoint.channel
 one_channel c l m h g =
     sym (channel_of_values h.values l h.represents)
-    ∙ ap (λ (x : LinkValues). x.endpoint.window.channel) (some_same (sym h.decoded ∙ g.decoded)) ∙ channel_of_values g.values m g.represents
+    ∙ ap (λ (x : LinkValues). x.endpoint.window.channel) (some_same (sym h.decoded ∙ g.decoded))
+        ∙ channel_of_values g.values m g.represents
 
 -- what holds of what was read from a view holds of the struct
 pub read_from : {A N P : Type 0} {S T : A → Type 0} (r : Option A) → (N → P) → ((a : A) → S a → T a) → MatchOption r N S →
@@ -466,7 +469,8 @@ module _ {c : CDataLink} {o : Outlook} (seen : IsSeen c o) where
       report ≡ c_report (reports_of Zero (notices_if slot.gave_up0) ++ reports_of Three (notices_if slot.gave_up3)) →
       answer ≡ (if is_none slot.block then 10 else 0) → DataLinkFillsSlot layer1 answer c after old block r report
   fills_slot layer1 slot after old block plain r report answer fills plain_is block_is report_is answer_is =
-      let ch : (s : DataLinkState) → RepresentsDataLink c s → o.channel ≡ s.link0.endpoint.channel = λ s h. (seen.outlook s h).channel in
+      let ch : (s : DataLinkState) → RepresentsDataLink c s →
+          o.channel ≡ s.link0.endpoint.channel = λ s h. (seen.outlook s h).channel in
       let ro : (s : DataLinkState) → RepresentsDataLink c s → spec_role_of o.role ≡ s.link0.endpoint.role =
       λ s h. (seen.outlook s h).role in
       record {
