@@ -58,8 +58,7 @@ one_data_link x y s h g v =
 
 -- two possible links of one data link are those of a data link
 pub some_data_link : (x : DataLinkValues) → AreOfOneDataLink x.link0 x.link3 → SomeLinkHasValues x.link0 →
-    SomeLinkHasValues x.link3 →
-    RepresentSomeDataLink x
+    SomeLinkHasValues x.link3 → RepresentSomeDataLink x
 some_data_link x v h g =
     let s : DataLinkState = record {
       link0 = h.0;

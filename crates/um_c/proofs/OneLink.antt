@@ -23,8 +23,8 @@ use Rattle.{
   um_c.{
     specs.{
       declared.datalinks.{CTimedEnd.CTimedEnd, CDataLink.CDataLink, CReport.CReport},
-      DataLinkCalls.{passed_to, FrameIsPassed, IsSeen, LinkTakesFrame, LinkUsesSlot, DataLinkReceivesBlock},
-      DataLinkCalls.{DataLinkFillsSlot, c_report, reports_of, reports_if_taken},
+      DataLinkCalls.{passed_to, FrameIsPassed, IsSeen, LinkTakesFrame, LinkUsesSlot, DataLinkReceivesBlock, DataLinkFillsSlot},
+      DataLinkCalls.{c_report, reports_of, reports_if_taken},
       DataLinkCalls.{with_layer1, slot_answer, slot_frame, link_values_if_valid, link_values_from, data_link_values_if_valid},
       DataLinkCalls.{c_timed_end, counted, RepresentsLink, RepresentsDataLink, RepresentsSomeDataLink, IsLinkWritten, with_clocks_counted},
       DataLinkCalls.{IsCanonicalLink, IsWrittenOver, IsWrittenFor, SlotIsFilled, acts_on_frame, is_empty_ui},
@@ -100,6 +100,12 @@ joined c s h = record {
 pub view_represents : (c : CTimedEnd) (x : LinkValues) (l : LinkState) → link_values_from c ≡ Some x → RepresentsLink c l →
     ValuesRepresent x l
 view_represents c x l is h = subst (λ (y : LinkValues). ValuesRepresent y l) (some_same (sym h.decoded ∙ is)) h.represents
+
+pub no_view : (c : CTimedEnd) (l : LinkState) → link_values_from c ≡ None → RepresentsLink c l → ⊥
+no_view c l none h = some_none (sym h.decoded ∙ none)
+  where
+    some_none : {x : LinkValues} → Some x ≡ None → ⊥
+    some_none e = absurd cc
 
 -- a struct that was written from a link represents what that represents
 pub link_written : (m : Link) (l : LinkState) (c : CTimedEnd) → c ≡ c_timed_end (values_of m) → L.Represents m l →
@@ -195,7 +201,7 @@ pub one_channel : (c : CTimedEnd) (l m : LinkState) → RepresentsLink c l → R
 one_channel c l m h g =
     sym (channel_of_values h.values l h.represents)
     ∙ ap (λ (x : LinkValues). x.endpoint.window.channel) (some_same (sym h.decoded ∙ g.decoded))
-        ∙ channel_of_values g.values m g.represents
+    ∙ channel_of_values g.values m g.represents
 
 -- what holds of what was read from a view holds of the struct
 pub read_from : {A N P : Type 0} {S T : A → Type 0} (r : Option A) → (N → P) → ((a : A) → S a → T a) → MatchOption r N S →
@@ -469,8 +475,8 @@ module _ {c : CDataLink} {o : Outlook} (seen : IsSeen c o) where
       report ≡ c_report (reports_of Zero (notices_if slot.gave_up0) ++ reports_of Three (notices_if slot.gave_up3)) →
       answer ≡ (if is_none slot.block then 10 else 0) → DataLinkFillsSlot layer1 answer c after old block r report
   fills_slot layer1 slot after old block plain r report answer fills plain_is block_is report_is answer_is =
-      let ch : (s : DataLinkState) → RepresentsDataLink c s →
-          o.channel ≡ s.link0.endpoint.channel = λ s h. (seen.outlook s h).channel in
+      let ch : (s : DataLinkState) → RepresentsDataLink c s → o.channel ≡ s.link0.endpoint.channel =
+      λ s h. (seen.outlook s h).channel in
       let ro : (s : DataLinkState) → RepresentsDataLink c s → spec_role_of o.role ≡ s.link0.endpoint.role =
       λ s h. (seen.outlook s h).role in
       record {

@@ -8,4 +8,4 @@ returns c =
     let known = some_data_link c.args.data_link.now _ is in
     read_from c.from_parts.result (λ no h. no (known.1 h))
     (λ m read. record { some = known.0 read.0; represents = λ s h. read.1 s (decoded c.args.data_link.now _ s is h) })
-        c.from_parts.ensures.read
+    c.from_parts.ensures.read

@@ -17,8 +17,7 @@ none_mapped f None = refl
 none_mapped f (Some x) = refl
 
 decided : (b : Bool) (l : LinkState) (owes awaits over : Bool) → owes ≡ not (is_none l.answer) →
-    awaits ≡ awaits_answer l.endpoint →
-    over ≡ (if b then nat_eq l.clock 0 else nat_eq (l.clock - 1) 0) →
+    awaits ≡ awaits_answer l.endpoint → over ≡ (if b then nat_eq l.clock 0 else nat_eq (l.clock - 1) 0) →
     (owes || (awaits && over)) ≡ acts_in_slot (if b then l else after_slot l)
 decided true l owes awaits over o a t = λ i. o i || (a i && t i)
 decided false l owes awaits over o a t = λ i. o i || (a i && t i)
