@@ -101,12 +101,6 @@ pub view_represents : (c : CTimedEnd) (x : LinkValues) (l : LinkState) → link_
     ValuesRepresent x l
 view_represents c x l is h = subst (λ (y : LinkValues). ValuesRepresent y l) (some_same (sym h.decoded ∙ is)) h.represents
 
-pub no_view : (c : CTimedEnd) (l : LinkState) → link_values_from c ≡ None → RepresentsLink c l → ⊥
-no_view c l none h = some_none (sym h.decoded ∙ none)
-  where
-    some_none : {x : LinkValues} → Some x ≡ None → ⊥
-    some_none e = absurd cc
-
 -- a struct that was written from a link represents what that represents
 pub link_written : (m : Link) (l : LinkState) (c : CTimedEnd) → c ≡ c_timed_end (values_of m) → L.Represents m l →
     RepresentsLink c l
