@@ -26,7 +26,7 @@ use Rattle.{
       DataLinkCalls.{passed_to, FrameIsPassed, IsSeen, LinkTakesFrame, LinkUsesSlot, DataLinkReceivesBlock, DataLinkFillsSlot},
       DataLinkCalls.{c_report, reports_of, reports_if_taken},
       DataLinkCalls.{with_layer1, slot_answer, slot_frame, link_values_if_valid, link_values_from, data_link_values_if_valid},
-      DataLinkCalls.{c_timed_end, counted, RepresentsLink, RepresentsDataLink, RepresentsSomeDataLink, IsLinkWritten, with_clocks_counted},
+      DataLinkCalls.{c_timed_end, counted, RepresentsLink, RepresentsDataLink, IsLinkWritten, with_clocks_counted},
       DataLinkCalls.{IsCanonicalLink, IsWrittenOver, IsWrittenFor, SlotIsFilled, acts_on_frame, is_empty_ui},
       Plain.is_nonzero,
       States.endpoint_values_from,

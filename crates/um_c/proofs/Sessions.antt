@@ -17,8 +17,11 @@ use Rattle.{
     proofs.lapdm_link.Lemmas.{counts_of, each_start, each_way, end_of, ends_do, is_end, order_of, with_frames, without_oldest_item},
     specs.{
       lapdm_link.{Carriers.FirstSatisfies, Claims.{AckedAtMostDelivered, Claims, HasNoticesInOrder, LogLine, is_same_role, is_same_sapi}},
-      lapdm_link.{Events.{other, rival_sabm, unbounded_capacity}, Queues.{Queues, with_items_appended},
-          Worlds.{IsOldestSentOrReplaced, as_sent, rr_for_rej}},
+      lapdm_link.{
+        Events.{other, rival_sabm, unbounded_capacity},
+        Queues.{Queues, with_items_appended},
+        Worlds.{IsOldestSentOrReplaced, as_sent, rr_for_rej},
+      },
       lapdm_link.Worlds.{World, answer, initial_world, rej_replaced_by_rr},
       lapdm_window.{
         Calls.{Call, IsCallAllowedForEndpoint, OpensWithoutInfo, Opens, call_outcome, refusal_of},

@@ -348,7 +348,7 @@ module _ (st : TrafficSettings) where
 
     from_next : (i : ℕ) (b : List ℕ) (bs : List (List ℕ)) (n : ℕ) → Carries i b →
         ((j : ℕ) → j < n → Carries (suc i + j) (get_or bs j [])) → (j : ℕ) → j < suc n →
-            Carries (i + j) (get_or (b ∷ bs) j [])
+        Carries (i + j) (get_or (b ∷ bs) j [])
     from_next i b bs n here later zero h = subst (λ n. Carries n b) (omega arith) here
     from_next i b bs n here later (suc j) h = subst (λ n. Carries n (get_or bs j [])) (omega arith) (later j (omega (arith, h)))
 
