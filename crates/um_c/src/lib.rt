@@ -30,6 +30,7 @@ mod states;
 mod times;
 mod traffic;
 mod traffic_places;
+mod traffic_senders;
 mod version;
 
 pub use datalinks::{
