@@ -1,9 +1,10 @@
 -- A sender of a traffic channel (GSM 05.03, today 3GPP TS 45.003, sections 3.1.3, 4.2 and 4.3; which block is sent is this project's own
--- rule). Each fourth traffic burst begins a block of four joined bursts. A traffic burst carries its odd positions, and the even ones of the
--- block before; at half rate the last two of four carry both halves of it. So a block of FACCH/H is where two frames of speech would be.
-use Rattle.std.specs.Prelude.{ℕ, suc, ◌≡◌, ◌+◌, ◌-◌, ◌/◌, ◌%◌, ◌==◌, nat_lt, nat_le}
+-- rule). Each fourth traffic burst begins a block of four joined bursts. A traffic burst carries its odd positions, and the even ones of
+-- the block before; at half rate the last two of four carry both halves of it. So a block of FACCH/H is where two frames of speech would
+-- be.
+use Rattle.std.specs.Prelude.{ℕ, suc, ◌≡◌, ◌≢◌, ◌<◌, ◌+◌, ◌-◌, ◌/◌, ◌%◌, ◌==◌, nat_lt, nat_le}
 use Rattle.std.specs.Prelude.{if◌then◌else◌, not, Bool, ◌&&◌, ◌||◌}
-use Rattle.std.specs.Prelude.{List, [], ◌∷◌, replicate, slice_index_or, Option, Some, None}
+use Rattle.std.specs.Prelude.{List, [], ◌∷◌, length, replicate, slice_index_or, Option, Some, None}
 use Rattle.half_bursts.specs.Halves.{other_half, with_half}
 use Rattle.um_slot.specs.tdma.declared.TheConstants.{HYPERFRAME}
 use Rattle.um_slot.specs.tdma.declared.channels.Direction.{Direction}
@@ -185,3 +186,17 @@ abbrev pub SendsAll : (old : TrafficSender) (frames : List ℕ) (bursts : List (
 SendsAll old [] [] = Unit {0}
 SendsAll old (f ∷ fs) (b ∷ bs) = (new : TrafficSender) × Sends old f b new × SendsAll new fs bs
 SendsAll old fs bs = ⊥
+
+-- calls ask for all bursts of the block that waits, in the frames from that with burst number `first` on, and are given them
+pub record SendsBlock (sender : TrafficSender) (bursts : List (List ℕ)) : Type 0 where
+  pub settings : TrafficSettings
+  pub first : ℕ
+  pub frames : List ℕ
+  pub set : sender_settings_of sender ≡ Some settings
+  pub waits : sender.waiting.kind ≢ 0
+  pub begins : index_of_four settings.channel settings.direction first ≡ 0
+  pub within : first < bursts_in_hyperframe settings.channel
+  pub not_begun : sender.first ≢ first
+  pub frames_are : AreFrames settings first frames
+  pub all : length frames ≡ facch_bursts settings.channel
+  pub sends : SendsAll sender frames bursts
