@@ -180,7 +180,7 @@ pub record HasAddressOf (x : EndpointValues) (e : EndpointState) : Type 0 where
   pub sapi : x.sapi ≡ e.sapi
   pub channel : x.window.channel ≡ e.channel
 
-address_of_values : (x : EndpointValues) (e : EndpointState) → P.ValuesRepresent x e → HasAddressOf x e
+pub address_of_values : (x : EndpointValues) (e : EndpointState) → P.ValuesRepresent x e → HasAddressOf x e
 address_of_values x e h = record {
   role = sym (ap (λ (y : EndpointValues). spec_role_of y.role) h.values_match) ∙ h.represents.address.role;
   sapi = sym (ap (λ (y : EndpointValues). y.sapi) h.values_match) ∙ h.represents.address.sapi;

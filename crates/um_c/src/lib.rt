@@ -9,6 +9,7 @@
 mod blocks;
 mod bursts;
 mod ciphers;
+mod datalink_calls;
 mod datalinks;
 mod effects;
 mod ends;
