@@ -81,7 +81,7 @@ use lapdm_frame::{BLOCK_OCTETS, Body, Channel, FrameView, fill_on, read_on};
 
 const NO_MESSAGE: u32 = 4;
 
-const SLOT_IS_FREE: u32 = 10;
+pub(crate) const SLOT_IS_FREE: u32 = 10;
 
 /// The state of one link of a data link.
 #[repr(C)]
@@ -671,7 +671,7 @@ fn sapis_of(sapi: Sapi, count: usize) -> [u8; 3]
 }
 
 /// Returns the block with these layer 1 octets, which a block of SACCH alone has.
-fn with_layer1(channel: Channel, layer1: &[u8; 2], block: [u8; BLOCK_OCTETS]) -> [u8; BLOCK_OCTETS]
+pub(crate) fn with_layer1(channel: Channel, layer1: &[u8; 2], block: [u8; BLOCK_OCTETS]) -> [u8; BLOCK_OCTETS]
     ensures { result ≡ with_layer1 channel layer1.now block }
 {
     match channel {
