@@ -7,7 +7,7 @@ use Rattle.{
     proofs.Lemmas.{other, World, end_of, way, acted, without_oldest_item, AllOf, of-append, IsPlaced, HasWindowOfOne, end_of-acted},
     proofs.Lemmas.{end_of-acted_else, way-acted, way-acted_other, other_is, taken-frame, Goes, remains, ends, closes, begins, opens},
     proofs.Lemmas.{initial_world, Channel, QueueCapacity},
-    specs.Worlds.IsOldestSentOrRrForRej,
+    specs.Worlds.IsOldestSentOrReplaced,
   },
   lapdm_datalink.specs.DataLinks.is_ui,
 }
@@ -153,16 +153,16 @@ module _ {s : Sapi} {w : World} (h : IsFresh s w) (r : Role) where
       (λ e. (let g = idle-call (end_of r s w) call ok e in ((fresh_at r h).0 g.0, g.1)))
       (λ e. (let g = (fresh_at r h).1 e in let t = early-call (end_of r s w) r s call placed ok g.state in (g, t.0, t.1)))
 
-  early-read : (f g : Frame) (fs : List Frame) (q : Role) → IsOldestSentOrRrForRej (Some g) (f ∷ fs) →
+  early-read : (f g : Frame) (fs : List Frame) (q : Role) → IsOldestSentOrReplaced (Some g) (f ∷ fs) →
       is_early q s f.content ≡ true →
       is_early q s g.content ≡ true
   early-read f g fs q read e = grind arith
 
-  ui-read : (f g : Frame) (fs : List Frame) → IsOldestSentOrRrForRej (Some g) (f ∷ fs) → is_ui f.content ≡ true →
+  ui-read : (f g : Frame) (fs : List Frame) → IsOldestSentOrReplaced (Some g) (f ∷ fs) → is_ui f.content ≡ true →
       is_ui g.content ≡ true
   ui-read f g fs read e = grind arith
 
-  pub fresh-takes : (g : Frame) (q : List Frame) → way (other r) w ≡ q → IsOldestSentOrRrForRej (Some g) q →
+  pub fresh-takes : (g : Frame) (q : List Frame) → way (other r) w ≡ q → IsOldestSentOrReplaced (Some g) q →
       (end_of r s w).role ≡ r → (end_of r s w).sapi ≡ s → HasWindowOfOne (end_of r s w) →
       IsFresh s (acted r s (frame_outcome g (end_of r s w)) (without_oldest_item (other r) w))
   fresh-takes g [] front read role sapi window = absurd read
@@ -177,7 +177,7 @@ module _ {s : Sapi} {w : World} (h : IsFresh s w) (r : Role) where
       ((fresh_at r v).1 e, rw same.0 ((fresh_at r h).1 e).state, rw same.1 tt)))
 
   -- an endpoint in Idle returns nothing for what arrives
-  pub idle-silent : (g : Frame) (q : List Frame) → way (other r) w ≡ q → IsOldestSentOrRrForRej (Some g) q →
+  pub idle-silent : (g : Frame) (q : List Frame) → way (other r) w ≡ q → IsOldestSentOrReplaced (Some g) q →
       (end_of r s w).role ≡ r → (end_of r s w).sapi ≡ s → HasWindowOfOne (end_of r s w) →
       (frame_outcome g (end_of r s w)).new_state.state ≡ Idle →
       ((end_of r s w).state ≡ Idle) × ((frame_outcome g (end_of r s w)).frames ≡ [])

@@ -22,7 +22,7 @@ use Rattle.{
       Lemmas.{passes, single_frame_refusal_checks},
       Subsequences.{IsSub, all, append, dropped, empty, kept, none},
     },
-    specs.Worlds.{rej_replaced_by_rr, IsOldestSentOrRrForRej},
+    specs.Worlds.{rej_replaced_by_rr, IsOldestSentOrReplaced},
   },
   std.{specs.Prelude.{IfSome, ◌||◌}, proofs.lemmas.Bool.Decides.nat_tests},
   lapdm_end.specs.lapdm_window.{
@@ -479,7 +479,7 @@ module _ {s : Sapi} {r : Role} {air rest : List Frame} {l l' : LinkState} {f : F
         let all_on : AllOn s o.frames = frames-on None l.endpoint o.new_state s (λ info e. cc e) (λ e. cc e) o.frames
         (subst (λ t. AllFrames (Says None l.endpoint o.new_state) t o.frames) (own_sapi k)
         (taken-frame l.endpoint (window k) g).frames) in
-        let oldest : IsOldestSentOrRrForRej (Some g) (way (other r) at_front.world) = rw at_front.front (inr same_frame) in
+        let oldest : IsOldestSentOrReplaced (Some g) (way (other r) at_front.world) = rw at_front.front (inr same_frame) in
         let quiet : o.new_state.state ≡ Idle → (l.endpoint.state ≡ Idle) × (o.frames ≡ []) =
         rw same at (silent at_front.reaches r g oldest) in
         acts k z o (map (Notified r s) o.notices) (map (Notified r s) o.notices)

@@ -4,7 +4,7 @@ use Rattle.{
     proofs.Lemmas.{◌≡◌, refl, ◌++◌, true, List, [], ◌∷◌, map, nat_eq, None, Some, Frame, Channel, Role, Call, Sapi},
     proofs.Lemmas.{call_outcome, refusal_of, frame_outcome, sapi_number, other, LogLine, Asked, Notified, World, inl, inr, initial_world},
     proofs.Lemmas.{end_of, way, acted, without_oldest_item, IsPlaced, AllFit, All-head, FrameFits, arith},
-    specs.{Events.unbounded_capacity, Worlds.IsOldestSentOrRrForRej},
+    specs.{Events.unbounded_capacity, Worlds.IsOldestSentOrReplaced},
   },
   lapdm_delivery.proofs.Idle.{IsFresh, fresh-start, fresh-calls, fresh-takes, fresh-loses, idle-silent},
 }
@@ -28,7 +28,7 @@ at_start channel s = record {
 }
 
 -- a frame that arrives fits in a block, since those in transit do
-oldest-fits : (channel : Channel) (f : Frame) (fs : List Frame) → AllFit channel fs → IsOldestSentOrRrForRej (Some f) fs →
+oldest-fits : (channel : Channel) (f : Frame) (fs : List Frame) → AllFit channel fs → IsOldestSentOrReplaced (Some f) fs →
     FrameFits channel f
 oldest-fits channel f (g ∷ gs) fit (inl same) = rw same (All-head (FrameFits channel) g gs fit)
 oldest-fits channel f (g ∷ gs) fit (inr same) = let fits = All-head (FrameFits channel) g gs fit in rw same (grind arith)
@@ -46,7 +46,7 @@ module _ {s : Sapi} {w : World} {ls : List LogLine} (h : Reaches s w ls) where
   }
 
   -- the oldest frame in transit, or an RR in place of a REJ, arrives at the endpoint
-  pub takes : (r : Role) (f : Frame) → nat_eq f.sapi (sapi_number s) ≡ true → IsOldestSentOrRrForRej (Some f) (way (other r) w) →
+  pub takes : (r : Role) (f : Frame) → nat_eq f.sapi (sapi_number s) ≡ true → IsOldestSentOrReplaced (Some f) (way (other r) w) →
       Reaches s (acted r s (frame_outcome f (end_of r s w)) (without_oldest_item (other r) w))
       (ls ++ map (Notified r s) (frame_outcome f (end_of r s w)).notices)
   takes r f on known =
@@ -59,7 +59,7 @@ module _ {s : Sapi} {w : World} {ls : List LogLine} (h : Reaches s w ls) where
       }
 
   -- an endpoint in Idle was there before, and returns nothing for what arrives
-  pub silent : (r : Role) (f : Frame) → IsOldestSentOrRrForRej (Some f) (way (other r) w) →
+  pub silent : (r : Role) (f : Frame) → IsOldestSentOrReplaced (Some f) (way (other r) w) →
       (frame_outcome f (end_of r s w)).new_state.state ≡ S.Idle →
       ((end_of r s w).state ≡ S.Idle) × ((frame_outcome f (end_of r s w)).frames ≡ [])
   silent r f known e =
