@@ -661,7 +661,8 @@ UM_ENUM(um_answer) um_side_take(um_side *side, const uint8_t octets[23], uint8_t
  * The SABM of the other side opens again a link that is open here, once an I, RR, RNR or REJ was received; before that, it is a repeat. At
  * a network a SABM without information opens the link of SAPI 0 again at once if the mobile had opened it with some: the mobile returns.
  * So a second UM_OPENED without UM_ENDED between says that the other side has opened the link again. What was not acknowledged is gone, and
- * so is what the other side sent before and this side did not receive. Layer 3 sends again what it still wants to send.
+ * so is what the other side sent before and this side did not receive. Layer 3 sends again what it still wants to send. A SABM that
+ * arrives while the link is being released here is refused: the other side reports UM_ENDED, UM_REFUSED, and may open again.
  *
  * At a mobile, a frame of SAPI 3 is dropped while SAPI 0 is not established: on SDCCH the data link knows; on SACCH the caller says it
  * with um_datalink_main. */

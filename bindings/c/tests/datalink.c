@@ -339,6 +339,24 @@ static void test_opened_after_release(void)
 	check(says(&t, "ogC", "a"), "the repeated SABM opens nothing again; C is delivered");
 }
 
+/* The network releases SAPI 3 in the slot in which the mobile opens it again: a DM in the next slot refuses each. */
+static void test_collision(void)
+{
+	pair p;
+	story t;
+	start(&p, UM_SACCH);
+	check(um_datalink_main(&p.sides[0], true) == UM_END_DONE && um_datalink_open_bare(&p.sides[0]) == UM_END_DONE, "SAPI 3");
+	slots(&p, 4, 0, 3, &t);
+	check(um_datalink_open_bare(&p.sides[0]) == UM_END_DONE && um_datalink_close(&p.sides[1], 3) == UM_END_DONE, "both call");
+	slots(&p, 1, 0, 3, &t);
+	check(sends(&p, 0, "\x0d\x3f\x01", 3) && sends(&p, 1, "\x0f\x53\x01", 3), "a SABM and a DISC cross");
+	slots(&p, 1, 0, 3, &t);
+	check(sends(&p, 0, "\x0f\x1f\x01", 3) && sends(&p, 1, "\x0d\x1f\x01", 3), "a DM from each side");
+	slots(&p, 1, 0, 3, &t);
+	check(says(&t, "e", "e") && p.sides[0].link3.end.state == UM_CLOSED, "both are closed");
+	check(p.reports[0].notices[0].reason == UM_REFUSED && p.reports[1].notices[0].reason == UM_RELEASED, "refused, released");
+}
+
 static bool opens(pair *p, int side, uint8_t sapi)
 {
 	return um_datalink_establish(&p->sides[side], sapi) == UM_END_DONE;
@@ -574,6 +592,7 @@ int main(void)
 	test_second_opening();
 	test_local_release();
 	test_opened_after_release();
+	test_collision();
 	test_assignment();
 	test_network_initiated();
 	test_return();

@@ -552,7 +552,8 @@ static void establishments()
 	const auto first = last.next(sides[0]);
 	const auto second = last.next(sides[0]);
 	check(begins(first.block, {0x01, 0x21, 0x01}) && first.block == second.block && !second.is_free, "said twice");
-	check(last.next(sides[0]).is_free && sides[1].take(second.block).notices().size() == 1, "not three times; the second acknowledges");
+	const auto acked = sides[1].take(second.block);
+	check(last.next(sides[0]).is_free && acked && acked.notices().size() == 1, "not three times; the second acknowledges");
 
 	// a mobile comes back to the channel that it opened by contention
 	sides = ends{um::datalink(um::role::mobile), um::datalink(um::role::network)};

@@ -1,6 +1,7 @@
 -- `Kept`, `Lemmas`, `Answering` and `First` are for the crates above.
 pub mod Returned
 pub mod Lemmas
+mod Views
 pub mod Answering
 pub mod First
 mod SabmInOpen

@@ -27,7 +27,7 @@ use Rattle.lapdm_datalink.proofs.Answering.{is_slot}
 use Rattle.lapdm_datalink.proofs.Lemmas.{passed}
 use Rattle.lapdm_delivery.proofs.Claims.{seen, claims-seen, counts-seen, order-seen}
 use Rattle.lapdm_delivery.proofs.Worlds.{Reaches, at_start, start}
-use Rattle.lapdm_link.proofs.Subsequences.{IsSub, empty}
+use Rattle.lapdm_delivery.proofs.Queues.{IsCovered, empty}
 use Rattle.lapdm_delivery.proofs.Queues.{pending}
 use Rattle.lapdm_delivery.proofs.Links.{Fits, slot-on, free-waits, own_sapi, on_own, on_is}
 use Rattle.lapdm_delivery.proofs.Heard.{IsHeard, is_informed}
@@ -574,7 +574,7 @@ module _ (e : Establishment) where
       sound = record { clock = λ n. refl; answer = tt; idle = λ n. refl };
     }
       where
-        none_sent : (r : Role) → IsSub [] (way r (start channel))
+        none_sent : (r : Role) → IsCovered [] (way r (start channel))
         none_sent Mobile = empty
         none_sent Network = empty
 

@@ -14,14 +14,13 @@ use Rattle.{
   lapdm_end.specs.lapdm_window.{
     declared.State.{State, TheVariants.{Idle, Opening, Open}},
     Ends.{EndpointState, Role, Mobile, Network, sapi_number},
-    Tables.{Reply, Nothing, SendsDm, TakesIFrame, TakesRr, outcome_of_reply, is_command, reply_to_frame},
+    Tables.{Reply, Nothing, SendsDm, TakesIFrame, TakesRr, outcome_of_reply, is_command},
     Rules.{takes_i_frame, takes_rr},
     segmenting.Segments.Segment,
     Calls.{Call, Sends, refusal_of, is_idle},
   },
-  lapdm_link.specs.Worlds.rej_replaced_by_rr,
   lapdm_datalink.{
-    specs.Links.{LinkState, slot_outcome, is_opening, sabm_goes_first, with_frame, with_frames, is_awaiting_kind},
+    specs.Links.{LinkState, link_reply, slot_outcome, is_opening, sabm_goes_first, with_frame, with_frames, is_awaiting_kind},
     proofs.Answering.owes_nothing,
   },
 }
@@ -39,7 +38,7 @@ rr_state nr p e = grind arith
 
 module _ (cr : Bool) (l : LinkState) where
   idle_at : (s : ℕ) (c : Content) → (let e = l.endpoint in
-      let o = outcome_of_reply (reply_to_frame (record { sapi = s; cr = cr; content = rej_replaced_by_rr c }) e) e in
+      let o = outcome_of_reply (link_reply (record { sapi = s; cr = cr; content = c }) e) e in
       is_idle o.new_state.state ≡ true → o.new_state ≡ e)
   idle_at s (I ns nr p more info) h = grind arith
   idle_at s other h = grind arith

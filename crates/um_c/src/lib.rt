@@ -10,6 +10,7 @@ mod answers;
 mod blocks;
 mod bursts;
 mod ciphers;
+mod datalink_calls;
 mod datalinks;
 mod effects;
 mod ends;
