@@ -1,7 +1,6 @@
 -- What a side keeps of its last answer, to say it once more in the next slot that is free.
-use Rattle.std.specs.Prelude.{ℕ, Bool, true, false, List, replicate, IsTrue, ◌×◌}
+use Rattle.std.specs.Prelude.{ℕ, Bool, true, false, List, replicate, IsTrue}
 use Rattle.lapdm_frame.specs.declared.Channel.{Channel}
-use Rattle.lapdm_frame.specs.declared.TheConstants.{BLOCK_OCTETS}
 use Rattle.lapdm_frame.specs.Content.{Frame}
 use Rattle.lapdm_frame.specs.Frames.{IsFrameCoding}
 use Rattle.lapdm_datalink.specs.Links.{is_plain_rr}

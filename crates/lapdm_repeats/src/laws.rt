@@ -15,7 +15,6 @@ pub fn law_rr_that_acknowledges_nothing_changes_nothing()
 {}
 
 /// Law: so the link that takes an RR with F = 0 twice is as after the first time, and reports nothing the second time.
-#[tactic(auto, using(crate::proofs::Repeats::second_changes_nothing, crate::proofs::Repeats::second_says_nothing))]
 pub fn law_rr_said_twice_changes_nothing()
     ensures link { (nr : ℕ) (f : Frame) (l : LinkState) → IsPlainRr nr f → HasWindowOfOne l.endpoint → HasSentWhatItMay l
         → after_received f (after_received f l) ≡ after_received f l }
