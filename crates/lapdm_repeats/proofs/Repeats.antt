@@ -98,7 +98,8 @@ pub second_changes_nothing : (nr : ℕ) (f : Frame) (l : LinkState) → IsPlainR
     after_received f (after_received f l) ≡ after_received f l
 second_changes_nothing nr f l rr window sent =
     let m = after_received f l in
-    (second nr f l rr window sent).link ∙ ap (λ (heard : Bool). let x : LinkState = record m { heard = heard } in x) (heard_again nr f l rr)
+    (second nr f l rr window sent).link
+    ∙ ap (λ (heard : Bool). let x : LinkState = record m { heard = heard } in x) (heard_again nr f l rr)
 
 pub second_says_nothing : (nr : ℕ) (f : Frame) (l : LinkState) → IsPlainRr nr f → HasWindowOfOne l.endpoint → HasSentWhatItMay l →
     received_notices f (after_received f l) ≡ []

@@ -1,5 +1,5 @@
 -- What the call that says an answer twice returns and writes.
-use Rattle.std.specs.Prelude.{◌≡◌, ◌↔◌, ℕ, Bool, List, take, Option, Some, None, IsTrue, ◌×◌, ◌≢◌, if◌then◌else◌, nat_eq}
+use Rattle.std.specs.Prelude.{◌≡◌, ◌↔◌, ◌≢◌, ℕ, Bool, List, take, Option, Some, None, IsTrue, if◌then◌else◌, nat_eq}
 use Rattle.lapdm_frame.specs.declared.Channel.{Channel}
 use Rattle.lapdm_repeats.specs.declared.said.Said.{Said}
 use Rattle.lapdm_repeats.specs.Said.{EncodesPlainRr, nothing_said, said_after}
@@ -20,7 +20,8 @@ pub record KeepsAnswer (channel : Channel) (said : Said) (block_old block : List
 -- the slot is free: the block that waits goes into it, with the layer 1 octets of the fill frame, and nothing waits any more
 pub record FillsFreeSlot (channel : Channel) (said_old said : Said) (block_old block : List ℕ) (answer : ℕ) : Type 0 where
   pub said_is : said ≡ nothing_said
-  pub block_is : block ≡ (if nat_eq said_old.waits 0 then block_old else with_layer1 channel (take 2 block_old) said_old.block)
+  pub block_is : block
+      ≡ (if nat_eq said_old.waits 0 then block_old else with_layer1 channel (take 2 block_old) said_old.block)
   pub answer_is : answer ≡ (if nat_eq said_old.waits 0 then 10 else 0)
 
 -- what the call does after `um_datalink_next` returned `next`: 0 for a frame, 10 for the fill frame

@@ -26,7 +26,8 @@ use Rattle.{
 
 -- ## Numbers: the bursts after the first of four
 
-index-of : (c : TrafficChannel) (d : Direction) (first i : ℕ) → index_of_four c d first ≡ 0 → first < bursts_in_hyperframe c → i < 8 →
+index-of : (c : TrafficChannel) (d : Direction) (first i : ℕ) → index_of_four c d first ≡ 0 → first < bursts_in_hyperframe c →
+    i < 8 →
     index_of_four c d ((first + i) % bursts_in_hyperframe c) ≡ i % 4
 index-of FullRate d first i zeroth lt few = omega arith
 index-of HalfRate0 Downlink first i zeroth lt few = omega arith
@@ -34,7 +35,8 @@ index-of HalfRate0 Uplink first i zeroth lt few = omega arith
 index-of HalfRate1 Downlink first i zeroth lt few = omega arith
 index-of HalfRate1 Uplink first i zeroth lt few = omega arith
 
-first-of : (c : TrafficChannel) (d : Direction) (first i : ℕ) → index_of_four c d first ≡ 0 → first < bursts_in_hyperframe c → i < 8 →
+first-of : (c : TrafficChannel) (d : Direction) (first i : ℕ) → index_of_four c d first ≡ 0 → first < bursts_in_hyperframe c →
+    i < 8 →
     first_of_four c d ((first + i) % bursts_in_hyperframe c) ≡ (first + i / 4 * 4) % bursts_in_hyperframe c
 first-of FullRate d first i zeroth lt few = omega arith
 first-of HalfRate0 Downlink first i zeroth lt few = omega arith
@@ -89,7 +91,8 @@ set_if s None d st e = absurd cc
 set_if s (Some c) None st e = absurd cc
 set_if s (Some c) (Some d) st e = chosen (is_sender_in_range c d s && _) e
   where
-    chosen : (b : Bool) → (if b then Some (let x : TrafficSettings = record { channel = c; direction = d } in x) else None) ≡ Some st →
+    chosen : (b : Bool) → (if b then Some (let x : TrafficSettings = record { channel = c; direction = d } in x) else None)
+        ≡ Some st →
         (Some c ≡ Some st.channel) × (Some d ≡ Some st.direction)
     chosen true e =
         let made : TrafficSettings = record { channel = c; direction = d } in
@@ -100,7 +103,8 @@ set_if s (Some c) (Some d) st e = chosen (is_sender_in_range c d s && _) e
 is_set : (s : TrafficSender) (st : TrafficSettings) → sender_settings_of s ≡ Some st → Set st s
 is_set s st e = set_if s (traffic_channel_of s.channel) (direction_of s.direction) st e
 
-took_with : (settings : Option TrafficSettings) (frame : ℕ) (s : TrafficSender) (before : List ℕ) (mid : TrafficSender) (burst : List ℕ) →
+took_with : (settings : Option TrafficSettings) (frame : ℕ) (s : TrafficSender) (before : List ℕ) (mid : TrafficSender)
+    (burst : List ℕ) →
     send_with settings frame s before ≡ answered mid burst →
     (st : TrafficSettings) × (settings ≡ Some st)
     × (send_at st (traffic_place_of st.channel st.direction frame) frame s before ≡ answered mid burst)
@@ -180,11 +184,13 @@ module _ (st : TrafficSettings) where
       get_or (with_half half burst old) p 0 ≡ value_with_half 0 half burst old p
   with_half-at half burst old p hp = get_or-map-range_with_len (value_with_half 0 half burst old) 0 148 p p 0 hp (omega arith)
 
-  kept-at : (half : ℕ) (burst old : List ℕ) (p : ℕ) → half_of_position p ≡ half → value_with_half 0 half burst old p ≡ get_or old p 0
+  kept-at : (half : ℕ) (burst old : List ℕ) (p : ℕ) → half_of_position p ≡ half →
+      value_with_half 0 half burst old p ≡ get_or old p 0
   kept-at half burst old p is = grind (arith, is)
 
   -- all of a block but one half
-  written-at : (half : ℕ) (block : SentBlock) (i : ℕ) (burst : List ℕ) (p : ℕ) → block.kind ≢ 0 → p < 148 → half_of_position p ≢ half →
+  written-at : (half : ℕ) (block : SentBlock) (i : ℕ) (burst : List ℕ) (p : ℕ) → block.kind ≢ 0 → p < 148 →
+      half_of_position p ≢ half →
       get_or (with_block half block i burst) p 0 ≡ get_or (get_or block.bursts i []) p 0
   written-at half block i burst p some hp other =
       let own = get_or block.bursts i [] in
@@ -341,7 +347,8 @@ module _ (st : TrafficSettings) where
     given_too k m w at = record { set = at.set; lower = at.lower; upper = at.upper }
 
     from_next : (i : ℕ) (b : List ℕ) (bs : List (List ℕ)) (n : ℕ) → Carries i b →
-        ((j : ℕ) → j < n → Carries (suc i + j) (get_or bs j [])) → (j : ℕ) → j < suc n → Carries (i + j) (get_or (b ∷ bs) j [])
+        ((j : ℕ) → j < n → Carries (suc i + j) (get_or bs j [])) → (j : ℕ) → j < suc n →
+        Carries (i + j) (get_or (b ∷ bs) j [])
     from_next i b bs n here later zero h = subst (λ n. Carries n b) (omega arith) here
     from_next i b bs n here later (suc j) h = subst (λ n. Carries n (get_or bs j [])) (omega arith) (later j (omega (arith, h)))
 
