@@ -67,7 +67,8 @@ acked_after nr e window is_now sent = grind (arith, is_now, sent, window.acked_a
 not_open : (nr : ℕ) (f : Frame) (l : LinkState) → IsPlainRr nr f → is_open l.endpoint.state ≡ false → ChangesNothing f l
 not_open nr f l rr is_now = grind (arith, rr, is_now)
 
-state_of : (nr : ℕ) (f : Frame) (l : LinkState) → IsPlainRr nr f → is_open (after_received f l).endpoint.state ≡ is_open l.endpoint.state
+state_of : (nr : ℕ) (f : Frame) (l : LinkState) → IsPlainRr nr f →
+    is_open (after_received f l).endpoint.state ≡ is_open l.endpoint.state
 state_of nr f l rr =
     ap (λ (e : EndpointState). is_open e.state) (endpoint_after nr f l rr) ∙ ap is_open (state_after nr l.endpoint)
 
@@ -94,7 +95,8 @@ heard_again nr f l rr =
     ∙ once l.heard (is_open l.endpoint.state)
     ∙ sym (heard_after nr f l rr)
 
-pub second_changes_nothing : (nr : ℕ) (f : Frame) (l : LinkState) → IsPlainRr nr f → HasWindowOfOne l.endpoint → HasSentWhatItMay l →
+pub second_changes_nothing : (nr : ℕ) (f : Frame) (l : LinkState) → IsPlainRr nr f → HasWindowOfOne l.endpoint →
+    HasSentWhatItMay l →
     after_received f (after_received f l) ≡ after_received f l
 second_changes_nothing nr f l rr window sent =
     let m = after_received f l in

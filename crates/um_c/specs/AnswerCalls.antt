@@ -1,5 +1,6 @@
 -- What the call that says an answer twice returns and writes.
-use Rattle.std.specs.Prelude.{◌≡◌, ◌↔◌, ◌≢◌, ℕ, Bool, List, take, Option, Some, None, IsTrue, if◌then◌else◌, nat_eq}
+use Rattle.std.specs.Prelude.{◌≡◌, ◌↔◌, ◌≢◌, ℕ, Bool, List, take, Option, Some, None, IsTrue}
+use Rattle.std.specs.Prelude.{if◌then◌else◌, nat_eq}
 use Rattle.lapdm_frame.specs.declared.Channel.{Channel}
 use Rattle.lapdm_repeats.specs.declared.said.Said.{Said}
 use Rattle.lapdm_repeats.specs.Said.{EncodesPlainRr, nothing_said, said_after}
@@ -25,7 +26,8 @@ pub record FillsFreeSlot (channel : Channel) (said_old said : Said) (block_old b
   pub answer_is : answer ≡ (if nat_eq said_old.waits 0 then 10 else 0)
 
 -- what the call does after `um_datalink_next` returned `next`: 0 for a frame, 10 for the fill frame
-pub record SaysAgain (channel : Option Channel) (next : ℕ) (said_old said : Said) (block_old block : List ℕ) (answer : ℕ) : Type 0 where
+pub record SaysAgain (channel : Option Channel) (next : ℕ) (said_old said : Said) (block_old block : List ℕ) (answer : ℕ)
+    : Type 0 where
   pub frame : (c : Channel) → channel ≡ Some c → next ≡ 0 → KeepsAnswer c said block_old block answer
   pub free : (c : Channel) → channel ≡ Some c → next ≡ 10 → FillsFreeSlot c said_old said block_old block answer
   pub other : (next ≢ 0) × (next ≢ 10) → SaysNothing said_old said block_old block answer
