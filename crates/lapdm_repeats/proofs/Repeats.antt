@@ -1,10 +1,11 @@
 -- What a link does with an RR with F = 0.
-use Rattle.std.proofs.Common.{◌≡◌, ◌∙◌, ap, sym, refl, arith, ℕ, Bool, true, false, ◌||◌, if◌then◌else◌, List, [], ◌∷◌}
+use Rattle.std.proofs.Common.{◌≡◌, ◌∙◌, ap, sym, refl, arith, ℕ, Bool, true, false, ◌||◌, if◌then◌else◌, []}
 use Rattle.lapdm_frame.specs.Content.{Frame}
 use Rattle.lapdm_end.specs.lapdm_window.Ends.{EndpointState, HasWindowOfOne}
 use Rattle.lapdm_end.specs.lapdm_window.Rules.{may_send_next_segment, nr_acknowledges_segment, takes_rr, is_open}
 use Rattle.lapdm_datalink.specs.Links.{LinkState, after_frame, after_received, for_frame, heard_with, ignores, received_notices}
-use Rattle.lapdm_datalink.specs.Links.{received_outcome, renewed_for, with_frame, with_frames, with_outcome}
+use Rattle.lapdm_datalink.specs.Links.{received_outcome, renewed_for, with_outcome}
+use Rattle.lapdm_datalink.proofs.Lemmas.{endpoint_with_frames}
 use Rattle.lapdm_repeats.specs.Repeats.{IsPlainRr, HasSentWhatItMay, ChangesNothing}
 
 pub changes_nothing : (nr : ℕ) (f : Frame) (l : LinkState) → IsPlainRr nr f → HasSentWhatItMay l →
@@ -14,13 +15,6 @@ changes_nothing nr f l rr sent none = grind (arith, rr, sent, none)
 -- the endpoint after an RR
 abbrev after_rr : ℕ → EndpointState → EndpointState
 after_rr nr e = if is_open e.state then (takes_rr nr false e).new_state else e
-
-one_frame : (f : Frame) (l : LinkState) → (with_frame f l).endpoint ≡ l.endpoint
-one_frame f l = grind arith
-
-all_frames : (fs : List Frame) (l : LinkState) → (with_frames fs l).endpoint ≡ l.endpoint
-all_frames [] l = refl
-all_frames (f ∷ fs) l = all_frames fs (with_frame f l) ∙ one_frame f l
 
 renewed : (nr : ℕ) (f : Frame) (l : LinkState) → IsPlainRr nr f → renewed_for f l ≡ l
 renewed nr f l rr = grind (arith, rr)
@@ -42,12 +36,13 @@ taken nr f l rr = chosen (ignores f l) (not_ignored nr f l rr)
     chosen true e = absurd (cc e)
     chosen false e =
         ap (λ (m : LinkState). (with_outcome (received_outcome f m) m).endpoint) (found nr f l rr)
-        ∙ all_frames (received_outcome f l).frames (record l { endpoint = (received_outcome f l).new_state }) ∙ outcome_of_rr nr f l rr
+        ∙ endpoint_with_frames (received_outcome f l).frames (record l { endpoint = (received_outcome f l).new_state }) ∙ outcome_of_rr nr f l rr
 
 endpoint_after : (nr : ℕ) (f : Frame) (l : LinkState) → IsPlainRr nr f → (after_received f l).endpoint ≡ after_rr nr l.endpoint
 endpoint_after nr f l rr = ap (λ (m : LinkState). (after_frame f m).endpoint) (renewed nr f l rr) ∙ taken nr f l rr
 
-heard_after : (nr : ℕ) (f : Frame) (l : LinkState) → IsPlainRr nr f → (after_received f l).heard ≡ (l.heard || is_open l.endpoint.state)
+heard_after : (nr : ℕ) (f : Frame) (l : LinkState) → IsPlainRr nr f →
+    (after_received f l).heard ≡ (l.heard || is_open l.endpoint.state)
 heard_after nr f l rr = grind (arith, rr)
 
 heard_of : (nr : ℕ) (f : Frame) (l : LinkState) → IsPlainRr nr f → heard_with f l ≡ (l.heard || is_open l.endpoint.state)
