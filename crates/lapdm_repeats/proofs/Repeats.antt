@@ -36,7 +36,8 @@ taken nr f l rr = chosen (ignores f l) (not_ignored nr f l rr)
     chosen true e = absurd (cc e)
     chosen false e =
         ap (λ (m : LinkState). (with_outcome (received_outcome f m) m).endpoint) (found nr f l rr)
-        ∙ endpoint_with_frames (received_outcome f l).frames (record l { endpoint = (received_outcome f l).new_state }) ∙ outcome_of_rr nr f l rr
+        ∙ endpoint_with_frames (received_outcome f l).frames (record l { endpoint = (received_outcome f l).new_state })
+        ∙ outcome_of_rr nr f l rr
 
 endpoint_after : (nr : ℕ) (f : Frame) (l : LinkState) → IsPlainRr nr f → (after_received f l).endpoint ≡ after_rr nr l.endpoint
 endpoint_after nr f l rr = ap (λ (m : LinkState). (after_frame f m).endpoint) (renewed nr f l rr) ∙ taken nr f l rr
