@@ -429,6 +429,54 @@ bool um_traffic_restart(um_traffic *traffic) UM_CALL;
  * none is left. UM_TRAFFIC_NONE: the state is not valid. um_slot_end of `sacch` ends the block of SACCH. */
 UM_ENUM(um_heard) um_traffic_end(um_traffic *traffic, um_traffic_block *block) UM_CALL;
 
+/* A sender of a traffic channel: makes of blocks the bursts of FACCH and speech, by their frame numbers.
+ *
+ * Each fourth traffic burst begins a block of four joined bursts, as um_send_block makes them: one of FACCH, or one of speech, whose
+ * stealing flags are 0. At full rate that is a frame of speech, at half rate two of them, which FACCH steals both. The block that was given
+ * last waits for the next such frame; FACCH goes before speech. A burst carries halves of two blocks, and none where neither has one there:
+ * nothing is to be sent then. SACCH is the caller's.
+ *
+ *   if (um_datalink_next(..) has a block) um_traffic_sender_facch(&sender, octets);
+ *   else if (there is speech) um_traffic_sender_speech(&sender, block);
+ *   if (um_traffic_sender_burst(&sender, frame, burst) == UM_SENDING_BURST) transmit(burst); */
+typedef struct um_traffic_sent {
+	uint8_t kind;           /* 0 no block, 1 speech, 2 FACCH */
+	uint8_t bursts[4][148]; /* the joined bursts */
+} um_traffic_sent;
+
+typedef struct um_traffic_sender {
+	uint32_t first;          /* the burst with which `begun` began, counted in traffic bursts of the hyperframe; UM_FRAMES: none */
+	uint8_t channel;         /* um_traffic_channel */
+	uint8_t direction;       /* um_direction */
+	uint8_t tsc;             /* the training sequence code of FACCH */
+	um_traffic_sent waiting; /* the block that begins next */
+	um_traffic_sent begun;   /* the block that began last */
+	um_traffic_sent before;  /* the block before it */
+} um_traffic_sender;
+
+enum UM_OCTET um_sending {
+	UM_SENDING_BURST,      /* the burst is written */
+	UM_SENDING_NOTHING,    /* no block has a half in it: nothing is to be sent; this answer and all below write no burst */
+	UM_SENDING_UNPLACED,   /* the frame is none of the traffic channel: of SACCH, of the other half or idle */
+	UM_SENDING_NONE,       /* the state is not valid */
+	UM_SENDING_NO_FRAME,   /* there is no such frame number */
+	UM_SENDING_LATE        /* this frame is before those of the blocks being sent: more than half a hyperframe after them */
+};
+
+/* Initialises a sender that has no block. False: no such traffic channel or direction, or tsc is above 7. */
+bool um_traffic_sender_new(um_traffic_sender *sender, uint8_t channel, uint8_t direction, uint8_t tsc) UM_NONNULL;
+
+/* Gives a block of FACCH, in place of speech that waits. False: a block of FACCH waits, or the state is not valid. */
+bool um_traffic_sender_facch(um_traffic_sender *sender, const uint8_t octets[23]) UM_CALL;
+
+/* Gives a block of speech, in place of one that waits. False: a block of FACCH waits, which steals its place, or an octet is neither 0 nor
+ * 1. */
+bool um_traffic_sender_speech(um_traffic_sender *sender, const uint8_t block[4][148]) UM_CALL;
+
+/* Writes the burst of a frame. If a block may begin in this frame, the one that waits begins; the halves of no block are zeros. Asked for a
+ * frame again, it writes the same burst. */
+UM_ENUM(um_sending) um_traffic_sender_burst(um_traffic_sender *sender, uint32_t frame, uint8_t burst[148]) UM_CALL;
+
 /* Ciphering (3GPP TS 43.020, C.1): the 114 coded bits of a normal burst, places 3 to 59 and 88 to 144, by a key stream that the caller has
  * (libosmogsm's osmo_a5). Stealing flags, training sequence and tail bits are not ciphered. What is ciphered twice is as it was. */
 

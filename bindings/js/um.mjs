@@ -13,7 +13,8 @@ import { dataLinkFromBytes, newDataLink } from "./datalink.mjs";
 import { Machine } from "./machine.mjs";
 import { detectTraining, newSlot, receiveBlockErasing, slotFromBytes } from "./slot.mjs";
 import {
-  cipherBits, joinFacch, newTraffic, nextFacch, placeTraffic, receiveFacchErasing, softCipher, stealFacch, stealingFlags,
+  cipherBits, joinFacch, newTraffic, newTrafficSender, nextFacch, placeTraffic, receiveFacchErasing, softCipher, stealFacch, stealingFlags,
+  trafficFromBytes, trafficSenderFromBytes,
 } from "./traffic.mjs";
 import { frameOfTime, nextBlock, placeFrame, readBsic, readRa, readSch, timeOfFrame, writeBsic, writeRa, writeSch } from "./tdma.mjs";
 import { CHANNELS, KINDS, Refused, ROLES, SAPIS, UNREAD, VERSION } from "./words.mjs";
@@ -25,7 +26,7 @@ export { TRAFFIC_CHANNELS, TRAFFIC_KINDS, TRAFFIC_REFUSALS, VERSION } from "./wo
 export { End, Side } from "./ends.mjs";
 export { DataLink } from "./datalink.mjs";
 export { Slot } from "./slot.mjs";
-export { Traffic } from "./traffic.mjs";
+export { Traffic, TrafficSender } from "./traffic.mjs";
 export { FRAMES } from "./tdma.mjs";
 
 const FRAME = 28;
@@ -190,6 +191,15 @@ export class Um {
   }
   traffic(channel, options = {}) {
     return newTraffic(this.#machine, channel, membersOf("options", options, ["direction", "timeslot", "words", "erasures", "limit"]));
+  }
+  trafficSender(channel, options = {}) {
+    return newTrafficSender(this.#machine, channel, membersOf("options", options, ["direction", "tsc"]));
+  }
+  trafficFromBytes(octets) {
+    return trafficFromBytes(this.#machine, octets);
+  }
+  trafficSenderFromBytes(octets) {
+    return trafficSenderFromBytes(this.#machine, octets);
   }
   placeTraffic(channel, direction, frame) {
     return placeTraffic(this.#machine, channel, direction, frame);

@@ -1,5 +1,7 @@
 """The cells: frame by frame, in real time, between the base stations and twenty mobiles; and the account of what happened."""
 import collections
+import glob
+import os
 import random
 import selectors
 import time
@@ -11,6 +13,8 @@ from trx import Transceiver
 from watched import BSICS, TSCS, Watched
 
 FRAME = 60 / 13000  # seconds
+CLOCK = 13  # frames between indications of the clock: a base station that did not run for 50 ends itself, unless one waits for it
+SKEW = 50  # a base station begins its frames when the clock is more than this ahead of 0
 LAG = 15  # frames from a burst's time to when it is heard, so that the base station may be late; its answer leaves 28 frames after a block
 
 
@@ -50,7 +54,7 @@ class Cell:
         # how many more calls there may be at each rate: each takes two channels
         self.room = {"full": self.combinations.count("tch_f") // 2, "half": self.combinations.count("tch_h")}
         self.air = Air(options.block, options.burst, options.bit, options.noise)
-        self.last_busy, self.station = 0, None
+        self.last_busy, self.latest, self.station = 0, 0, None
         self.mobiles = [Watched(self, index) for index in range(options.mobiles)]
 
     def log(self, who, text):
@@ -77,7 +81,8 @@ class Cell:
         if fn % 51 == 0:
             self.begin_sessions()
         for station in self.stations:
-            self.tell_time(station)
+            if fn % 51 == 0:
+                self.drop_late(station.radio.bursts)
             station.collect(fn)
         place = um.place_frame(self.combinations[0], "downlink", 0, fn)
         if self.stations[0].bursts[0] and place and place.channel == um.Channel.SCH:
@@ -85,21 +90,17 @@ class Cell:
         up = [[[] for _ in range(8)] for _ in self.stations]
         for mobile in self.mobiles:
             mobile.frame(fn)
-            where, burst = mobile.station, mobile.speak()
-            if burst and mobile.station is where:
-                up[where.number][mobile.tn].append((burst, mobile))
+            burst = mobile.speak()
+            if burst:
+                up[mobile.station.number][mobile.tn].append((burst, mobile))
         for station in self.stations:
             for tn in range(8):
                 self.send_up(station, tn, fn, up[station.number][tn])
 
-    def tell_time(self, station):
-        radio = station.radio
-        if self.fn % 51 or not radio.on:
-            return
-        radio.tell_time(self.now() % um.FRAMES)
-        for late in [place for place in radio.bursts if place[1] < self.fn]:
+    def drop_late(self, bursts):
+        for late in [place for place in bursts if place[1] < self.fn]:
             self.counts["bursts that came too late"] += 1
-            del radio.bursts[late]
+            del bursts[late]
 
     def hear_sync(self, burst, fn):
         """SCH over the air. Ten bits of CRC do not detect all errors, so an accepted burst may be another than was sent."""
@@ -181,18 +182,27 @@ class Cell:
         over = any(station.radio.over for station in self.stations) or (self.station and self.station.poll() is not None)
         return at_work and not over and self.now() * FRAME < self.options.seconds
 
+    def tell_time(self, started):
+        """Tells the base stations the time, in a process of its own. `started` is called in it first."""
+        if os.fork():
+            return
+        started()
+        while True:
+            number = max(self.now(), SKEW) // CLOCK + 1
+            time.sleep(max(0, self.zero + number * CLOCK * FRAME - time.monotonic()))
+            for station in self.stations:
+                station.radio.tell_time(self.now() % um.FRAMES)
+
     def run(self):
         last = -1
         while self.is_running():
             self.serve(max(0, self.zero + (last + 1 + LAG) * FRAME - time.monotonic()))
             for last in range(last + 1, self.now() - LAG + 1):
+                self.latest = max(self.latest, self.now() - LAG - last)
                 self.serve(0)
+                self.fn = last
                 if all(station.radio.on for station in self.stations):
                     self.frame(last % um.FRAMES)
-                else:
-                    self.fn = last
-                    for station in self.stations:
-                        self.tell_time(station)
         self.trace.close()
         return self.account(last)
 
@@ -202,17 +212,22 @@ class Cell:
             key.data()
 
     def account(self, frames):
-        """What happened, as numbers. `blocks` are those of the uplink by um's verdict and the base station's."""
-        bad, reason = set(), ""
-        for line in open("osmo-bts-trx.log", errors="replace"):
-            if "hutting down" in line and not reason:
-                reason = line.strip()
-            if "Received bad data" in line or "Received incomplete" in line:
-                bad.add((int(line.split(",ts=")[1][0]), int(line.split()[2].split("/")[0])))
+        """What happened, as numbers. `blocks` are those of the uplink by um's verdict and the base station's. `missed`: the most frames for
+        which a base station did not run; it ends itself at 50. `latest`: by how many frames this program was late."""
+        bad, reasons, missed = set(), [], 0
+        for name in glob.glob("osmo-bts-trx*.log"):
+            for line in open(name, errors="replace"):
+                if "hutting down" in line:
+                    reasons.append(line.strip())
+                if "expire_count=" in line:
+                    missed = max(missed, int(line.split("expire_count=")[1].split(":")[0]) - 1)
+                if name == "osmo-bts-trx.log" and ("Received bad data" in line or "Received incomplete" in line):
+                    bad.add((int(line.split(",ts=")[1][0]), int(line.split()[2].split("/")[0])))
         blocks = collections.Counter(f"{'a' if ok else 'r'}{'r' if place in bad else 'a'}" for place, ok in self.verdicts.items())
         return {
-            "ended": any(station.radio.over for station in self.stations) or self.station.poll() is not None, "reason": reason,
+            "ended": any(station.radio.over for station in self.stations) or self.station.poll() is not None, "reason": "; ".join(reasons[:1]),
             "unfinished": self.is_busy(), "wrong": self.wrong, "begun": self.begun, "frames": frames, "processor": time.process_time(),
+            "missed": missed, "latest": self.latest,
             "outcomes": [[kind, how, count] for (kind, how), count in sorted(self.outcomes.items())],
             "counts": self.counts, "blocks": blocks,
         }

@@ -1,11 +1,11 @@
 """Runs in a network namespace of its own, as its first process: starts the Osmocom programs and the cell in the working directory, and
 prints the account as JSON. When it ends, the kernel ends all that it started. Its argument is the options, as JSON (runs.py)."""
+import contextlib
 import fcntl
 import json
 import os
 import random
 import re
-import shutil
 import socket
 import sqlite3
 import struct
@@ -18,6 +18,7 @@ HERE = os.path.dirname(os.path.abspath(__file__))
 ROOT = os.path.dirname(os.path.dirname(HERE))
 sys.path[:0] = [os.path.join(ROOT, "bindings", "python"), os.path.join(ROOT, "examples", "network"), HERE]
 SUBSCRIBERS = 100
+CELL, STATION, CLOCK = 1, 2, 3  # realtime priorities: of this process and all others; of base stations; of their clock
 COMBINATIONS = {"bcch_ccch_sdcch4": "CCCH+SDCCH4", "sdcch8": "SDCCH8", "tch_f": "TCH/F", "tch_h": "TCH/H"}
 
 
@@ -27,12 +28,12 @@ def raise_loopback():
         fcntl.ioctl(any_socket, 0x8914, struct.pack("16sH14x", b"lo", 0x41))
 
 
-def start(name, preload, ahead, second=""):
+def start(name, preload, priority, second=""):
     """Starts a program of Osmocom, with its messages in a file."""
     environment = dict(os.environ, LD_PRELOAD=":".join(filter(None, preload)))
     config = f"{name}{second}.cfg"
     with open(f"{name}{second}.log", "wb") as log:
-        return subprocess.Popen([*ahead, name, "-c", config], stdout=log, stderr=log, env=environment)
+        return subprocess.Popen([name, "-c", config], stdout=log, stderr=log, env=environment, preexec_fn=lambda: realtime(priority))
 
 
 def write_configurations(layout):
@@ -60,13 +61,10 @@ def create_subscribers():
         database.executemany("insert into subscriber (imsi, msisdn) values (?, ?)", rows)
 
 
-def realtime():
-    """The words that start a program with realtime priority, for the clock's sake, where that is allowed. This process takes it, too."""
-    words = ("chrt", "-f", "1")
-    if not shutil.which("chrt") or subprocess.run([*words, "true"], capture_output=True).returncode:
-        return ()
-    os.sched_setscheduler(0, os.SCHED_FIFO, os.sched_param(1))
-    return words
+def realtime(priority):
+    """Gives this process a realtime priority, for the clock's sake, where that is allowed."""
+    with contextlib.suppress(PermissionError):
+        os.sched_setscheduler(0, os.SCHED_FIFO, os.sched_param(priority))
 
 
 def main():
@@ -75,10 +73,10 @@ def main():
     raise_loopback()
     create_subscribers()
     write_configurations(options.layout)
-    ahead = realtime()
+    realtime(CELL)
     # osmo-bsc and osmo-msc have a media gateway each: one takes a number of the other's transactions for a repeat of its last one
     for name, second in (("osmo-stp", ""), ("osmo-hlr", ""), ("osmo-mgw", ""), ("osmo-mgw", "-2"), ("osmo-msc", ""), ("osmo-bsc", "")):
-        start(name, [options.sctp], ahead, second)
+        start(name, [options.sctp], CELL, second)
         time.sleep(0.3)
     if not await_line("osmo-bsc.log", "BSSMAP assocation is up", 30):  # the controller's own spelling
         sys.exit("osmo-bsc and osmo-msc did not connect")
@@ -86,9 +84,10 @@ def main():
 
     cell = Cell(options)
     preload = [options.preload if options.station else "", options.sctp]
-    cell.station = start("osmo-bts-trx", preload, ahead)
+    cell.tell_time(lambda: realtime(CLOCK))
+    cell.station = start("osmo-bts-trx", preload, STATION)
     if options.cells > 1:
-        start("osmo-bts-trx", preload, ahead, "-2")
+        start("osmo-bts-trx", preload, STATION, "-2")
     print(json.dumps(cell.run()))
 
 

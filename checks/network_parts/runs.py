@@ -1,6 +1,6 @@
 """Runs of the network, each in a namespace of its own: what checks/network tests, one run with options, one session to read, and a table.
 
-    checks/network [run OPTIONS | show | call | long SESSIONS | calls CALLS]"""
+    checks/network [whole | run OPTIONS | show | call | long SESSIONS | calls CALLS]"""
 import argparse
 import collections
 import concurrent.futures
@@ -11,10 +11,12 @@ import signal
 import subprocess
 import sys
 import tempfile
+import time
 
 INSIDE = os.path.join(os.path.dirname(os.path.abspath(__file__)), "inside.py")
 MEMORY = "/dev/shm"  # the programs wait for each write of their data bases
-TRIES = 3  # of a run that the base station itself ends
+PAUSES = 0, 20, 60  # seconds before each try of a run: what keeps a machine busy may be over then
+LATE = 10  # frames: more is too late for T200 of the mobiles on FACCH
 SIGNALLING = "bcch_ccch_sdcch4" + 7 * " sdcch8"
 TALKING = "bcch_ccch_sdcch4 sdcch8 tch_f tch_f tch_f tch_f tch_h tch_h"
 CROWDED = "bcch_ccch_sdcch4 tch_f tch_f tch_f tch_f tch_f tch_h tch_h"
@@ -79,13 +81,14 @@ DECODERS = ((0, "libosmocoding"), (1, "`um`, one word"), (64, "`um`, 64 words"))
 
 
 class Run:
-    """One run with these options, until it is whole or was tried three times. `results` are the accounts of all tries."""
+    """One run with these options; a try that is void is followed by another. `results` are the accounts of all tries."""
 
-    def __init__(self, given, options):
-        self.options, self.results, self.failure = {**DEFAULTS, **options}, [], ""
-        for number in range(TRIES):
+    def __init__(self, given, options, least=0.0):
+        self.options, self.least, self.results, self.failure = {**DEFAULTS, **options}, least, [], ""
+        for number, pause in enumerate(PAUSES):
+            time.sleep(pause)
             self._start(given, dict(self.options, seed=self.options["seed"] + number))
-            if self.failure or not self.results[-1]["ended"]:
+            if self.failure or self.whole:
                 break
 
     def _start(self, given, options):
@@ -116,12 +119,26 @@ class Run:
 
     @property
     def whole(self):
-        return bool(self.results) and not self.results[-1]["ended"]
+        """Whether the last try is not void: if the base station ended itself, or if something is amiss while the machine was late, so that
+        the mobiles' T200 was too short, it says nothing."""
+        last = self.results[-1] if self.results else {"ended": True}
+        return not last["ended"] and (max(last["missed"], last["latest"]) <= LATE or not self.is_amiss)
+
+    @property
+    def is_amiss(self):
+        complete, number = self.calls
+        return self.results[-1]["wrong"] or self.results[-1]["unfinished"] or self.share < 0.5 or complete < self.least * number
 
     @property
     def wrong(self):
-        """What was wrong in all tries."""
-        return [text for result in self.results for text in result["wrong"]]
+        """What was wrong in the last try."""
+        return self.results[-1]["wrong"] if self.results else []
+
+    @property
+    def calls(self):
+        """The calls that were complete, and all, of the last try."""
+        counts = self.total("counts")
+        return tuple(sum(counts[f"calls at {rate} rate{what}"] for rate in RATES) for what in (" complete", ""))
 
     @property
     def outcomes(self):
@@ -148,27 +165,26 @@ class Run:
 
 
 def told(name, run):
-    """Prints a run in a line or two. Its status: 0, 1 if something is wrong, 77 if the base station ended itself in each try."""
+    """Prints a run in a line or two. Its status: 0, 1 if something is wrong, 77 if each try was void."""
     counts = run.outcomes
     others = ", ".join(f"{count} {how}" for how, count in counts.most_common() if how != "complete")
     print(f"network: {name}: {counts['complete']} sessions complete ({others or 'no other'}), {len(run.wrong)} wrong; "
           f"{run.total('counts')['short messages received']} short messages received; "
           f"the base station rejected {100 * run.rejected():.1f} % of the uplink's blocks")
-    ended = sum(result["ended"] for result in run.results)
-    if ended and run.whole:
-        print(f"network: {name}: the base station ended itself in {ended} tries before (load {os.getloadavg()[0]:.0f}): "
-              + run.results[0]["reason"])
+    if run.failure or not run.results:
+        print(f"network: {name}: the network did not start or the run failed: {run.failure}")
+        return 1
+    for result in run.results[: len(run.results) - run.whole]:
+        print(f"network: {name}: a try is void, {'the base station ended itself' if result['ended'] else 'something was amiss'}: it missed "
+              f"{result['missed']} frames at once, the cell was {result['latest']} frames late (load {os.getloadavg()[0]:.0f}); "
+              + "; ".join([result["reason"], *result["wrong"][:3]]))
+    if not run.whole:
+        print(f"network: skipped: machine too busy: each of {len(PAUSES)} tries was void: {name}")
+        return 77
     for text in run.wrong[:20]:
         print("  wrong: " + text)
     if run.wrong:
         return 1
-    if run.failure or not run.results:
-        print(f"network: {name}: the network did not start or the run failed: {run.failure}")
-        return 1
-    if not run.whole:
-        print(f"network: skipped: machine too busy: the base station ended itself in each of {TRIES} tries of: {name}: "
-              + run.results[-1]["reason"])
-        return 77
     if run.results[-1]["unfinished"]:
         print(f"network: {name}: sessions were not over after {run.options['seconds']:.0f} s")
         return 1
@@ -178,13 +194,13 @@ def told(name, run):
     return 0
 
 
-def told_calls(name, run, least):
-    """Prints what became of the calls. Its status: 1 if fewer than this share are complete."""
+def told_calls(name, run):
+    """Prints what became of the calls. Its status: 1 if too few are complete."""
     counts = run.total("counts")
-    complete, number = (sum(counts[f"calls at {rate} rate{what}"] for rate in RATES) for what in (" complete", ""))
+    complete, number = run.calls
     print(f"network: {name}: " + ", ".join(calls_of(counts, rate) for rate in RATES) + f"; {counts['handovers begun']} handovers begun, "
           f"{counts['returns to the old channel']} returns, {counts['speech frames of the other']} frames of speech heard")
-    return int(complete < least * number or number < 5)
+    return int(complete < run.least * number or number < 5)
 
 
 def calls_of(counts, rate):
@@ -208,12 +224,14 @@ def calls_table(given):
 
 def check(given):
     statuses, is_quick = set(), os.environ.get("QUICK") == "quick"
-    for name, options, *least in QUICK + QUICK_CALLS if is_quick else FULL + CALLS:
+    for name, options, *least in (QUICK if is_quick else FULL) + (CALLS if given.what == "whole" else QUICK_CALLS):
         if options.get("station") and not given.preload:
             print(f"network: skipped: {name}: no make or no cc here")
             continue
-        run = Run(given, options)
-        status = told(name, run) or (told_calls(name, run, *least) if least else 0)
+        begun = time.monotonic()
+        run = Run(given, options, *least)
+        print(f"network: {name}: {time.monotonic() - begun:.0f} s")
+        status = told(name, run) or (told_calls(name, run) if least else 0)
         saved, lost = run.saved()
         if status == 0 and options.get("station") and not least:
             print(f"network: {name}: it accepted {saved} of the {lost} blocks that are lost with one word")
@@ -255,7 +273,7 @@ def tables(given):
 
 def act(given):
     """The status of what is asked for."""
-    if given.what == "check":
+    if given.what in ("check", "whole"):
         return check(given)
     if given.what in ("long", "calls"):
         return tables(given) if given.what == "long" else calls_table(given)
@@ -273,11 +291,11 @@ def act(given):
 
 def main():
     signal.signal(signal.SIGTERM, lambda *_: sys.exit(1))
-    usage = "checks/network [run OPTIONS | show | call | long SESSIONS | calls CALLS]"
+    usage = "checks/network [whole | run OPTIONS | show | call | long SESSIONS | calls CALLS]"
     parser = argparse.ArgumentParser(prog="checks/network", usage=usage, formatter_class=argparse.RawDescriptionHelpFormatter,
                                      description=__doc__.split("\n")[0])
-    parser.add_argument("what", nargs="?", choices=("check", "run", "show", "call", "long", "calls"), default="check",
-                        help="run: one run with options; show: one mobile, message by message; call: a call; long, calls: the tables")
+    parser.add_argument("what", nargs="?", choices=("check", "whole", "run", "show", "call", "long", "calls"), default="check",
+                        help="whole: with all runs of calls, before a release; run: one run with options; show: one mobile, message by message; call: a call; long, calls: the tables")
     parser.add_argument("number", nargs="?", type=int, help="of long: sessions of the tables (2000); of calls: calls of each row (50)")
     for name in ("own", "work", "sctp", "preload"):
         parser.add_argument("--" + name, help=argparse.SUPPRESS)

@@ -113,6 +113,10 @@ class Watched(Mobile):
             same = same and (sent.subchannel == block.subchannel or self.channel.combination == "tch_h")
             self.expect(same, f"{name}: {octets.hex()} at {at}, sent {sent}")
 
+    def _signalling(self, block):
+        self.cell.counts[f"I frames heard with P = 1 on {self.channel.name}"] += block[1] & 0x11 == 0x10
+        super()._signalling(block)
+
     def heard_slow(self, frame):
         known = any(message[1:].startswith(frame.info) for message in self.station.rsl.filling)
         self.expect(frame.kind == "ui" and known, f"sacch: {frame}")
@@ -184,6 +188,7 @@ class Watched(Mobile):
         elif how == "refused" and opened:
             how = "refused, though the network had opened the link"
         self.cell.outcomes[self.kind, how] += 1
+        self.cell.counts[f"frames of complete sessions: {self.kind}"] += self.fn - self.since if how == "complete" else 0
         if self.kind == "call":
             self.cell.counts[f"calls at {self.rate} rate"] += 1
             self.cell.counts[f"calls at {self.rate} rate complete"] += how == "complete"
@@ -196,6 +201,7 @@ class Watched(Mobile):
     def sends(self, name, frame):
         is_again = frame.kind == "i" and frame.pf or frame.kind in ("sabm", "disc") and frame.kind == self.sent_kind.get(name)
         self.cell.counts[f"T200 expired on {name}"] += bool(is_again)
+        self.cell.counts[f"RR sent on {name}"] += frame.kind == "rr"
         self.sent_kind[name] = frame.kind
         super().sends(name, frame)
 

@@ -103,7 +103,9 @@ class Mobile:
             return self._access() if self.channel.may_access(self.fn) else None
         if self.access is not None:
             return self._burst(self.access) if self.channel.is_main(self.fn) else None
-        return self.channel.speak(self.fn, self.tsc, self._next_block)
+        channel = self.channel
+        burst = channel.speak(self.fn, self.tsc, self._next_block)
+        return burst if self.channel is channel else None  # a notice may have moved the mobile to another
 
     def _burst(self, ra):
         return um.send_access(um.write_ra(ra), um.write_bsic(self.bsic)).ljust(148, b"\0")
@@ -259,6 +261,8 @@ class Mobile:
             return self.ended(how)
         if sent.free:
             block, self.spare = self.spare, None
+            if block:
+                self.sends(self.channel.name, um.read_frame(block))
             return block or (None if self.channel.is_speech else sent.block)
         frame = um.read_frame(sent.block)
         self.sends(self.channel.name, frame)

@@ -15,7 +15,6 @@ use Rattle.lapdm_frame.specs.Frames.{FrameFits, octets_of}
 use Rattle.lapdm_frame.specs.Readings.{IsOnlyEncodedFrame}
 use Rattle.lapdm_end.specs.lapdm_window.declared.effects.Effects.{Effects}
 use Rattle.lapdm_end.specs.lapdm_window.declared.State.{State}
-use Rattle.lapdm_end.specs.lapdm_window.declared.Refused.TheVariants.{NotIdle}
 use Rattle.lapdm_end.specs.lapdm_window.Ends.{EndpointState, Outcome, awaits_answer, IsValidEndpoint, Role, sapi_number}
 use Rattle.lapdm_end.specs.Addresses.{spec_role_of}
 use Rattle.lapdm_end.specs.lapdm_window.Calls.{Call, OpensWithoutInfo, T200Expires, refusal_of, call_outcome, IsCallAllowedForEndpoint}
@@ -34,7 +33,6 @@ use Rattle.lapdm_datalink.specs.Links.{is_sapi3}
 use Rattle.lapdm_datalink.specs.Links.{may_be_established, for_establishment, after_establishment}
 use Rattle.lapdm_datalink.specs.DataLinks.{DataLinkState, IsDataLink, with_sapi3, link_with_sapi, with_link, having_heard}
 use Rattle.lapdm_datalink.specs.DataLinks.{with_clocks_moved, on_sapi0}
-use Rattle.lapdm_datalink.specs.DataLinks.{data_link_outcome}
 use Rattle.lapdm_end.specs.lapdm_window.declared.Sapi.TheVariants.{Zero, Three}
 use Rattle.lapdm_datalink.specs.Links.{afresh, for_call, for_frame, after_call, after_frame, ignores, received_outcome, slot_outcome}
 use Rattle.lapdm_end.specs.lapdm_window.declared.Sapi.{Sapi}
@@ -180,7 +178,7 @@ pub record HasAddressOf (x : EndpointValues) (e : EndpointState) : Type 0 where
   pub sapi : x.sapi ≡ e.sapi
   pub channel : x.window.channel ≡ e.channel
 
-address_of_values : (x : EndpointValues) (e : EndpointState) → P.ValuesRepresent x e → HasAddressOf x e
+pub address_of_values : (x : EndpointValues) (e : EndpointState) → P.ValuesRepresent x e → HasAddressOf x e
 address_of_values x e h = record {
   role = sym (ap (λ (y : EndpointValues). spec_role_of y.role) h.values_match) ∙ h.represents.address.role;
   sapi = sym (ap (λ (y : EndpointValues). y.sapi) h.values_match) ∙ h.represents.address.sapi;
@@ -381,13 +379,6 @@ module _ (l : LinkState) where
   pub found_normal : l.endpoint.sapi ≡ Zero → may_be_established l.endpoint.state ≡ true → for_establishment l ≡ as_normal l
   found_normal h g = rw (h, g) refl
 
-  pub found_called : l.endpoint.sapi ≡ Three → for_establishment l ≡ for_call OpensWithoutInfo l
-  found_called h = rw h refl
-
-  pub found_busy : l.endpoint.sapi ≡ Zero → may_be_established l.endpoint.state ≡ false →
-      refusal_of OpensWithoutInfo (for_establishment l).endpoint ≡ Some NotIdle
-  found_busy h g = grind (arith, h, g)
-
   allowed_establishment : refusal_of OpensWithoutInfo (for_establishment l).endpoint ≡ None →
       (for_establishment l).endpoint.sapi ≡ Three
   allowed_establishment ok = grind (arith, ok)
@@ -495,17 +486,6 @@ valid_with_flags heard main s h = record {
 
 pub valid_clocks : (s : DataLinkState) → IsDataLink s → IsDataLink (with_clocks_moved s)
 valid_clocks s h = grind arith
-
-pub valid_slot : (s : DataLinkState) → IsDataLink s → IsDataLink (data_link_outcome s).new_state
-valid_slot s h = by_frame (slot_outcome (with_clocks_moved s).link0).frame
-  where
-    by_frame : (sent : Option Frame) →
-        IsDataLink (with_sapi3 (slot_outcome (with_clocks_moved s).link0) sent (with_clocks_moved s)).new_state
-    by_frame (Some f) = replaced Zero _ (with_clocks_moved s) (valid_clocks s h) (same_slot (with_clocks_moved s).link0)
-    by_frame None =
-        let m = with_clocks_moved s in
-        replaced Three _ (with_link Zero (slot_outcome m.link0).link m) (replaced Zero _ m (valid_clocks s h) (same_slot m.link0))
-        (same_slot m.link3)
 
 -- what follows from a call that is not refused follows once its refusal is known to be none
 pub on_ok_known : {A E P Q : Type 0} (r : Result A E) → (result_err r ≡ None → P → Q) → OnOk r P → OnOk r Q

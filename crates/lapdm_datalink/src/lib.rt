@@ -5,6 +5,7 @@
 mod data_links;
 mod laws;
 mod links;
+mod outlook;
 mod parts;
 
 pub use data_links::{DataLink, Establishment, Slot, holds_up_sapi3};
@@ -15,4 +16,5 @@ pub use laws::{
     law_slot_is_a_step_of_the_endpoint,
 };
 pub use links::{Link, LinkSlot, any_on_sapi0};
-pub use parts::{DataLinkView, LinkView, are_of_one_data_link};
+pub use outlook::Outlook;
+pub use parts::{DataLinkView, LinkView};

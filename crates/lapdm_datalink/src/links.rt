@@ -52,7 +52,6 @@ ghost use Rattle.lapdm_datalink.specs.Links.{
   ui_frame,
   is_unnumbered_answer,
   ignores,
-  after_slot,
   is_due,
   is_plain_rr,
   sabm_goes_first,
@@ -62,8 +61,7 @@ ghost use Rattle.lapdm_datalink.specs.Links.{
   sends_due_frame,
   slot_outcome,
 };
-ghost use Rattle.lapdm_datalink.specs.DataLinks.{DataLinkState, takes_sapi3, sapi_for_frame, on_sapi0};
-ghost use Rattle.lapdm_datalink.specs.Parts.{acts_in_slot};
+ghost use Rattle.lapdm_datalink.specs.DataLinks.{on_sapi0};
 ghost use Rattle.lapdm_datalink.specs.Abstraction.{channel_of, role_of, sapi_of, Represents, MayBeReturned, notices_if};
 
 use lapdm_end::{Call, Channel, Effects, Endpoint, MessageBuffer, Refused, Role, Sapi, State};
@@ -591,35 +589,6 @@ impl Link {
         effects.frames.clear();
     }
 
-    // Returns whether the data link of this link of SAPI 0 takes frames of SAPI 3.
-    fn takes_sapi3(&self, is_main_established: bool) -> bool
-        ensures { (s : DataLinkState) → Represents self.now s.link0 → is_main_established ≡ s.is_main_established
-            → result ≡ takes_sapi3 s }
-    {
-        match (self.endpoint.role(), self.endpoint.channel()) {
-            (Role::Network, _) => true,
-            (Role::Mobile, Channel::Sdcch) => match self.endpoint.state() {
-                State::Open | State::Closing => true,
-                State::Idle | State::Opening | State::Closed => false,
-            },
-            (Role::Mobile, Channel::Sacch) => is_main_established,
-        }
-    }
-
-    /// Returns the SAPI of the link that takes a frame received by the data link of this link of SAPI 0, or `None` if it is dropped.
-    pub fn sapi_for(&self, frame: &FrameView<'_>, is_main_established: bool) -> Option<Sapi>
-        ensures { (s : DataLinkState) → Represents self.now s.link0 → is_main_established ≡ s.is_main_established
-            → result ≡ sapi_for_frame (frame_of_view frame.now) s }
-    {
-        if frame.sapi == 0 {
-            return Some(Sapi::Zero);
-        }
-        if frame.sapi == 3 && self.takes_sapi3(is_main_established) {
-            return Some(Sapi::Three);
-        }
-        None
-    }
-
     /// Returns the messages that were passed to the link and are not completely acknowledged, oldest first.
     pub fn unacked(&self) -> &[MessageBuffer]
         ensures { (l : LinkState) → Represents self.now l → map octets_in_buffer result.now ≡ unacked_messages l.endpoint }
@@ -634,18 +603,6 @@ impl Link {
         self.endpoint.sapi()
     }
 
-    pub fn role(&self) -> Role
-        ensures { spec_role_of result ≡ role_of self.now }
-    {
-        self.endpoint.role()
-    }
-
-    pub fn channel(&self) -> Channel
-        ensures { result ≡ channel_of self.now }
-    {
-        self.endpoint.channel()
-    }
-
     /// Encodes a UI frame, for a slot that is free.
     pub fn unit(&self, message: &[u8]) -> Result<[u8; BLOCK_OCTETS], Refused>
         ensures refusal { (l : LinkState) → Represents self.now l → result_err result ≡ refusal_of (SendsUi message.now) l.endpoint }
@@ -655,32 +612,10 @@ impl Link {
         self.endpoint.ui_block(message)
     }
 
-    /// Counts a slot, unless it does not count.
-    pub fn count_slot_unless(&mut self, is_stopped: bool)
-        ensures represents { (l : LinkState) → Represents self.old l → Represents self.new (if is_stopped then l else after_slot l) }
-        ensures role { role_of self.new ≡ role_of self.old }
-        ensures sapi { sapi_of self.new ≡ sapi_of self.old }
-        ensures channel { channel_of self.new ≡ channel_of self.old }
-    {
-        if !is_stopped && self.clock > 0 {
-            self.clock -= 1;
-        }
-    }
-
     fn is_due(&self) -> bool
         ensures { (l : LinkState) → Represents self.now l → result ≡ is_due l }
     {
         self.clock == 0 && self.endpoint.awaits_answer()
-    }
-
-    /// Returns whether the link sends a frame or is given up in a slot that it may use: it owes an answer, or its frame is due.
-    pub fn acts_in_slot(&self) -> bool
-        ensures { (l : LinkState) → Represents self.now l → result ≡ acts_in_slot l }
-    {
-        match self.answer {
-            Some(_) => true,
-            None => self.is_due(),
-        }
     }
 
     // Returns whether the own SABM was not sent yet, so that it goes before the UA to the SABM of the other side.

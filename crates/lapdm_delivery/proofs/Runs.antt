@@ -274,10 +274,6 @@ module _ (e : Establishment) {c : RunState} {log : List LogLine} (r : Role) (all
   own0 : moved.link0.endpoint.sapi ≡ k
   own0 = own_sapi k0.link
 
-  lines0 : (s : Sapi) (ms : List Notice) → lines_of s (sapi_of_endpoint e s) (map (Notified r Zero) ms ++ map (Notified r Three) [])
-      ≡ lines_of s (sapi_of_endpoint e s) (map (Notified r Zero) ms)
-  lines0 s ms = rw append-nil refl
-
   slot_of : (a : Option Frame) → slot0.frame ≡ a → (s : Sapi) → IsSlotOf s (with_sapi3 slot0 a moved)
   slot_of (Some f) is Zero =
       let on_f : is_on k f ≡ true = rw is at (slot_frame-on k0) in

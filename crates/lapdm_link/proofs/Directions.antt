@@ -148,7 +148,8 @@ module _ {ps : List Segment} {a s : ℕ} {qs : List Segment} {there back : List 
       IsDirection ps a s qs there (d ∷ back)
   number_as says h = direction (climbs-first says h.acknowledged) h.carried h.window h.in_range h.in_order
 
-  pub segment_as : {c d : Content} → ((k : ℕ) → CarriesIn ps k c → CarriesIn ps k d) → IsDirection ps a s qs (c ∷ there) back →
+  pub segment_as : {c d : Content} → ((k : ℕ) → CarriesIn ps k c → CarriesIn ps k d) →
+      IsDirection ps a s qs (c ∷ there) back →
       IsDirection ps a s qs (d ∷ there) back
   segment_as says h = direction h.acknowledged (climbs-first says h.carried) h.window h.in_range h.in_order
 

@@ -29,7 +29,8 @@ use Rattle.{
     segmenting.Segments.Message,
   },
   std.proofs.Common.{Bool, List, Option, Some, [], append_assoc, ap, arith, false, inl, inr, length, refl, true, ℕ, ◌++◌, ◌+◌},
-  std.proofs.{Common.{◌∙◌, ◌∷◌, ◌≡◌, ◌≤◌}, lemmas.{Bool.Decides.nat_tests, List.{Elements.filter_map-append, append-nil, length-append}}},
+  std.proofs.{Common.{◌∙◌, ◌∷◌, ◌≡◌, ◌≤◌}, lemmas.List.{Elements.filter_map-append, append-nil, length-append}},
+  std.proofs.lemmas.Bool.Decides.nat_tests,
   std.specs.List.cons_option,
 }
 use Rattle.lapdm_link.specs.Claims as C
@@ -216,11 +217,8 @@ AllLinks-lost : (sender : Role) (w : World) (ls : List LogLine) → AllLinks w l
 AllLinks-lost Mobile w ls h = AllLinks-by_role Network (without_oldest_item Mobile w) ls (λ s. Links-first_lost _ s w ls (h _ s))
 AllLinks-lost Network w ls h = AllLinks-by_role Mobile (without_oldest_item Network w) ls (λ s. Links-first_lost _ s w ls (h _ s))
 
-on_sapi : (s : Sapi) (f : Frame) → is_on s f ≡ true → f.sapi ≡ sapi_number s
-on_sapi s f on = grind (arith, nat_tests)
-
-same_sapi : (s t : Sapi) {n : ℕ} → n ≡ sapi_number s → n ≡ sapi_number t → t ≡ s
-same_sapi s t h g = grind arith
+one_sapi : (s t : Sapi) (f : Frame) → is_on s f ≡ true → f.sapi ≡ sapi_number t → t ≡ s
+one_sapi s t f on h = grind (arith, nat_tests)
 
 -- what is read for a frame that was sent keeps the invariant of its link
 IsLink-read : (r : Role) (s : Sapi) (w : World) (ls : List LogLine) (f g : Frame) (gs : List Frame) → is_on s f ≡ true →
@@ -238,7 +236,7 @@ IsLink-read r s w ls f g gs on (dm_for_any sapi content) h =
 IsLink-read r s w ls f g gs on (without_ack t is same) h =
     let on_sent : is_on s g ≡ true = rw same at on in
     let rr = first-rr (side r s w ls) (side (other r) s w ls) g.content (contents_on s gs) (h on_sent) in
-    rw (same, same_sapi s t (on_sapi s g on_sent) is)
+    rw (same, one_sapi s t g on_sent is)
     (first-nr (side r s w ls) (side (other r) s w ls) (rej_replaced_by_rr g.content) (contents_on s gs) rr)
 
 IsLink-frame_arrived : (r : Role) (s : Sapi) (w : World) (ls : List LogLine) (f : Frame) (fs : List Frame) → way (other r) w ≡ fs →

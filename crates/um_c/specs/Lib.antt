@@ -16,4 +16,5 @@ pub mod SlotCalls
 pub mod FacchReports
 pub mod TrafficPlaces
 pub mod TrafficCalls
+pub mod SenderCalls
 pub mod Version

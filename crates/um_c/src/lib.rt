@@ -9,6 +9,7 @@
 mod blocks;
 mod bursts;
 mod ciphers;
+mod datalink_calls;
 mod datalinks;
 mod effects;
 mod ends;
@@ -30,6 +31,7 @@ mod states;
 mod times;
 mod traffic;
 mod traffic_places;
+mod traffic_senders;
 mod version;
 
 pub use datalinks::{
