@@ -75,7 +75,6 @@ def main():
     raise_loopback()
     create_subscribers()
     write_configurations(options.layout)
-    is_realtime = realtime(CELL)
     # osmo-bsc and osmo-msc have a media gateway each: one takes a number of the other's transactions for a repeat of its last one
     for name, second in (("osmo-stp", ""), ("osmo-hlr", ""), ("osmo-mgw", ""), ("osmo-mgw", "-2"), ("osmo-msc", ""), ("osmo-bsc", "")):
         start(name, [options.sctp], CELL, second)
@@ -85,6 +84,7 @@ def main():
     from cell import Cell
 
     cell = Cell(options)
+    is_realtime = realtime(CELL)  # not before: the noise takes a second to make
     preload = [options.preload if options.station else "", options.sctp]
     cell.tell_time(lambda: realtime(CLOCK))
     cell.station = start("osmo-bts-trx", preload, STATION)

@@ -306,7 +306,8 @@ def main():
     parser = argparse.ArgumentParser(prog="checks/network", usage=usage, formatter_class=argparse.RawDescriptionHelpFormatter,
                                      description=__doc__.split("\n")[0])
     parser.add_argument("what", nargs="?", choices=("check", "whole", "run", "show", "call", "long", "calls"), default="check",
-                        help="whole: with all runs of calls, before a release; run: one run with options; show: one mobile, message by message; call: a call; long, calls: the tables")
+                        help="whole: with all runs of calls, before a release; run: one run with options; show: one mobile, message by "
+                             "message; call: a call; long, calls: the tables")
     parser.add_argument("number", nargs="?", type=int, help="of long: sessions of the tables (2000); of calls: calls of each row (50)")
     for name in ("own", "work", "sctp", "preload"):
         parser.add_argument("--" + name, help=argparse.SUPPRESS)
