@@ -1,5 +1,5 @@
--- Frames in transit of one link: what is on the air and what waits is a subsequence of a queue of `lapdm_link`, but for DM frames with which
--- the link refuses a SABM: each stands for a DISC there.
+-- Frames in transit of one link: what is on the air and what waits is a subsequence of a queue of `lapdm_link`, but for the DM frames that
+-- refuse a SABM: each stands for a DISC there.
 use Rattle.{
   lapdm_link.proofs.{
     Lemmas.{◌≡◌, refl, arith, ◌++◌, Bool, true, false, List, [], ◌∷◌, ◌&&◌, append_assoc, append-nil},
@@ -121,7 +121,8 @@ module _ (air : List Frame) where
       rw (one_on fs f q) at (pending-answers fs m (q ++ f ∷ []) g.1 now) in
       by_kind (is_awaiting_kind f.content) g.0 later
     where
-      by_kind : (b : Bool) → b ≡ false → IsCovered (air ++ pending (with_frames fs (record l { answer = Some f }))) (q ++ f ∷ fs) →
+      by_kind : (b : Bool) → b ≡ false →
+          IsCovered (air ++ pending (with_frames fs (record l { answer = Some f }))) (q ++ f ∷ fs) →
           IsCovered (air ++ pending (with_frames fs (if b then record l { is_sent = false; clock = 0 } else record l { answer = Some f })))
           (q ++ f ∷ fs)
       by_kind true e later = absurd cc

@@ -1,7 +1,8 @@
 -- States of a session of `lapdm_link` with one event after another, in queues of unlimited length.
 use Rattle.{
   lapdm_link.{
-    proofs.Lemmas.{◌≡◌, refl, ◌++◌, true, List, [], ◌∷◌, map, nat_eq, None, Some, Frame, Channel, Role, Mobile, Network, Call, Sapi},
+    proofs.Lemmas.{◌≡◌, refl, ◌++◌, true, List, [], ◌∷◌, map, nat_eq, None, Some, Frame, Channel, Role, Call, Sapi},
+    proofs.Lemmas.{Mobile, Network},
     proofs.Lemmas.{call_outcome, refusal_of, frame_outcome, sapi_number, other, LogLine, Asked, Notified, World, inl, inr, initial_world},
     proofs.Lemmas.{end_of, way, acted, without_oldest_item, IsPlaced, AllFit, All-head, FrameFits, arith},
     specs.{Events.{BothSides, unbounded_capacity}, Worlds.IsOldestSentOrReplaced},

@@ -12,7 +12,8 @@ returns-clause-done c l h =
     let f = frame_of_view c.args.frame.now in
     let taken = as_taken f l.endpoint in
     let fits : FrameFits l.endpoint.channel taken = taken_fits _ f l.endpoint (rw h.endpoint.address.channel at c.requires) in
-    outcome_kept c.args.self.now c.keep_all.new.self c.take_frame_into.new.self c.take_frame_into.new.effects l (frame_outcome taken l.endpoint)
+    outcome_kept c.args.self.now c.keep_all.new.self c.take_frame_into.new.self c.take_frame_into.new.effects l
+    (frame_outcome taken l.endpoint)
     (keeps-frame taken l.endpoint h.endpoint.valid fits) (returns-frame taken l.endpoint) h
     ((rw (c.with_rr_for_rej.ensures, c.sapi_number.ensures ∙ ap sapi_number (c.sapi.ensures.represents l.endpoint h.endpoint)) at
     c.take_frame_into.ensures.refines) l.endpoint h.endpoint)
