@@ -7,7 +7,8 @@ use Rattle.{
     Tables.{Reply, TakesIFrame, TakesRr, outcome_of_reply, is_command},
   },
   lapdm_datalink.{
-    specs.{Links.{link_reply, with_outcome, LinkState, SlotOutcome, slot_outcome, ignores, is_due, first_frame, is_awaiting_kind}, Slots.expires_in},
+    specs.{Links.{with_outcome, LinkState, SlotOutcome, slot_outcome, ignores, is_due, first_frame, is_awaiting_kind}, Slots.expires_in},
+    specs.Links.link_reply,
     specs.Slots.{nr_in, nr_of},
     proofs.Answering.{IsSlot, sabm_first, idles, answering, repeating, expiring, is_slot, slot_keeps},
   },

@@ -17,7 +17,8 @@ use Rattle.{
     proofs.lapdm_link.Lemmas.{counts_of, each_start, each_way, end_of, ends_do, is_end, order_of, with_frames, without_oldest_item},
     specs.{
       lapdm_link.{Carriers.FirstSatisfies, Claims.{AckedAtMostDelivered, Claims, HasNoticesInOrder, LogLine, is_same_role, is_same_sapi}},
-      lapdm_link.{Events.{other, rival_sabm, unbounded_capacity}, Queues.{Queues, with_items_appended}, Worlds.{IsOldestSentOrReplaced, as_sent, rr_for_rej}},
+      lapdm_link.{Events.{other, rival_sabm, unbounded_capacity}, Queues.{Queues, with_items_appended},
+          Worlds.{IsOldestSentOrReplaced, as_sent, rr_for_rej}},
       lapdm_link.Worlds.{World, answer, initial_world, rej_replaced_by_rr},
       lapdm_window.{
         Calls.{Call, IsCallAllowedForEndpoint, OpensWithoutInfo, Opens, call_outcome, refusal_of},
@@ -260,8 +261,8 @@ module _ {Sound : Type 0} {channel : Channel} {a : ProgramState} {ls : List LogL
         let o = frame_outcome f (end_of r s w) in
         let c = carried answers_block l left refl h.states (loses h.reached (other r)) fewer f only in
         let read : Sound → IsOldestSentOrReplaced (other (other r)) w.ends (Some f) (W.queue_of (other r) w.queues) =
-        λ sound. first (other (other r)) f block only.frame (W.queue_of (other r) w.queues) (W.queue_of (other r) a.queues) (h.coded (other r))
-        (delivers sound) in
+        λ sound. first (other (other r)) f block only.frame (W.queue_of (other r) w.queues) (W.queue_of (other r) a.queues)
+        (h.coded (other r)) (delivers sound) in
         acts l (TakesOldestBlock r s block answer output) o left h.states fewer refl c (takes h.reached r s f on (only.frame.fits, read))
         (rw (c.answer_is_0, output-notices c) refl)
     by_link f only false off = passes_by answers_block l left refl h.states (loses h.reached (other r)) fewer f only off
