@@ -8,7 +8,8 @@ use Rattle.{
     },
     specs.Channels.{Pair, Turn, may_open, after_slot, after_calls, after_arriving, before_sending, IsUse},
   },
-  std.specs.Prelude.{◌≡◌, ℕ, ◌≤◌, Bool, true, false, if◌then◌else◌, ◌&&◌, ◌⊎◌, List, [], ◌∷◌, Option, None, All, IfSome},
+  std.specs.Prelude.{◌≡◌, ℕ, ◌≤◌, Bool, true, false, ◌&&◌, ◌⊎◌, List, [], ◌∷◌, Option, None, All, IfSome},
+  std.specs.Prelude.if◌then◌else◌,
   std.proofs.Common.{inl, inr, arith, refl, ap, sym, ◌∙◌, subst},
   lapdm_frame.specs.Content.{Content, I, Rr, Rej, Frame},
   lapdm_end.specs.lapdm_window.{
