@@ -22,7 +22,8 @@ use Rattle.lapdm_end.specs.lapdm_window.Calls.{awaited_frame, t200_expiry, IsCal
 use Rattle.lapdm_link.proofs.Lemmas.{AllOf, IsReplyTo, cause_of, is_on, of-append}
 use Rattle.lapdm_delivery.specs.Lockstep.{after_call_unless}
 use Rattle.lapdm_datalink.specs.Links.{LinkState, SlotOutcome, is_awaiting_kind, with_frame, with_frames, with_outcome, afresh, for_call}
-use Rattle.lapdm_datalink.specs.Links.{IsLinkCall, after_frame, received_outcome, ignores, refuses, is_reopened_by_call, is_reopened_by_frame}
+use Rattle.lapdm_datalink.specs.Links.{IsLinkCall, after_frame, received_outcome}
+use Rattle.lapdm_datalink.specs.Links.{ignores, refuses, is_reopened_by_call, is_reopened_by_frame}
 use Rattle.lapdm_datalink.specs.Links.{is_numbered, first_frame, is_sabm_that_opened, is_return, renewed_for, heard_with, after_received}
 use Rattle.lapdm_datalink.specs.Links.{received_notices, slot_outcome, as_taken, as_normal, is_opening, is_opening_content, is_sapi3}
 use Rattle.lapdm_datalink.specs.Links.{is_opened_with_contention, frame_notices}
