@@ -101,6 +101,7 @@ _CALLS: Dict[str, Tuple[Any, Tuple[Any, ...]]] = {
     "um_datalink_main": (_U8, (_POINTER, _BOOL)),
     "um_datalink_take": (_U8, (_POINTER, _POINTER, _POINTER)),
     "um_datalink_next": (_U8, (_POINTER, _POINTER, _POINTER, _POINTER)),
+    "um_say_again": (_U8, (_POINTER, _U8, _U32, _POINTER)),
 }
 
 
