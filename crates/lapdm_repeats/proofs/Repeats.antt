@@ -93,7 +93,8 @@ module _ (nr : ℕ) (f g : Frame) (l : LinkState) (rr : IsRr nr f l) (again : Is
       ∙ once l.heard (is_open l.endpoint.state)
       ∙ sym (heard_after nr f l rr)
 
-  pub second_changes_nothing : HasWindowOfOne l.endpoint → HasSentWhatItMay l → after_received g (after_received f l) ≡ after_received f l
+  pub second_changes_nothing : HasWindowOfOne l.endpoint → HasSentWhatItMay l →
+      after_received g (after_received f l) ≡ after_received f l
   second_changes_nothing window sent =
       let m = after_received f l in
       (second window sent).link ∙ ap (λ (heard : Bool). let x : LinkState = record m { heard = heard } in x) heard_again

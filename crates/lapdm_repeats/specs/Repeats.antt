@@ -1,5 +1,5 @@
--- An RR acknowledges segments (GSM 04.06, sections 3.8.5 and 5.5.3). Unless it is a poll it says nothing else, and one that comes again says
--- nothing the second time.
+-- An RR acknowledges segments (GSM 04.06, sections 3.8.5 and 5.5.3). Unless it is a poll it says nothing else, and one that comes again
+-- says nothing the second time.
 use Rattle.std.specs.Prelude.{◌≡◌, ℕ, Bool, false, ◌&&◌, []}
 use Rattle.lapdm_frame.specs.Content.{Frame, Rr}
 use Rattle.lapdm_end.specs.lapdm_window.Rules.{may_send_next_segment}
