@@ -1,5 +1,6 @@
 #!/usr/bin/env bash
-# Many sessions between um and libosmogsm, and of each with itself; what T200 costs; blocks and bursts through both codecs.
+# Many sessions between um and libosmogsm, and of each with itself; what T200 costs, and a second RR is worth; blocks and bursts through
+# both codecs.
 #
 #   measure.sh [SESSIONS]     of each of 32 kinds (3000); takes some minutes
 #
@@ -42,6 +43,12 @@ for delay in 1 2 3; do
   for pair in uu uo; do
     "$work/early" $pair 0 $delay $((2 * delay - 1))
     "$work/early" $pair 0 $delay $((2 * delay))
+  done
+done
+for loss in "50 50" "100 100" "200 200" "200 50" "350 50"; do
+  for again in 0 1 2; do
+    # shellcheck disable=SC2086  # up and down
+    "$work/twice" $again $loss 1 40000
   done
 done
 "$work/scenes" <bench/interop/scenes.txt

@@ -803,6 +803,17 @@ UM_ENUM(um_answer) um_datalink_take(um_datalink *link, const uint8_t block[23], 
  * frame. The report has the links that were given up (UM_ENDED, UM_FAILED). */
 UM_ENUM(um_answer) um_datalink_next(um_datalink *link, const uint8_t layer1[2], uint8_t block[23], um_report *report) UM_CALL;
 
+/* An answer said twice: an RR that is lost costs the other side a T200, and one that comes twice changes nothing there. */
+typedef struct um_said {
+	uint8_t waits;     /* whether `block` waits for a free slot; any value but 0 means yes. A struct of zeros: nothing was said */
+	uint8_t block[23]; /* a block with an RR with F = 0 */
+} um_said;
+
+/* After um_datalink_next, which returned `next` and wrote `block`: an RR with F = 0 goes once more into the next slot, if that is free. It
+ * returns UM_END_DONE if `block` has a frame now, UM_END_FREE if it has the fill frame. UM_END_NONE: there is no such channel, or `next` is
+ * neither of these two; nothing is written then. */
+UM_ENUM(um_answer) um_say_again(um_said *said, uint8_t channel, uint32_t next, uint8_t block[23]) UM_CALL;
+
 #ifdef __cplusplus
 }
 #endif

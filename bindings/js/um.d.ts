@@ -182,6 +182,8 @@ export class Um {
    * the options say "normal", for the channel of an assignment or a handover.
    */
   dataLink(role: Role, options?: { channel?: Channel; t200?: number; t200Sapi3?: number; establishment?: Establishment }): DataLink;
+  /** The last answer of a new data link, to say it twice. */
+  lastAnswer(): LastAnswer;
   /** Restores a data link from `link.toBytes()`. Throws Refused with the reason "noend" if the state is not valid. */
   dataLinkFromBytes(octets: Octets): DataLink;
 
@@ -405,4 +407,14 @@ export class DataLink {
   next(layer1?: Octets): Sent;
   /** Whether nothing waits for a slot and no frame awaits an answer, so that each next slot is free until a call or a block changes it. */
   readonly idle: boolean;
+}
+
+/**
+ * The last answer of a data link, which goes once more into the next slot if that is free: an RR that is lost costs the other side a T200,
+ * and one that comes twice changes nothing there. Make one for each data link, and call its `next` in place of that of the data link.
+ */
+export class LastAnswer {
+  private constructor();
+  /** The block for this slot, as `DataLink.next` says it. */
+  next(link: DataLink, layer1?: Octets): Sent;
 }

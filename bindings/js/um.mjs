@@ -9,7 +9,7 @@
 
 import { bitsOf, integer, membersOf, octetsOf, place, putBits, putOctets, shown } from "./arguments.mjs";
 import { END, End, restored, Side } from "./ends.mjs";
-import { dataLinkFromBytes, newDataLink } from "./datalink.mjs";
+import { dataLinkFromBytes, newDataLink, newLastAnswer } from "./datalink.mjs";
 import { Machine } from "./machine.mjs";
 import { detectTraining, newSlot, receiveBlockErasing, slotFromBytes } from "./slot.mjs";
 import {
@@ -24,7 +24,7 @@ export { CHANNELS, ESTABLISHMENTS, KINDS, NOTICES, REASONS, REFUSALS, Refused, R
 export { COMBINATIONS, DIRECTIONS, LOGICAL_CHANNELS, SLOT_REFUSALS } from "./words.mjs";
 export { TRAFFIC_CHANNELS, TRAFFIC_KINDS, TRAFFIC_REFUSALS, VERSION } from "./words.mjs";
 export { End, Side } from "./ends.mjs";
-export { DataLink } from "./datalink.mjs";
+export { DataLink, LastAnswer } from "./datalink.mjs";
 export { Slot } from "./slot.mjs";
 export { Traffic, TrafficSender } from "./traffic.mjs";
 export { FRAMES } from "./tdma.mjs";
@@ -231,6 +231,9 @@ export class Um {
 
   dataLink(role, options = {}) {
     return newDataLink(this.#machine, role, options);
+  }
+  lastAnswer() {
+    return newLastAnswer(this.#machine);
   }
   dataLinkFromBytes(octets) {
     return dataLinkFromBytes(this.#machine, octets);

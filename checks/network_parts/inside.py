@@ -62,9 +62,11 @@ def create_subscribers():
 
 
 def realtime(priority):
-    """Gives this process a realtime priority, for the clock's sake, where that is allowed."""
+    """Gives this process a realtime priority, for the clock's sake, where that is allowed. Returns whether it is."""
     with contextlib.suppress(PermissionError):
         os.sched_setscheduler(0, os.SCHED_FIFO, os.sched_param(priority))
+        return True
+    return False
 
 
 def main():
@@ -73,7 +75,6 @@ def main():
     raise_loopback()
     create_subscribers()
     write_configurations(options.layout)
-    realtime(CELL)
     # osmo-bsc and osmo-msc have a media gateway each: one takes a number of the other's transactions for a repeat of its last one
     for name, second in (("osmo-stp", ""), ("osmo-hlr", ""), ("osmo-mgw", ""), ("osmo-mgw", "-2"), ("osmo-msc", ""), ("osmo-bsc", "")):
         start(name, [options.sctp], CELL, second)
@@ -83,12 +84,13 @@ def main():
     from cell import Cell
 
     cell = Cell(options)
+    is_realtime = realtime(CELL)  # not before: the noise takes a second to make
     preload = [options.preload if options.station else "", options.sctp]
     cell.tell_time(lambda: realtime(CLOCK))
     cell.station = start("osmo-bts-trx", preload, STATION)
     if options.cells > 1:
         start("osmo-bts-trx", preload, STATION, "-2")
-    print(json.dumps(cell.run()))
+    print(json.dumps(dict(cell.run(), realtime=is_realtime)))
 
 
 main()

@@ -85,11 +85,13 @@ class Run:
 
     def __init__(self, given, options, least=0.0):
         self.options, self.least, self.results, self.failure = {**DEFAULTS, **options}, least, [], ""
+        begun = time.monotonic()
         for number, pause in enumerate(PAUSES):
             time.sleep(pause)
             self._start(given, dict(self.options, seed=self.options["seed"] + number))
             if self.failure or self.whole:
                 break
+        self.seconds = time.monotonic() - begun
 
     def _start(self, given, options):
         environment = dict(os.environ, UM_OSMO_AMONG=str(options["station"] or 1))
@@ -129,6 +131,12 @@ class Run:
         complete, number = self.calls
         return self.results[-1]["wrong"] or self.results[-1]["unfinished"] or self.share < 0.5 or complete < self.least * number
 
+    def void(self):
+        """Why each void try was."""
+        for result in self.results[: len(self.results) - self.whole]:
+            yield (f"a try is void, {'the base station ended itself' if result['ended'] else 'something was amiss'}: {lateness(result)}; "
+                   + "; ".join([result["reason"], *result["wrong"][:3]]))
+
     @property
     def wrong(self):
         """What was wrong in the last try."""
@@ -164,6 +172,12 @@ class Run:
         return blocks["ra"], blocks["ra"] + blocks["rr"]
 
 
+def lateness(result):
+    """How late the programs were in a try."""
+    return (f"a base station missed up to {result['missed']} frames at once, the cell was up to {result['latest']} late, "
+            f"{'with' if result['realtime'] else 'without'} realtime priority, load {os.getloadavg()[0]:.0f}")
+
+
 def told(name, run):
     """Prints a run in a line or two. Its status: 0, 1 if something is wrong, 77 if each try was void."""
     counts = run.outcomes
@@ -174,10 +188,9 @@ def told(name, run):
     if run.failure or not run.results:
         print(f"network: {name}: the network did not start or the run failed: {run.failure}")
         return 1
-    for result in run.results[: len(run.results) - run.whole]:
-        print(f"network: {name}: a try is void, {'the base station ended itself' if result['ended'] else 'something was amiss'}: it missed "
-              f"{result['missed']} frames at once, the cell was {result['latest']} frames late (load {os.getloadavg()[0]:.0f}); "
-              + "; ".join([result["reason"], *result["wrong"][:3]]))
+    print(f"network: {name}: {run.seconds:.0f} s; {lateness(run.results[-1])}")
+    for text in run.void():
+        print(f"network: {name}: {text}")
     if not run.whole:
         print(f"network: skipped: machine too busy: each of {len(PAUSES)} tries was void: {name}")
         return 77
@@ -228,9 +241,7 @@ def check(given):
         if options.get("station") and not given.preload:
             print(f"network: skipped: {name}: no make or no cc here")
             continue
-        begun = time.monotonic()
         run = Run(given, options, *least)
-        print(f"network: {name}: {time.monotonic() - begun:.0f} s")
         status = told(name, run) or (told_calls(name, run) if least else 0)
         saved, lost = run.saved()
         if status == 0 and options.get("station") and not least:
@@ -243,8 +254,8 @@ def check(given):
 def long_run(given, options):
     """A run for a table; its details are printed on standard error."""
     run = Run(given, dict(options, seconds=60 + 3 * options["sessions"]))
-    print(f"{options}: {len(run.wrong)} wrong; tries {len(run.results)}; load {os.getloadavg()[0]:.1f}; "
-          f"{dict(run.total('counts'))}; {dict(run.total('blocks'))}", *run.wrong, sep="\n  wrong: ", file=sys.stderr, flush=True)
+    print(f"{options}: {len(run.wrong)} wrong; {'; '.join(map(lateness, run.results))}; "
+          f"{dict(run.total('counts'))}; {dict(run.total('blocks'))}", *run.wrong, *run.void(), sep="\n  ", file=sys.stderr, flush=True)
     return run
 
 
@@ -295,7 +306,8 @@ def main():
     parser = argparse.ArgumentParser(prog="checks/network", usage=usage, formatter_class=argparse.RawDescriptionHelpFormatter,
                                      description=__doc__.split("\n")[0])
     parser.add_argument("what", nargs="?", choices=("check", "whole", "run", "show", "call", "long", "calls"), default="check",
-                        help="whole: with all runs of calls, before a release; run: one run with options; show: one mobile, message by message; call: a call; long, calls: the tables")
+                        help="whole: with all runs of calls, before a release; run: one run with options; show: one mobile, message by "
+                             "message; call: a call; long, calls: the tables")
     parser.add_argument("number", nargs="?", type=int, help="of long: sessions of the tables (2000); of calls: calls of each row (50)")
     for name in ("own", "work", "sctp", "preload"):
         parser.add_argument("--" + name, help=argparse.SUPPRESS)

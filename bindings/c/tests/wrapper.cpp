@@ -564,6 +564,17 @@ static void establishments()
 	um::datalink none(um::role::mobile, um::channel::sdcch, um::establishment{2}, 4, 6);
 	check(none.establish(zero) == um::answer::noend, "no such kind of establishment");
 
+	// an answer is said twice: RR with N(R) = 1
+	sides = fresh;
+	um::last_answer last;
+	check(sides[0].establish(zero) == um::answer::ok && run(sides, 4) == opened, "open");
+	check(sides[1].send(zero, {'P'}) == um::answer::ok && sides[0].take(sides[1].next().block), "the network sends");
+	const auto first = last.next(sides[0]);
+	const auto second = last.next(sides[0]);
+	check(begins(first.block, {0x01, 0x21, 0x01}) && first.block == second.block && !second.is_free, "said twice");
+	const auto acked = sides[1].take(second.block);
+	check(last.next(sides[0]).is_free && acked && acked.notices().size() == 1, "not three times; the second acknowledges");
+
 	// a mobile comes back to the channel that it opened by contention
 	sides = ends{um::datalink(um::role::mobile), um::datalink(um::role::network)};
 	check(sides[0].open({1, 2}) == um::answer::ok && run(sides, 4) == opened, "by contention");

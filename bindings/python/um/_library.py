@@ -13,8 +13,8 @@ _NAME, _SYSTEM = _SYSTEMS.get(platform.system(), ("libum.so.0", "linux"))
 _FOLDER = platform.machine().replace("AMD64", "x86_64") + "-" + _SYSTEM
 _MAKE = (
     ("" if sys.maxsize > 2**32 else "\nThis Python has 32 bits, and the libraries of dist/ have 64.") +
-    "\nA release has it in dist/" + _FOLDER + ", and the wheel contains it. In the repository, on a little-endian machine of 64 bits for which"
-    " dist/ has none, 'make build' builds it there with clang."
+    "\nA release has it in dist/" + _FOLDER + ", and the wheel contains it. In the repository, on a little-endian machine of 64 bits for"
+    " which dist/ has none, 'make build' builds it there with clang."
     "\nThe environment variable UM_SO overrides the path."
 )
 
@@ -101,6 +101,7 @@ _CALLS: Dict[str, Tuple[Any, Tuple[Any, ...]]] = {
     "um_datalink_main": (_U8, (_POINTER, _BOOL)),
     "um_datalink_take": (_U8, (_POINTER, _POINTER, _POINTER)),
     "um_datalink_next": (_U8, (_POINTER, _POINTER, _POINTER, _POINTER)),
+    "um_say_again": (_U8, (_POINTER, _U8, _U32, _POINTER)),
 }
 
 

@@ -241,7 +241,7 @@ module _ {Sound : Type 0} {channel : Channel} {a : ProgramState} {ls : List LogL
       AllZip (IsFrameCoding channel) fs os → FirstSatisfies (λ sent. EncodeSameFrame channel sent block) os →
       IsOldestSentOrReplaced r w.ends (Some f) fs
   first r f block is (g ∷ gs) (o ∷ os) same sent = elim (sent g same.0) [
-    | inl same ↦ as_sent (same_frame channel block f g is same)
+    | inl is_sent ↦ as_sent (same_frame channel block f g is is_sent)
     | inr rr ↦ rr_for_rej (same_frame channel block f (record g { content = rej_replaced_by_rr g.content }) is rr)
   ]
   first r f block is fs [] same sent = absurd sent

@@ -8,6 +8,7 @@ pub mod Effects
 pub mod EndCalls
 pub mod SideCalls
 pub mod DataLinkCalls
+pub mod AnswerCalls
 pub mod Joined
 pub mod DataLinkRuns
 pub mod Opening

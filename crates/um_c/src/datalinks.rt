@@ -69,7 +69,7 @@ use lapdm_datalink::{
 use lapdm_end::{Effects, MessageBuffer, Notice, Role, Sapi};
 use lapdm_frame::{BLOCK_OCTETS, Body, Channel, FrameView, read_on};
 
-const SLOT_IS_FREE: u32 = 10;
+pub(crate) const SLOT_IS_FREE: u32 = 10;
 
 const MOBILE_FILL_ON_SDCCH: [u8; BLOCK_OCTETS] = [
     0x01, 0x03, 0x01, 0x2b, 0x2b, 0x2b, 0x2b, 0x2b, 0x2b, 0x2b, 0x2b, 0x2b, 0x2b, 0x2b, 0x2b, 0x2b,

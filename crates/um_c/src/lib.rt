@@ -6,6 +6,7 @@
 //! An answer is a number of 32 bits, below 256, so that a caller reads it right whether it takes an enum to have one octet or four.
 #![tactic(auto)]
 
+mod answers;
 mod blocks;
 mod bursts;
 mod ciphers;

@@ -346,7 +346,7 @@ skipped_end_line Network held =
     ((λ _ _ _ (bits, _, is, _, none). rw (is, none) (λ q. cc)) & (λ _ _ _ (octets, _, is, _, none). rw (is, none) (λ q. cc))
     & (λ _ _ _ none. rw none (λ q. cc))
     & (λ _ _ _ _ q. cc) & (λ _ _ _ _ q. cc) & (λ _ _ _ _ q. cc) & (λ _ _ _ _ q. cc) & (λ _ _ _ _ q. cc) & (λ _ _ _ _ q. cc)
-    & (λ _ _ _ _ q. cc) & (λ _ _ _ _ q. cc) & (λ _ _ _ _ q. cc) & (λ _ _ _ _ q. cc) & (λ _ _ _ _ q. cc) & tt)
+    & (λ _ _ _ _ q. cc) & (λ _ _ _ _ q. cc) & (λ _ _ _ _ q. cc) & (λ _ _ _ _ q. cc) & tt)
 
 -- what holds of the result for a line that is not skipped
 pub end_parsed : (role : Role) (held : ℕ) (line : List ℕ) (result : Result EndCommandLine LineFault) →

@@ -3,8 +3,8 @@ use Rattle.lapdm_frame.specs.{declared.Channel.{Channel}, Content.{frame_of_view
 use Rattle.um_c.proofs.OneLink.{both, one_channel, passed_to0, passed_to3}
 use Rattle.um_c.proofs.datalinks.pass_frame.Goals as goal
 
-pub pass_frame_to-requires-in-Some-Zero : goal.pass_frame_to-requires-in-Some-Zero
-pass_frame_to-requires-in-Some-Zero c l h =
+pub pass_frame_to-requires : goal.pass_frame_to-requires
+pass_frame_to-requires c l h =
     let s = c.requires.some.0 in
     let g = both c.args.data_link.now s c.requires.some.1 in
     subst (λ (ch : Channel). FrameFits ch (frame_of_view c.args.frame.now)) (one_channel c.args.data_link.now.link0 s.link0 l g.link0 h)

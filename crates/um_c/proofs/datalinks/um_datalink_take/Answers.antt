@@ -7,8 +7,8 @@ use Rattle.um_c.proofs.DataLinkCalls.{receives_by_7}
 use Rattle.um_c.proofs.OneLink.{receives, receives_none, taken, passed_empty_ui, no_reports}
 use Rattle.um_c.proofs.datalinks.um_datalink_take.Goals as goal
 
-pub pass_frame-requires-fits : goal.pass_frame-requires-fits
-pass_frame-requires-fits c s h = rw ((c.in-Some.ensures.outlook s h).channel) at c.in-Ok.ensures.frame.frame.fits
+pub pass_frame-requires-clause-fits : goal.pass_frame-requires-clause-fits
+pass_frame-requires-clause-fits c s h = rw ((c.in-Some.ensures.outlook s h).channel) at c.in-Ok.ensures.frame.frame.fits
 
 pub returns : goal.returns
 returns c =
