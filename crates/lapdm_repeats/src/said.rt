@@ -1,10 +1,10 @@
 //! What a side keeps of its last answer, to say it once more.
-ghost use Rattle.std.specs.Prelude.{◌≡◌, ◌↔◌, Bool, IsTrue};
-ghost use Rattle.lapdm_frame.specs.Content.{content_of_body};
-ghost use Rattle.lapdm_datalink.specs.Links.{is_plain_rr};
-ghost use Rattle.lapdm_repeats.specs.Said.{EncodesPlainRr, nothing_said, said_after};
+ghost use Rattle.std.specs.Prelude.{◌≡◌};
+ghost use Rattle.lapdm_frame.specs.Content.{Frame};
+ghost use Rattle.lapdm_frame.specs.Frames.{IsFrameCoding};
+ghost use Rattle.lapdm_repeats.specs.Said.{nothing_said, said_after};
 
-use lapdm_frame::{BLOCK_OCTETS, Body, Channel, read_on};
+use lapdm_frame::{BLOCK_OCTETS, Body, Channel, FrameView, read_on, write_on};
 
 /// The last answer of a side, while it waits to be said once more. A caller may copy it, or save and restore it.
 #[repr(C)]
@@ -27,34 +27,25 @@ impl Said {
         }
     }
 
-    /// Returns what waits after this block was sent: the block, if it has an RR with F = 0.
+    /// Returns what waits after this block was sent: an RR with F = 0 if the block has an RR, and nothing otherwise.
     pub fn after(channel: Channel, block: &[u8; BLOCK_OCTETS]) -> Said
-        ensures { (rr : Bool) → (IsTrue rr ↔ EncodesPlainRr channel block.now) → result ≡ said_after rr block.now }
+        ensures frame { (f : Frame) → IsFrameCoding channel f block.now → result ≡ said_after channel f }
+        ensures no_frame { ((f : Frame) → ¬ IsFrameCoding channel f block.now) → result ≡ nothing_said }
     {
-        if is_plain_rr(channel, block) {
-            return Said {
-                waits: 1,
-                block: *block,
-            };
+        let Ok(frame) = read_on(block, channel) else {
+            return Said::nothing();
+        };
+        let Body::Rr { nr, .. } = frame.body else {
+            return Said::nothing();
+        };
+        let again = FrameView {
+            sapi: frame.sapi,
+            cr: frame.cr,
+            body: Body::Rr { nr, pf: false },
+        };
+        Said {
+            waits: 1,
+            block: write_on(&again, channel),
         }
-        Said::nothing()
-    }
-}
-
-fn is_plain_rr(channel: Channel, block: &[u8; BLOCK_OCTETS]) -> bool
-    ensures { IsTrue result ↔ EncodesPlainRr channel block.now }
-{
-    match read_on(block, channel) {
-        Err(_) => false,
-        Ok(frame) => is_plain(&frame.body),
-    }
-}
-
-fn is_plain(body: &Body<'_>) -> bool
-    ensures { result ≡ is_plain_rr (content_of_body body.now) }
-{
-    match *body {
-        Body::Rr { pf, .. } => !pf,
-        _ => false,
     }
 }

@@ -1,9 +1,11 @@
 -- What the call that says an answer twice returns and writes.
-use Rattle.std.specs.Prelude.{◌≡◌, ◌↔◌, ◌≢◌, ℕ, Bool, List, take, Option, Some, None, IsTrue}
+use Rattle.std.specs.Prelude.{◌≡◌, ◌≢◌, ℕ, List, take, Option, Some, None}
 use Rattle.std.specs.Prelude.{if◌then◌else◌, nat_eq}
 use Rattle.lapdm_frame.specs.declared.Channel.{Channel}
 use Rattle.lapdm_repeats.specs.declared.said.Said.{Said}
-use Rattle.lapdm_repeats.specs.Said.{EncodesPlainRr, nothing_said, said_after}
+use Rattle.lapdm_frame.specs.Content.{Frame}
+use Rattle.lapdm_frame.specs.Frames.{IsFrameCoding}
+use Rattle.lapdm_repeats.specs.Said.{nothing_said, said_after}
 use Rattle.um_c.specs.DataLinkCalls.{with_layer1}
 
 -- nothing is written, and the call returns 7
@@ -12,9 +14,10 @@ pub record SaysNothing (said_old said : Said) (block_old block : List ℕ) (answ
   pub block_is : block ≡ block_old
   pub answer_is : answer ≡ 7
 
--- a block with a frame was sent: it waits if it has an RR with F = 0
+-- a block was sent: if it has an RR, the same with F = 0 waits
 pub record KeepsAnswer (channel : Channel) (said : Said) (block_old block : List ℕ) (answer : ℕ) : Type 0 where
-  pub said_is : (rr : Bool) → (IsTrue rr ↔ EncodesPlainRr channel block_old) → said ≡ said_after rr block_old
+  pub said_is : (f : Frame) → IsFrameCoding channel f block_old → said ≡ said_after channel f
+  pub no_frame : ((f : Frame) → ¬ IsFrameCoding channel f block_old) → said ≡ nothing_said
   pub block_is : block ≡ block_old
   pub answer_is : answer ≡ 0
 
