@@ -1,5 +1,6 @@
 """Functions that the checks in Python share, as those in common.sh."""
 import os
+import re
 import shutil
 import subprocess
 import sys
@@ -20,6 +21,11 @@ def skip_all(reason):
     """Ends a check that tested nothing."""
     skip("everything", reason)
     sys.exit(77)
+
+
+def is_asked(part):
+    """Whether a part of a check is to run: if UM_PART is set, only those whose names it matches, as `runs` of common.sh has it."""
+    return bool(re.search(os.environ.get("UM_PART", ""), part))
 
 
 def needs(*tools):

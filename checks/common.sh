@@ -44,7 +44,17 @@ runs() {
     cat "$work/log"
     echo "$check: $what: failed"
     failed=1
+    return 1
   fi
+}
+
+# needed WHAT COMMAND..: runs a part that others need: it runs whatever UM_PART is, and with one it says nothing unless it fails
+needed() {
+  if [ -z "$UM_PART" ]; then
+    runs "$@"
+    return
+  fi
+  "${@:2}" >"$work/log" 2>&1 || { cat "$work/log"; echo "$check: $1: failed"; failed=1; return 1; }
 }
 
 # skip PART REASON: tells that a part of the check is left out; checks/run counts such lines, and checks/may_skip lists some

@@ -9,6 +9,7 @@ script and the WebAssembly module are embedded with gzip and base64. Needs only 
 import argparse
 import base64
 import gzip
+import hashlib
 import pathlib
 import re
 
@@ -22,6 +23,11 @@ EXPORT = re.compile(r"^export (?:const|class) ([\w$]+)", re.M)
 
 def packed(octets):
     return base64.b64encode(gzip.compress(octets, 9, mtime=0)).decode()
+
+
+def named(script):
+    """A script as the page's Content-Security-Policy names it."""
+    return f"'sha256-{base64.b64encode(hashlib.sha256(script.encode()).digest()).decode()}'"
 
 
 def bundled(path, names):
@@ -49,10 +55,13 @@ def main():
     asked.add_argument("out", nargs="?", type=pathlib.Path, default=HERE.parent / "docs" / "playground.html")
     said = asked.parse_args()
     page = (HERE / "page.html").read_text(encoding="utf-8")
+    code = bundled(HERE / "main.mjs", {})
+    loader = re.search(r'<script type="module">(.*?)</script>', page, re.S).group(1)
     for mark, text in (
         ("/*STYLE*/", (HERE / "style.css").read_text(encoding="utf-8").strip()),
         ("/*WASM*/", packed(said.wasm.read_bytes())),
-        ("/*CODE*/", packed(bundled(HERE / "main.mjs", {}).encode())),
+        ("/*CODE*/", packed(code.encode())),
+        ("/*SCRIPTS*/", f"{named(loader)} {named(code)}"),
     ):
         page = page.replace(mark, text)
     size = len(page.encode())

@@ -429,6 +429,54 @@ bool um_traffic_restart(um_traffic *traffic) UM_CALL;
  * none is left. UM_TRAFFIC_NONE: the state is not valid. um_slot_end of `sacch` ends the block of SACCH. */
 UM_ENUM(um_heard) um_traffic_end(um_traffic *traffic, um_traffic_block *block) UM_CALL;
 
+/* A sender of a traffic channel: makes of blocks the bursts of FACCH and speech, by their frame numbers.
+ *
+ * Each fourth traffic burst begins a block of four joined bursts, as um_send_block makes them: one of FACCH, or one of speech, whose
+ * stealing flags are 0. At full rate that is a frame of speech, at half rate two of them, which FACCH steals both. The block that was given
+ * last waits for the next such frame; FACCH goes before speech. A burst carries halves of two blocks, and none where neither has one there:
+ * nothing is to be sent then. SACCH is the caller's.
+ *
+ *   if (um_datalink_next(..) has a block) um_traffic_sender_facch(&sender, octets);
+ *   else if (there is speech) um_traffic_sender_speech(&sender, block);
+ *   if (um_traffic_sender_burst(&sender, frame, burst) == UM_SENDING_BURST) transmit(burst); */
+typedef struct um_traffic_sent {
+	uint8_t kind;           /* 0 no block, 1 speech, 2 FACCH */
+	uint8_t bursts[4][148]; /* the joined bursts */
+} um_traffic_sent;
+
+typedef struct um_traffic_sender {
+	uint32_t first;          /* the burst with which `begun` began, counted in traffic bursts of the hyperframe; UM_FRAMES: none */
+	uint8_t channel;         /* um_traffic_channel */
+	uint8_t direction;       /* um_direction */
+	uint8_t tsc;             /* the training sequence code of FACCH */
+	um_traffic_sent waiting; /* the block that begins next */
+	um_traffic_sent begun;   /* the block that began last */
+	um_traffic_sent before;  /* the block before it */
+} um_traffic_sender;
+
+enum UM_OCTET um_sending {
+	UM_SENDING_BURST,      /* the burst is written */
+	UM_SENDING_NOTHING,    /* no block has a half in it: nothing is to be sent; this answer and all below write no burst */
+	UM_SENDING_UNPLACED,   /* the frame is none of the traffic channel: of SACCH, of the other half or idle */
+	UM_SENDING_NONE,       /* the state is not valid */
+	UM_SENDING_NO_FRAME,   /* there is no such frame number */
+	UM_SENDING_LATE        /* this frame is before those of the blocks being sent: more than half a hyperframe after them */
+};
+
+/* Initialises a sender that has no block. False: no such traffic channel or direction, or tsc is above 7. */
+bool um_traffic_sender_new(um_traffic_sender *sender, uint8_t channel, uint8_t direction, uint8_t tsc) UM_NONNULL;
+
+/* Gives a block of FACCH, in place of speech that waits. False: a block of FACCH waits, or the state is not valid. */
+bool um_traffic_sender_facch(um_traffic_sender *sender, const uint8_t octets[23]) UM_CALL;
+
+/* Gives a block of speech, in place of one that waits. False: a block of FACCH waits, which steals its place, or an octet is neither 0 nor
+ * 1. */
+bool um_traffic_sender_speech(um_traffic_sender *sender, const uint8_t block[4][148]) UM_CALL;
+
+/* Writes the burst of a frame. If a block may begin in this frame, the one that waits begins; the halves of no block are zeros. Asked for a
+ * frame again, it writes the same burst. */
+UM_ENUM(um_sending) um_traffic_sender_burst(um_traffic_sender *sender, uint32_t frame, uint8_t burst[148]) UM_CALL;
+
 /* Ciphering (3GPP TS 43.020, C.1): the 114 coded bits of a normal burst, places 3 to 59 and 88 to 144, by a key stream that the caller has
  * (libosmogsm's osmo_a5). Stealing flags, training sequence and tail bits are not ciphered. What is ciphered twice is as it was. */
 
@@ -661,7 +709,8 @@ UM_ENUM(um_answer) um_side_take(um_side *side, const uint8_t octets[23], uint8_t
  * The SABM of the other side opens again a link that is open here, once an I, RR, RNR or REJ was received; before that, it is a repeat. At
  * a network a SABM without information opens the link of SAPI 0 again at once if the mobile had opened it with some: the mobile returns.
  * So a second UM_OPENED without UM_ENDED between says that the other side has opened the link again. What was not acknowledged is gone, and
- * so is what the other side sent before and this side did not receive. Layer 3 sends again what it still wants to send.
+ * so is what the other side sent before and this side did not receive. Layer 3 sends again what it still wants to send. A SABM that
+ * arrives while the link is being released here is refused: the other side reports UM_ENDED, UM_REFUSED, and may open again.
  *
  * At a mobile, a frame of SAPI 3 is dropped while SAPI 0 is not established: on SDCCH the data link knows; on SACCH the caller says it
  * with um_datalink_main. */
@@ -753,6 +802,17 @@ UM_ENUM(um_answer) um_datalink_take(um_datalink *link, const uint8_t block[23], 
 /* Writes the block for this slot. UM_END_DONE: a frame of SAPI 0 or 3. UM_END_FREE: nothing is to be sent, and the block is the fill
  * frame. The report has the links that were given up (UM_ENDED, UM_FAILED). */
 UM_ENUM(um_answer) um_datalink_next(um_datalink *link, const uint8_t layer1[2], uint8_t block[23], um_report *report) UM_CALL;
+
+/* An answer said twice: an RR that is lost costs the other side a T200, and one that comes twice changes nothing there. */
+typedef struct um_said {
+	uint8_t waits;     /* whether `block` waits for a free slot; any value but 0 means yes. A struct of zeros: nothing was said */
+	uint8_t block[23]; /* a block with an RR with F = 0 */
+} um_said;
+
+/* After um_datalink_next, which returned `next` and wrote `block`: an RR goes once more, with F = 0, into the next slot if that is free. It
+ * returns UM_END_DONE if `block` has a frame now, UM_END_FREE if it has the fill frame. UM_END_NONE: there is no such channel, or `next` is
+ * neither of these two; nothing is written then. */
+UM_ENUM(um_answer) um_say_again(um_said *said, uint8_t channel, uint32_t next, uint8_t block[23]) UM_CALL;
 
 #ifdef __cplusplus
 }

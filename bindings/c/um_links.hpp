@@ -133,5 +133,21 @@ private:
 	um_datalink plain;
 };
 
+// The last answer of a data link, which goes once more into the next slot if that is free: an RR that is lost costs the other side a T200,
+// and one that comes twice changes nothing there. One for each data link; call its next() in place of that of the data link.
+class last_answer {
+public:
+	sent_block next(datalink &link, std::array<std::uint8_t, 2> layer1 = {})
+	{
+		sent_block sent = link.next(layer1);
+		if (sent.report)
+			sent.is_free = um_say_again(&said, number(link.channel()), number(sent.report.why()), sent.block.data()) == UM_END_FREE;
+		return sent;
+	}
+
+private:
+	um_said said{};
+};
+
 } // namespace um
 #endif

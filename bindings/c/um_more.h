@@ -139,6 +139,13 @@ static inline const char *um_heard_name(unsigned heard)
 	return UM_NAME(names, heard);
 }
 
+/* A um_sending: what a sender of a traffic channel answers. */
+static inline const char *um_sending_name(unsigned sending)
+{
+	static const char *const names[] = { "burst", "nothing", "unplaced", "nosender", "noframe", "late" };
+	return UM_NAME(names, sending);
+}
+
 #undef UM_NAME
 
 /* Whether values that should be soft bits are hard bits: all are 0 or 1, and one is 1. Test all values of a call at once, such as the 592
@@ -184,13 +191,15 @@ static inline bool um_datalink_idle(const um_datalink *link)
 	       !um_end_timer_runs(&link->link3.end);
 }
 
-/* Saved states: the form that all languages read (docs/LIBRARY.md, Save a state). It is the head "umE1", "umS1", "umT2" or "umL2", then
- * the fields in the order of um.h without padding, each number least significant octet first. */
+/* Saved states: the form that all languages read (docs/LIBRARY.md, Save a state). It is the head "umE1", "umS1", "umT2", "umC1",
+ * "umO1" or "umL2", then the fields in the order of um.h without padding, each number least significant octet first. */
 
 enum { UM_HEAD_OCTETS = 4, UM_FIELD_OCTETS = 2581 };
 #define UM_END_OCTETS 2585
 #define UM_SIDE_OCTETS 5166
 #define UM_SLOT_OCTETS 611
+#define UM_TRAFFIC_OCTETS 1809
+#define UM_TRAFFIC_SENDER_OCTETS 1790
 #define UM_DATALINK_OCTETS 5224
 
 static inline void um_end_save_fields(const um_end *end, uint8_t *octets)
@@ -260,13 +269,28 @@ static inline uint32_t um_restore_frame(const uint8_t octets[4])
 	return octets[0] | (uint32_t)octets[1] << 8 | (uint32_t)octets[2] << 16 | (uint32_t)octets[3] << 24;
 }
 
+enum { UM_SLOT_FIELDS = UM_SLOT_OCTETS - UM_HEAD_OCTETS };
+
+static inline void um_slot_save_fields(const um_slot *slot, uint8_t octets[UM_SLOT_FIELDS])
+{
+	um_save_frame(slot->last, octets);
+	um_save_frame(slot->first, octets + 4);
+	memcpy(octets + 8, (const uint8_t *)slot + offsetof(um_slot, combination), UM_SLOT_FIELDS - 8);
+}
+
+static inline void um_slot_restore_fields(um_slot *slot, const uint8_t octets[UM_SLOT_FIELDS])
+{
+	memset(slot, 0, sizeof *slot);
+	slot->last = um_restore_frame(octets);
+	slot->first = um_restore_frame(octets + 4);
+	memcpy((uint8_t *)slot + offsetof(um_slot, combination), octets + 8, UM_SLOT_FIELDS - 8);
+}
+
 /* Saves a receiver of a time slot. */
 static inline void um_slot_to_bytes(const um_slot *slot, uint8_t octets[UM_SLOT_OCTETS])
 {
 	memcpy(octets, "umT2", UM_HEAD_OCTETS);
-	um_save_frame(slot->last, octets + 4);
-	um_save_frame(slot->first, octets + 8);
-	memcpy(octets + 12, (const uint8_t *)slot + offsetof(um_slot, combination), UM_SLOT_OCTETS - 12);
+	um_slot_save_fields(slot, octets + UM_HEAD_OCTETS);
 }
 
 /* Restores a receiver of a time slot. False: the octets are not a saved one of this version, or none has this state; nothing is written. */
@@ -276,14 +300,67 @@ static inline bool um_slot_from_bytes(um_slot *slot, const uint8_t octets[UM_SLO
 	um_slot_block block;
 	if (memcmp(octets, "umT2", UM_HEAD_OCTETS) != 0)
 		return false;
-	memset(&restored, 0, sizeof restored);
-	restored.last = um_restore_frame(octets + 4);
-	restored.first = um_restore_frame(octets + 8);
-	memcpy((uint8_t *)&restored + offsetof(um_slot, combination), octets + 12, UM_SLOT_OCTETS - 12);
+	um_slot_restore_fields(&restored, octets + UM_HEAD_OCTETS);
 	copy = restored; /* a call tests the state */
 	if (um_slot_miss(&copy, (restored.last + 1) % UM_FRAMES, &block) == UM_SLOT_NONE)
 		return false;
 	*slot = restored;
+	return true;
+}
+
+/* Saves a receiver of a traffic channel. */
+static inline void um_traffic_to_bytes(const um_traffic *traffic, uint8_t octets[UM_TRAFFIC_OCTETS])
+{
+	uint8_t *after = octets + UM_SLOT_OCTETS;
+	memcpy(octets, "umC1", UM_HEAD_OCTETS);
+	um_slot_save_fields(&traffic->sacch, octets + UM_HEAD_OCTETS);
+	um_save_frame(traffic->first, after);
+	memcpy(after + 4, (const uint8_t *)traffic + offsetof(um_traffic, channel), UM_TRAFFIC_OCTETS - UM_SLOT_OCTETS - 4);
+}
+
+/* Restores a receiver of a traffic channel. False: the octets are not a saved one of this version, or none has this state; nothing is
+ * written. */
+static inline bool um_traffic_from_bytes(um_traffic *traffic, const uint8_t octets[UM_TRAFFIC_OCTETS])
+{
+	const uint8_t *after = octets + UM_SLOT_OCTETS;
+	um_traffic restored, copy;
+	um_traffic_block block;
+	if (memcmp(octets, "umC1", UM_HEAD_OCTETS) != 0)
+		return false;
+	memset(&restored, 0, sizeof restored);
+	um_slot_restore_fields(&restored.sacch, octets + UM_HEAD_OCTETS);
+	restored.first = um_restore_frame(after);
+	memcpy((uint8_t *)&restored + offsetof(um_traffic, channel), after + 4, UM_TRAFFIC_OCTETS - UM_SLOT_OCTETS - 4);
+	copy = restored; /* a call tests the state */
+	if (um_traffic_end(&copy, &block) == UM_TRAFFIC_NONE)
+		return false;
+	*traffic = restored;
+	return true;
+}
+
+/* Saves a sender of a traffic channel. */
+static inline void um_traffic_sender_to_bytes(const um_traffic_sender *sender, uint8_t octets[UM_TRAFFIC_SENDER_OCTETS])
+{
+	memcpy(octets, "umO1", UM_HEAD_OCTETS);
+	um_save_frame(sender->first, octets + 4);
+	memcpy(octets + 8, (const uint8_t *)sender + offsetof(um_traffic_sender, channel), UM_TRAFFIC_SENDER_OCTETS - 8);
+}
+
+/* Restores a sender of a traffic channel. False: the octets are not a saved one of this version, or none has this state; nothing is
+ * written. */
+static inline bool um_traffic_sender_from_bytes(um_traffic_sender *sender, const uint8_t octets[UM_TRAFFIC_SENDER_OCTETS])
+{
+	um_traffic_sender restored, copy;
+	uint8_t burst[148];
+	if (memcmp(octets, "umO1", UM_HEAD_OCTETS) != 0)
+		return false;
+	memset(&restored, 0, sizeof restored);
+	restored.first = um_restore_frame(octets + 4);
+	memcpy((uint8_t *)&restored + offsetof(um_traffic_sender, channel), octets + 8, UM_TRAFFIC_SENDER_OCTETS - 8);
+	copy = restored; /* a call tests the state */
+	if (um_traffic_sender_burst(&copy, 0, burst) == UM_SENDING_NONE)
+		return false;
+	*sender = restored;
 	return true;
 }
 

@@ -30,6 +30,7 @@ enum class taken : std::uint8_t { taken, block, nosoft, noslot, noframe, doubled
 enum class traffic_channel : std::uint8_t { full_rate, half_rate_0, half_rate_1 };
 enum class traffic_kind : std::uint8_t { sacch, facch, stolen, speech };
 enum class heard : std::uint8_t { taken, block, earlier, nosoft, notraffic, noframe, doubled, late, hardbits = 254, count = 255 };
+enum class sending : std::uint8_t { burst, nothing, unplaced, nosender, noframe, late };
 enum class invalid : std::uint8_t {
 	none, training_sequence, soft_value, hard_bits, words, bit, frame, ratio, erasures, frame_number, time, bsic, sch, timeslot, channel, count
 };
@@ -56,6 +57,7 @@ inline std::string_view name(heard value)
 {
 	return value == heard::hardbits ? "hardbits" : value == heard::count ? "count" : um_heard_name(number(value));
 }
+inline std::string_view name(sending value) { return um_sending_name(number(value)); }
 inline std::string_view name(taken value)
 {
 	return value == taken::hardbits ? "hardbits" : value == taken::count ? "count" : um_taken_name(number(value));
@@ -97,6 +99,19 @@ constexpr std::string_view text(heard why)
 	case heard::late: return "this frame is before the one taken last; expected a later one";
 	case heard::hardbits: return text(invalid::hard_bits);
 	case heard::count: return text(invalid::count);
+	}
+	return "unknown";
+}
+
+constexpr std::string_view text(sending why)
+{
+	switch (why) {
+	case sending::burst: return "the burst is written";
+	case sending::nothing: return "no block has a half in the burst: nothing is to be sent";
+	case sending::unplaced: return "the frame is none of the traffic channel";
+	case sending::nosender: return "the state is not valid";
+	case sending::noframe: return text(invalid::frame_number);
+	case sending::late: return "this frame is before those that are being sent; expected a later one";
 	}
 	return "unknown";
 }

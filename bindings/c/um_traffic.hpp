@@ -1,4 +1,4 @@
-// um_traffic.hpp - the frames of a traffic channel, its receiver, and ciphered bursts, for um.hpp. Include um.hpp.
+// um_traffic.hpp - the frames of a traffic channel, its receiver and its sender, and ciphered bursts, for um.hpp. Include um.hpp.
 #include "um.hpp" // which includes this file where it belongs
 #ifndef UM_TRAFFIC_HPP
 #define UM_TRAFFIC_HPP
@@ -152,6 +152,19 @@ public:
 	traffic_channel channel() const { return traffic_channel(plain.channel); }
 	um::direction direction() const { return um::direction(plain.sacch.direction); }
 
+	static constexpr std::size_t octet_count = UM_TRAFFIC_OCTETS;
+	std::array<std::uint8_t, octet_count> to_bytes() const
+	{
+		std::array<std::uint8_t, octet_count> saved;
+		um_traffic_to_bytes(&plain, saved.data());
+		return saved;
+	}
+	static std::optional<traffic> from_bytes(view<std::uint8_t, octet_count> saved)
+	{
+		traffic restored(traffic_channel::full_rate);
+		return saved.data() && um_traffic_from_bytes(&restored.plain, saved.data()) ? std::optional(restored) : std::nullopt;
+	}
+
 	// The bursts of the block that was reported last, as they came: until the next call. At half rate six.
 	const std::int8_t (&bursts() const)[8][148] { return plain.bursts; }
 
@@ -167,6 +180,60 @@ private:
 		return answer;
 	}
 	um_traffic plain;
+};
+
+// A sender of a traffic channel: a value. If it is made of numbers out of range, its calls answer sending::nosender and false.
+class traffic_sender {
+public:
+	explicit traffic_sender(traffic_channel channel, um::direction way = um::direction::downlink, std::uint8_t tsc = 0)
+	{
+		if (!um_traffic_sender_new(&plain, number(channel), number(way), tsc)) {
+			plain = um_traffic_sender{};
+			plain.channel = plain.tsc = UINT8_MAX;
+		}
+	}
+
+	// Gives a block of FACCH, in place of speech that waits. False: a block of FACCH waits.
+	[[nodiscard]] bool facch(block_view octets) { return octets.data() && um_traffic_sender_facch(&plain, octets.data()); }
+
+	// Gives a block of speech: its four joined bursts, at half rate of two frames. False: a block of FACCH waits, which steals its place.
+	checked<bool> speech(view<std::uint8_t, 592> joined)
+	{
+		if (!joined.data())
+			return invalid::count;
+		if (!internal::are_bits(joined.data(), 592))
+			return invalid::bit;
+		return um_traffic_sender_speech(&plain, reinterpret_cast<const std::uint8_t(*)[148]>(joined.data()));
+	}
+
+	// The burst of a frame. No burst: sending::nothing or sending::unplaced if nothing is to be sent, or why the frame is refused.
+	result<std::array<std::uint8_t, 148>, sending> burst(std::uint32_t frame_number)
+	{
+		std::array<std::uint8_t, 148> bits;
+		const auto answer = sending(um_traffic_sender_burst(&plain, frame_number, bits.data()));
+		if (answer != sending::burst)
+			return answer;
+		return bits;
+	}
+
+	static constexpr std::size_t octet_count = UM_TRAFFIC_SENDER_OCTETS;
+	std::array<std::uint8_t, octet_count> to_bytes() const
+	{
+		std::array<std::uint8_t, octet_count> saved;
+		um_traffic_sender_to_bytes(&plain, saved.data());
+		return saved;
+	}
+	static std::optional<traffic_sender> from_bytes(view<std::uint8_t, octet_count> saved)
+	{
+		traffic_sender restored(traffic_channel::full_rate);
+		return saved.data() && um_traffic_sender_from_bytes(&restored.plain, saved.data()) ? std::optional(restored) : std::nullopt;
+	}
+
+	traffic_channel channel() const { return traffic_channel(plain.channel); }
+	um::direction direction() const { return um::direction(plain.direction); }
+
+private:
+	um_traffic_sender plain;
 };
 
 // The 114 coded bits of a burst ciphered or deciphered by a key stream; invalid::bit: an octet of either is no bit.

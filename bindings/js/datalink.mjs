@@ -130,6 +130,25 @@ export class DataLink {
   }
 }
 
+export class LastAnswer {
+  #machine;
+  #said = new Uint8Array(24);
+  constructor(machine) {
+    this.#machine = machine;
+  }
+  next(link, layer1 = [0, 0]) {
+    const sent = link.next(layer1);
+    const m = this.#machine;
+    m.octets.set(this.#said, m.input);
+    m.octets.set(sent.block, m.second);
+    const answer = m.call("um_say_again", m.INPUT, CHANNELS.indexOf(link.channel), sent.free ? FREE : 0, m.SECOND);
+    this.#said = m.copy(m.input, 24);
+    return { ...sent, block: m.copy(m.second, 23), free: answer === FREE };
+  }
+}
+
+export const newLastAnswer = (machine) => new LastAnswer(machine);
+
 export const newDataLink = (m, role, options) => {
   const names = ["channel", "t200", "t200Sapi3", "establishment"];
   const { channel = "sdcch", t200 = 4, t200Sapi3, establishment = "contention" } = membersOf("options", options, names);

@@ -1,6 +1,9 @@
 // traffic.mjs - traffic channels and ciphering: FACCH in stolen halves of bursts, the traffic frames of a multiframe, a receiver of FACCH
-// and SACCH by frame numbers, and bursts ciphered by a key stream. Each call takes the machine first.
-import { areHardBits, bitRows, bitsOf, integer, place, putBits, putSoft, refuse128, refuseHardBits } from "./arguments.mjs";
+// and SACCH by frame numbers, a sender, and bursts ciphered by a key stream. Each call takes the machine first.
+import {
+  areHardBits, bitRows, bitsOf, integer, octetsOf, place, putBits, putOctets, putSoft, refuse128, refuseHardBits,
+} from "./arguments.mjs";
+import { headOf, restoredHead } from "./ends.mjs";
 import { blockAt, LIMIT } from "./slot.mjs";
 import { frameOf } from "./tdma.mjs";
 import { DIRECTIONS, Refused, TRAFFIC_CHANNELS, TRAFFIC_KINDS } from "./words.mjs";
@@ -14,6 +17,14 @@ const LIMIT_AT = 606;
 const FLAGS = 284;
 const KIND = 288;
 const ERASURE = 881;
+// the receiver of SACCH, and after an octet of padding the other fields
+const SACCH_FIELDS = 607;
+const FIELDS_AT = 608;
+const TRAFFIC_FIELDS = 1805;
+// um_traffic_sender: the first burst, three numbers, three blocks of 593 octets, and two octets of padding
+const SENDER = 1788;
+const SENDER_FIELDS = 1786;
+const NO_STATE = { traffic: 4, sender: 3 };
 
 const numbersOf = (channel, direction) => [place("channel", channel, TRAFFIC_CHANNELS), place("direction", direction, DIRECTIONS)];
 const orNull = (octet) => (octet === 255 ? null : octet);
@@ -107,6 +118,13 @@ export class Traffic {
   copy() {
     return new Traffic(this.#machine, this.#state.slice());
   }
+  toBytes() {
+    const octets = new Uint8Array(4 + TRAFFIC_FIELDS);
+    octets.set(headOf("C"));
+    octets.set(this.#state.subarray(0, SACCH_FIELDS), 4);
+    octets.set(this.#state.subarray(FIELDS_AT, FIELDS_AT + TRAFFIC_FIELDS - SACCH_FIELDS), 4 + SACCH_FIELDS);
+    return octets;
+  }
 
   take(frame, burst = null) {
     const m = this.#machine;
@@ -172,4 +190,77 @@ export const newTraffic = (m, channel, { direction = "downlink", timeslot = 0, w
   const state = m.copy(m.input, TRAFFIC);
   state[LIMIT_AT] = most;
   return new Traffic(m, state);
+};
+
+export const trafficFromBytes = (m, values) => {
+  const octets = octetsOf("octets", restoredHead("C", octetsOf("octets", values)), 4 + TRAFFIC_FIELDS);
+  const state = new Uint8Array(TRAFFIC);
+  state.set(octets.subarray(4, 4 + SACCH_FIELDS));
+  state.set(octets.subarray(4 + SACCH_FIELDS), FIELDS_AT);
+  // a call on a copy tests the state
+  m.octets.set(state, m.input);
+  if (m.call("um_traffic_end", m.INPUT, m.OUTPUT) === NO_STATE.traffic) throw new Refused("notraffic");
+  return new Traffic(m, state);
+};
+
+export class TrafficSender {
+  #machine;
+  #state;
+
+  constructor(machine, state) {
+    this.#machine = machine;
+    this.#state = state;
+  }
+
+  get channel() {
+    return TRAFFIC_CHANNELS[this.#state[4]];
+  }
+  copy() {
+    return new TrafficSender(this.#machine, this.#state.slice());
+  }
+  toBytes() {
+    const octets = new Uint8Array(4 + SENDER_FIELDS);
+    octets.set(headOf("O"));
+    octets.set(this.#state.subarray(0, SENDER_FIELDS), 4);
+    return octets;
+  }
+
+  facch(octets) {
+    putOctets(this.#machine.octets, this.#machine.second, "octets", octets, 23);
+    return this.#call("um_traffic_sender_facch", this.#machine.SECOND) !== 0;
+  }
+  speech(block) {
+    this.#machine.octets.set(bitRows("block", block, 4), this.#machine.second);
+    return this.#call("um_traffic_sender_speech", this.#machine.SECOND) !== 0;
+  }
+  burst(frame) {
+    const m = this.#machine;
+    const answer = this.#call("um_traffic_sender_burst", frameOf(frame), m.OUTPUT);
+    if (answer === 5) throw new Refused("late");
+    return answer === 0 ? m.copy(m.output, 148) : null;
+  }
+
+  #call(name, ...values) {
+    const m = this.#machine;
+    m.octets.set(this.#state, m.input);
+    const answer = m.call(name, m.INPUT, ...values);
+    this.#state.set(m.octets.subarray(m.input, m.input + SENDER));
+    return answer;
+  }
+}
+
+export const newTrafficSender = (m, channel, { direction = "downlink", tsc = 0 }) => {
+  const numbers = [...numbersOf(channel, direction), integer("tsc", tsc, 0, 7)];
+  m.octets.fill(0, m.input, m.input + SENDER);
+  m.told("um_traffic_sender_new", m.INPUT, ...numbers);
+  return new TrafficSender(m, m.copy(m.input, SENDER));
+};
+
+export const trafficSenderFromBytes = (m, values) => {
+  const octets = octetsOf("octets", restoredHead("O", octetsOf("octets", values)), 4 + SENDER_FIELDS);
+  const state = new Uint8Array(SENDER);
+  state.set(octets.subarray(4));
+  m.octets.set(state, m.input);
+  if (m.call("um_traffic_sender_burst", m.INPUT, 0, m.OUTPUT) === NO_STATE.sender) throw new Refused("notraffic");
+  return new TrafficSender(m, state);
 };

@@ -145,6 +145,12 @@ export class Um {
   slot(combination: Combination, options?: SlotOptions): Slot;
   /** A new receiver of a traffic channel, with the options of a slot. */
   traffic(channel: TrafficChannel, options?: SlotOptions): Traffic;
+  /** A new sender of a traffic channel, which has no block; `tsc` is the training sequence of FACCH, 0 unless the options say otherwise. */
+  trafficSender(channel: TrafficChannel, options?: { direction?: Direction; tsc?: number }): TrafficSender;
+  /** Restores what `toBytes`, or the call of another language, saved. */
+  trafficFromBytes(octets: Octets): Traffic;
+  /** Restores what `toBytes`, or the call of another language, saved. */
+  trafficSenderFromBytes(octets: Octets): TrafficSender;
   /** The traffic burst that a frame carries. Null: it is of SACCH, of the other half, or idle. */
   placeTraffic(channel: TrafficChannel, direction: Direction, frame: number): TrafficPlace | null;
   /** The first frame number, at or after `frame`, in which a block of FACCH begins. */
@@ -176,6 +182,8 @@ export class Um {
    * the options say "normal", for the channel of an assignment or a handover.
    */
   dataLink(role: Role, options?: { channel?: Channel; t200?: number; t200Sapi3?: number; establishment?: Establishment }): DataLink;
+  /** The last answer of a new data link, to say it twice. */
+  lastAnswer(): LastAnswer;
   /** Restores a data link from `link.toBytes()`. Throws Refused with the reason "noend" if the state is not valid. */
   dataLinkFromBytes(octets: Octets): DataLink;
 
@@ -307,6 +315,8 @@ export class Traffic {
   readonly channel: TrafficChannel;
   /** The bursts of the block that was reported last, as they came, eight or at half rate six; until the next call. */
   readonly bursts: Int8Array[];
+  /** The state in the form that all languages read: 1809 octets, for `trafficFromBytes`. */
+  toBytes(): Uint8Array;
   /** An independent copy. */
   copy(): Traffic;
   /**
@@ -318,6 +328,30 @@ export class Traffic {
   end(): TrafficBlock[];
   /** Forgets the frames taken and the blocks being collected; the settings stay. */
   restart(): void;
+}
+
+/**
+ * A sender of a traffic channel: makes of blocks the bursts of FACCH and speech, by their frame numbers. SACCH is the caller's. Each
+ * fourth traffic burst begins a block of four joined bursts, as `sendBlock` makes them. The block that was given last waits for the next
+ * such frame; FACCH goes before speech. At half rate a block of speech is two frames, which FACCH steals both.
+ */
+export class TrafficSender {
+  private constructor();
+  readonly channel: TrafficChannel;
+  /** The state in the form that all languages read: 1790 octets, for `trafficSenderFromBytes`. */
+  toBytes(): Uint8Array;
+  /** An independent copy. */
+  copy(): TrafficSender;
+  /** Gives a block of FACCH, 23 octets, in place of speech that waits. False: a block of FACCH waits. */
+  facch(octets: Octets): boolean;
+  /** Gives a block of speech: its four joined bursts, whose stealing flags are 0. False: a block of FACCH waits, which steals its place. */
+  speech(block: Bits | readonly Bits[]): boolean;
+  /**
+   * The 148 bits of a frame's burst; null if nothing is to be sent: no block has a half in it, or the frame is none of the traffic channel.
+   * If a block may begin in this frame, the one that waits begins. Throws Refused with the reason "late" if the frame is before those of
+   * the blocks being sent.
+   */
+  burst(frame: number): Uint8Array | null;
 }
 
 /**
@@ -373,4 +407,14 @@ export class DataLink {
   next(layer1?: Octets): Sent;
   /** Whether nothing waits for a slot and no frame awaits an answer, so that each next slot is free until a call or a block changes it. */
   readonly idle: boolean;
+}
+
+/**
+ * The last answer of a data link, which goes once more into the next slot if that is free: an RR that is lost costs the other side a T200,
+ * and one that comes twice changes nothing there. Make one for each data link, and call its `next` in place of that of the data link.
+ */
+export class LastAnswer {
+  private constructor();
+  /** The block for this slot, as `DataLink.next` says it. */
+  next(link: DataLink, layer1?: Octets): Sent;
 }

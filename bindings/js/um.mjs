@@ -9,11 +9,12 @@
 
 import { bitsOf, integer, membersOf, octetsOf, place, putBits, putOctets, shown } from "./arguments.mjs";
 import { END, End, restored, Side } from "./ends.mjs";
-import { dataLinkFromBytes, newDataLink } from "./datalink.mjs";
+import { dataLinkFromBytes, newDataLink, newLastAnswer } from "./datalink.mjs";
 import { Machine } from "./machine.mjs";
 import { detectTraining, newSlot, receiveBlockErasing, slotFromBytes } from "./slot.mjs";
 import {
-  cipherBits, joinFacch, newTraffic, nextFacch, placeTraffic, receiveFacchErasing, softCipher, stealFacch, stealingFlags,
+  cipherBits, joinFacch, newTraffic, newTrafficSender, nextFacch, placeTraffic, receiveFacchErasing, softCipher, stealFacch, stealingFlags,
+  trafficFromBytes, trafficSenderFromBytes,
 } from "./traffic.mjs";
 import { frameOfTime, nextBlock, placeFrame, readBsic, readRa, readSch, timeOfFrame, writeBsic, writeRa, writeSch } from "./tdma.mjs";
 import { CHANNELS, KINDS, Refused, ROLES, SAPIS, UNREAD, VERSION } from "./words.mjs";
@@ -23,9 +24,9 @@ export { CHANNELS, ESTABLISHMENTS, KINDS, NOTICES, REASONS, REFUSALS, Refused, R
 export { COMBINATIONS, DIRECTIONS, LOGICAL_CHANNELS, SLOT_REFUSALS } from "./words.mjs";
 export { TRAFFIC_CHANNELS, TRAFFIC_KINDS, TRAFFIC_REFUSALS, VERSION } from "./words.mjs";
 export { End, Side } from "./ends.mjs";
-export { DataLink } from "./datalink.mjs";
+export { DataLink, LastAnswer } from "./datalink.mjs";
 export { Slot } from "./slot.mjs";
-export { Traffic } from "./traffic.mjs";
+export { Traffic, TrafficSender } from "./traffic.mjs";
 export { FRAMES } from "./tdma.mjs";
 
 const FRAME = 28;
@@ -191,6 +192,15 @@ export class Um {
   traffic(channel, options = {}) {
     return newTraffic(this.#machine, channel, membersOf("options", options, ["direction", "timeslot", "words", "erasures", "limit"]));
   }
+  trafficSender(channel, options = {}) {
+    return newTrafficSender(this.#machine, channel, membersOf("options", options, ["direction", "tsc"]));
+  }
+  trafficFromBytes(octets) {
+    return trafficFromBytes(this.#machine, octets);
+  }
+  trafficSenderFromBytes(octets) {
+    return trafficSenderFromBytes(this.#machine, octets);
+  }
   placeTraffic(channel, direction, frame) {
     return placeTraffic(this.#machine, channel, direction, frame);
   }
@@ -221,6 +231,9 @@ export class Um {
 
   dataLink(role, options = {}) {
     return newDataLink(this.#machine, role, options);
+  }
+  lastAnswer() {
+    return newLastAnswer(this.#machine);
   }
   dataLinkFromBytes(octets) {
     return dataLinkFromBytes(this.#machine, octets);

@@ -13,6 +13,10 @@ fn main() {
     let system = if system == "none" { "linux".to_owned() } else { system };
     let arch = match target.split('-').next().unwrap_or_default() {
         "aarch64" if system == "macos" => "arm64",
+        // `make build` names its folders as the system names these machines
+        "riscv64gc" => "riscv64",
+        "powerpc64le" => "ppc64le",
+        "mips64el" => "mips64",
         arch => arch,
     };
     let here = env::var("CARGO_MANIFEST_DIR").expect("cargo names the crate's folder");
@@ -30,7 +34,7 @@ fn main() {
         eprintln!(
             "um: no static library for {target} in {folder}.\n\
              A release has it in dist/ for x86_64-linux, aarch64-linux, x86_64-windows, x86_64-macos and arm64-macos. In the repository,\n\
-             `rt lib` in crates/um_c builds it as crates/um_c/out/libum_c.a. Set UM_LIB to the directory that contains it."
+             `make build` builds it there for other machines with clang. Set UM_LIB to another directory that contains it."
         );
         exit(1);
     });

@@ -36,6 +36,7 @@ static um_traffic traffic;
 static um_facch_erasure facch_erasure;
 static um_traffic_block heard;
 static um_traffic_place traffic_place;
+static um_traffic_sender traffic_sender;
 static um_end end;
 static um_side side;
 static um_datalink link;
@@ -84,6 +85,10 @@ static volatile uint32_t answer;
 	X(um_traffic_miss, um_traffic_miss(&traffic, 20, &heard)) \
 	X(um_traffic_restart, um_traffic_restart(&traffic)) \
 	X(um_traffic_end, um_traffic_end(&traffic, &heard)) \
+	X(um_traffic_sender_new, um_traffic_sender_new(&traffic_sender, UM_FULL_RATE, UM_UPLINK, 5)) \
+	X(um_traffic_sender_facch, um_traffic_sender_facch(&traffic_sender, octets)) \
+	X(um_traffic_sender_speech, um_traffic_sender_speech(&traffic_sender, (const uint8_t (*)[148])bits)) \
+	X(um_traffic_sender_burst, um_traffic_sender_burst(&traffic_sender, 4, stolen[0])) \
 	X(um_cipher_bits, um_cipher_bits(bits[0], stream)) \
 	X(um_soft_cipher, um_soft_cipher(soft[0], stream)) \
 	X(um_read_frame, um_read_frame(block, UM_SDCCH, &frame)) \

@@ -38,9 +38,10 @@ class Dedicated:
     """A side of a dedicated channel and its SACCH: the bursts of a time slot, and a data link."""
 
     def __init__(self, side, number):
-        self.side, self.tn, self.is_traffic, self.blocks, self.bursts = side, number & 7, number == TCH, {}, [bytes(148)] * 8
+        self.side, self.tn, self.is_traffic, self.blocks = side, number & 7, number == TCH, {}
         self.combination = "tch_f" if self.is_traffic else "bcch_ccch_sdcch4"
         how = side.hears, self.tn, WORDS
+        self.sender = um.TrafficSender("full_rate", side.speaks, TSC)
         self.receiver = um.Traffic("full_rate", *how) if self.is_traffic else um.Slot(self.combination, *how)
         self.link = um.DataLink(side.role, um.SDCCH, T200[number], establishment="normal" if self.is_traffic else "contention")
 
@@ -70,9 +71,11 @@ class Dedicated:
         """Each fourth burst a block begins, in half of each of eight bursts: FACCH, or speech where the data link has nothing to send."""
         if place and place.begins is not None:
             sent = self.next()
-            block = SPEECH if sent.free and self.side.talks else um.send_block(sent.block, TSC)
-            self.bursts = um.steal_facch(block, self.bursts[4:] + [bytes(148)] * 4)
-        return self.bursts[place.burst % 4] if place else None
+            if sent.free and self.side.talks:
+                self.sender.speech(SPEECH)
+            else:
+                self.sender.facch(sent.block)
+        return self.sender.burst(self.side.fn)
 
     def next(self):
         sent = self.link.next()

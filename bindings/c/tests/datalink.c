@@ -339,6 +339,24 @@ static void test_opened_after_release(void)
 	check(says(&t, "ogC", "a"), "the repeated SABM opens nothing again; C is delivered");
 }
 
+/* The network releases SAPI 3 in the slot in which the mobile opens it again: a DM in the next slot refuses each. */
+static void test_collision(void)
+{
+	pair p;
+	story t;
+	start(&p, UM_SACCH);
+	check(um_datalink_main(&p.sides[0], true) == UM_END_DONE && um_datalink_open_bare(&p.sides[0]) == UM_END_DONE, "SAPI 3");
+	slots(&p, 4, 0, 3, &t);
+	check(um_datalink_open_bare(&p.sides[0]) == UM_END_DONE && um_datalink_close(&p.sides[1], 3) == UM_END_DONE, "both call");
+	slots(&p, 1, 0, 3, &t);
+	check(sends(&p, 0, "\x0d\x3f\x01", 3) && sends(&p, 1, "\x0f\x53\x01", 3), "a SABM and a DISC cross");
+	slots(&p, 1, 0, 3, &t);
+	check(sends(&p, 0, "\x0f\x1f\x01", 3) && sends(&p, 1, "\x0d\x1f\x01", 3), "a DM from each side");
+	slots(&p, 1, 0, 3, &t);
+	check(says(&t, "e", "e") && p.sides[0].link3.end.state == UM_CLOSED, "both are closed");
+	check(p.reports[0].notices[0].reason == UM_REFUSED && p.reports[1].notices[0].reason == UM_RELEASED, "refused, released");
+}
+
 static bool opens(pair *p, int side, uint8_t sapi)
 {
 	return um_datalink_establish(&p->sides[side], sapi) == UM_END_DONE;
@@ -534,6 +552,36 @@ static void test_refusals(void)
 	check(!um_datalink_valid(&b), "a DISC is no answer");
 }
 
+/* An RR that is lost and said again: N(R) = 1, F = 0. */
+static void test_answer_said_twice(void)
+{
+	for (uint8_t channel = UM_SDCCH; channel <= UM_SACCH; channel++) {
+		um_message page = message_of(7, 3);
+		um_said said = { 0 };
+		size_t at = channel == UM_SACCH ? 2 : 0;
+		pair p;
+		open_both(&p, channel);
+		check(um_datalink_send(&p.sides[1], 0, &page) == UM_END_DONE, "the network sends");
+		fill(&p, 0);
+		arrive(&p);
+		fill(&p, 1);
+		check(um_say_again(&said, channel, p.answers[0], p.blocks[0]) == UM_END_DONE && sends(&p, 0, "\x01\x21\x01", 3), "RR");
+		fill(&p, 0);
+		check(is_free(&p, 0) && um_say_again(&said, channel, p.answers[0], p.blocks[0]) == UM_END_DONE, "the slot is free");
+		p.answers[0] = UM_END_DONE;
+		check(sends(&p, 0, "\x01\x21\x01", 3), "RR again");
+		arrive(&p);
+		check(reports(&p.reports[1], 0, UM_ACKED, 0), "the second arrives");
+		fill(&p, 0);
+		check(um_say_again(&said, channel, p.answers[0], p.blocks[0]) == UM_END_FREE && is_free(&p, 0), "no third");
+		check(!memcmp(p.blocks[0] + at, "\x01\x03\x01", 3), "the fill frame");
+		said.waits = 1;
+		um_said before = said;
+		check(um_say_again(&said, 2, UM_END_DONE, p.blocks[0]) == UM_END_NONE, "no such channel");
+		check(um_say_again(&said, channel, UM_END_NONE, p.blocks[0]) == UM_END_NONE && !memcmp(&said, &before, sizeof said), "no block");
+	}
+}
+
 int main(void)
 {
 	test_message();
@@ -544,11 +592,13 @@ int main(void)
 	test_second_opening();
 	test_local_release();
 	test_opened_after_release();
+	test_collision();
 	test_assignment();
 	test_network_initiated();
 	test_return();
 	test_unacked();
 	test_kinds();
 	test_refusals();
+	test_answer_said_twice();
 	return failed;
 }

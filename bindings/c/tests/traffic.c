@@ -229,6 +229,8 @@ static void one_run(int channel, int direction, int most_gap)
 	check(seen == wanted, "and no other block");
 }
 
+static void sends_recorded(int channel, const uint8_t octets[23], const uint32_t *frames, const uint8_t (*bits)[148]);
+
 /* Recorded blocks of osmo-bts: received with the octets that libosmocoding found, and as stolen, but no FACCH, if their coded bits are
  * noise. */
 static void recorded(const char *name)
@@ -241,7 +243,8 @@ static void recorded(const char *name)
 
 	check(in != NULL, "the recorded blocks open");
 	while (in && fgets(line, sizeof line, in)) {
-		uint8_t octets[23], channel = 0;
+		uint8_t octets[23], sent[8][148], channel = 0;
+		uint32_t frames[8];
 		um_traffic traffic;
 		um_traffic_block block;
 		bool given = false;
@@ -257,8 +260,11 @@ static void recorded(const char *name)
 			int8_t soft[148];
 			check(fgets(line, sizeof line, in) && sscanf(line, "%lu %159s", &frame, bits) == 2 && strlen(bits) == 148, "a burst");
 			first = b ? first : frame;
-			for (int i = 0; i < 148; i++)
-				soft[i] = bits[i] == '1' ? -127 : 127;
+			frames[b] = (uint32_t)frame;
+			for (int i = 0; i < 148; i++) {
+				sent[b][i] = bits[i] == '1';
+				soft[i] = sent[b][i] ? -127 : 127;
+			}
 			enum um_heard heard = um_traffic_take(&traffic, (uint32_t)frame, soft, &block);
 			check(heard == UM_TRAFFIC_TAKEN || heard == UM_TRAFFIC_BLOCK, "a frame is taken");
 			given = heard == UM_TRAFFIC_BLOCK && block.block.first == first;
@@ -266,6 +272,7 @@ static void recorded(const char *name)
 		check(given && block.kind == UM_TRAFFIC_FACCH && block.block.report.accepted && !memcmp(block.block.report.octets, octets, 23)
 			&& block.block.report.tsc == 5 && block.flags == -1016 && block.block.heard == bursts_of(channel),
 			"a recorded block of FACCH is received as libosmocoding receives it");
+		sends_recorded(channel, octets, frames, (const uint8_t (*)[148])sent);
 		count++;
 	}
 	check(count == 52, "there are 52 recorded blocks");
@@ -406,6 +413,130 @@ static void ciphers(void)
 	check(!um_soft_cipher(soft, stream) && !um_cipher_bits(sent, stream) && !memcmp(soft, before, 148), "soft bits and bits are refused");
 }
 
+enum { SENT_FRAMES = 500 };
+
+struct given { uint64_t first; uint8_t kind, bits[4][148]; };
+
+/* Which burst a frame carries of the block that begins in frame `first`, by osmo-bts's tables; -1 if none. */
+static int burst_in(int channel, int direction, uint64_t first, uint64_t frame)
+{
+	for (int k = 0; k < blocks_count[channel][direction]; k++) {
+		uint64_t at = first;
+		if (frame_of(channel, direction, k, 0) != (int)(first % 26))
+			continue;
+		for (int i = 0; i < bursts_of(channel); i++, at++) {
+			while ((int)(at % 26) != frame_of(channel, direction, k, i))
+				at++;
+			if (at == frame)
+				return i;
+		}
+	}
+	return -1;
+}
+
+/* Adds the half, or halves, that a frame's burst has of a block: the odd places in its first four bursts, the even ones in those after
+ * these. At half rate no bursts come after the last two of four, which have both. */
+static bool add_half(int channel, int index, const struct given *block, uint8_t burst[148])
+{
+	if (index < 0)
+		return false;
+	for (int p = 0; p < 148; p++)
+		if ((p >= 61 && p <= 86) || p < 3 || p > 144 || (index < 4 ? p % 2 || index + 4 >= bursts_of(channel) : p % 2 == 0))
+			burst[p] = block->bits[index % 4][p];
+	return true;
+}
+
+/* A sender that is asked for frames with gaps, and given FACCH and speech at any time: each burst has the halves of the blocks that the
+ * tables have in its frame. */
+static void senders(int channel, int direction)
+{
+	static struct given blocks[SENT_FRAMES];
+	struct given waiting = { 0, 0, { { 0 } } };
+	um_traffic_sender sender, before;
+	uint64_t frame = rand() % 2 ? (uint64_t)(rand() % 200) : UM_FRAMES - 200 + (uint64_t)(rand() % 100);
+	int count = 0, bursts = 0, silent = 0;
+
+	check(um_traffic_sender_new(&sender, (uint8_t)channel, (uint8_t)direction, 5), "a sender");
+	for (int event = 0; event < SENT_FRAMES; event++, frame += rand() % 8 ? 1 : 1 + (uint64_t)(rand() % 9)) {
+		uint8_t octets[23], bits[4][148], wanted[148] = { 0 }, burst[148], again[148];
+		for (int i = 0; i < 23; i++)
+			octets[i] = (uint8_t)rand();
+		check(um_send_block(octets, 5, bits), "a block");
+		int kind = rand() % 12 == 0 ? 2 : rand() % 5 == 0 ? 1 : 0;
+		for (int b = 0; kind == 1 && b < 4; b++)
+			bits[b][60] = bits[b][87] = 0;
+		if (kind) {
+			bool taken = kind == 2 ? um_traffic_sender_facch(&sender, octets)
+				: um_traffic_sender_speech(&sender, (const uint8_t (*)[148])bits);
+			check(taken == (waiting.kind != 2), "FACCH that waits is not replaced");
+			if (taken) {
+				waiting.kind = (uint8_t)kind;
+				memcpy(waiting.bits, bits, sizeof bits);
+			}
+		}
+		if (waiting.kind && burst_in(channel, direction, frame, frame) == 0) {
+			waiting.first = frame;
+			blocks[count++] = waiting;
+			waiting.kind = 0;
+		}
+		bool any = false;
+		for (int i = count > 2 ? count - 2 : 0; i < count; i++)
+			any |= add_half(channel, burst_in(channel, direction, blocks[i].first, frame), &blocks[i], wanted);
+		enum um_sending want = !is_traffic(channel, (uint32_t)(frame % 26)) ? UM_SENDING_UNPLACED : any ? UM_SENDING_BURST : UM_SENDING_NOTHING;
+		memset(burst, 7, sizeof burst);
+		check(um_traffic_sender_burst(&sender, (uint32_t)(frame % UM_FRAMES), burst) == want, "a burst is sent where a block has a half");
+		check(any ? !memcmp(burst, wanted, 148) : burst[0] == 7, "it has the halves of the blocks that the tables have there");
+		before = sender;
+		check(um_traffic_sender_burst(&sender, (uint32_t)(frame % UM_FRAMES), again) == want && (!any || !memcmp(again, wanted, 148))
+			&& !memcmp(&sender, &before, sizeof sender), "asked again, it writes the same burst");
+		bursts += any;
+		silent += want == UM_SENDING_NOTHING;
+	}
+	check(bursts > 50 && silent > 5, "there are bursts, and silence");
+	before = sender;
+	uint8_t burst[148];
+	check(um_traffic_sender_burst(&sender, (uint32_t)((frame + UM_FRAMES - 60) % UM_FRAMES) / 26 * 26 + (channel == UM_HALF_RATE_1), burst)
+		== UM_SENDING_LATE && um_traffic_sender_burst(&sender, UM_FRAMES, burst) == UM_SENDING_NO_FRAME
+		&& !memcmp(&sender, &before, sizeof sender), "refused frames change nothing");
+}
+
+/* The recorded blocks again, sent: the halves are those that osmo-bts sent. Refusals. */
+static void sends_recorded(int channel, const uint8_t octets[23], const uint32_t *frames, const uint8_t (*bits)[148])
+{
+	um_traffic_sender sender;
+	uint8_t burst[148], twice[148];
+
+	check(um_traffic_sender_new(&sender, (uint8_t)channel, UM_DOWNLINK, 5) && um_traffic_sender_facch(&sender, octets), "a sender");
+	for (int b = 0; b < bursts_of(channel); b++) {
+		check(um_traffic_sender_burst(&sender, frames[b], burst) == UM_SENDING_BURST, "each burst of the block is sent");
+		memcpy(twice, bits[b], 148);
+		for (int p = 0; p < 148; p++)
+			if ((p >= 61 && p <= 86) || p < 3 || p > 144 || (b < 4 ? p % 2 || b + 4 >= bursts_of(channel) : p % 2 == 0))
+				twice[p] = burst[p];
+			else
+				check(burst[p] == 0, "the other half is zeros");
+		check(!memcmp(twice, bits[b], 148), "its halves are those that osmo-bts sent");
+	}
+}
+
+static void no_senders(void)
+{
+	um_traffic_sender sender, before;
+	uint8_t octets[23] = { 0 }, bits[4][148] = { { 0 } }, burst[148];
+
+	check(!um_traffic_sender_new(&sender, 3, 0, 0) && !um_traffic_sender_new(&sender, 0, 2, 0) && !um_traffic_sender_new(&sender, 0, 0, 8),
+		"numbers out of range make no sender");
+	check(um_traffic_sender_new(&sender, UM_HALF_RATE_0, UM_DOWNLINK, 7), "a sender");
+	before = sender;
+	bits[3][147] = 2;
+	check(!um_traffic_sender_speech(&sender, (const uint8_t (*)[148])bits) && !memcmp(&sender, &before, sizeof sender), "2 is no bit");
+	sender.tsc = 8;
+	check(!um_traffic_sender_facch(&sender, octets) && um_traffic_sender_burst(&sender, 0, burst) == UM_SENDING_NONE, "no sequence 8");
+	sender.tsc = 7;
+	sender.first = 1;
+	check(um_traffic_sender_burst(&sender, 0, burst) == UM_SENDING_NONE, "no block begins with burst 1 in the downlink");
+}
+
 int main(int argc, char **argv)
 {
 	check(argc == 3, "the files of tables and of recorded blocks are named");
@@ -417,7 +548,10 @@ int main(int argc, char **argv)
 			for (int run = 0; run < 300; run++)
 				one_run(channel, direction, run % 3 == 0 ? 1 : run % 3 == 1 ? 4 : 40);
 			beside_a_slot(channel, direction);
+			for (int run = 0; run < 40; run++)
+				senders(channel, direction);
 		}
+	no_senders();
 	um_traffic_place place;
 	uint32_t first;
 	check(um_place_traffic(3, 0, 0, &place) == UM_NO_PLACE && um_place_traffic(0, 2, 0, &place) == UM_NO_PLACE

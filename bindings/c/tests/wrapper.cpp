@@ -300,6 +300,26 @@ static void traffic()
 	check(half.take(25, burst).why() == um::taken::noslot, "a slot has no half rate");
 	um::traffic none(um::traffic_channel::full_rate, up, 8);
 	check(none.miss(0).why() == um::heard::notraffic, "no such time slot");
+	const auto kept = um::traffic::from_bytes(traffic.to_bytes());
+	check(kept && kept->to_bytes() == traffic.to_bytes() && !um::traffic::from_bytes(none.to_bytes()), "a receiver is saved and restored");
+
+	um::traffic_sender sender(um::traffic_channel::full_rate, up, 4);
+	const um::block message{3, 3, 1, 43};
+	check(*sender.speech(bits) && sender.facch(message) && !sender.facch(message) && !*sender.speech(bits), "FACCH before speech");
+	check(sender.burst(3).why() == um::sending::nothing && sender.burst(12).why() == um::sending::unplaced &&
+		um::text(um::sending::unplaced) == "the frame is none of the traffic channel", "frame 3 begins no block, and frame 12 is of SACCH");
+	auto restored = um::traffic_sender::from_bytes(sender.to_bytes());
+	um::traffic hears(um::traffic_channel::full_rate, up);
+	std::size_t found = 0;
+	for (std::uint32_t frame = 4; frame < 12 && restored; frame++) {
+		const auto made = restored->burst(frame);
+		check(made && um::soft_from_bits(*made)[70] == um::soft_from_bits(*made)[70], "a burst of each frame");
+		for (const auto &block : hears.take(frame, um::soft_from_bits(*made)))
+			found += block.block.first == 4 && block.data() == um::block{3, 3, 1, 43};
+	}
+	check(found == 1 && restored && restored->burst(0).why() == um::sending::late && um::name(um::sending::late) == "late", "it is received");
+	um::traffic_sender mute(um::traffic_channel::full_rate, up, 8);
+	check(mute.burst(0).why() == um::sending::nosender && !um::traffic_sender::from_bytes(mute.to_bytes()), "no training sequence 8");
 
 	std::array<std::uint8_t, 114> stream{};
 	stream[0] = stream[113] = 1;
@@ -543,6 +563,17 @@ static void establishments()
 	check(um::datalink::from_bytes(sides[1].to_bytes())->establishment() == um::establishment::normal, "saved");
 	um::datalink none(um::role::mobile, um::channel::sdcch, um::establishment{2}, 4, 6);
 	check(none.establish(zero) == um::answer::noend, "no such kind of establishment");
+
+	// an answer is said twice: RR with N(R) = 1
+	sides = fresh;
+	um::last_answer last;
+	check(sides[0].establish(zero) == um::answer::ok && run(sides, 4) == opened, "open");
+	check(sides[1].send(zero, {'P'}) == um::answer::ok && sides[0].take(sides[1].next().block), "the network sends");
+	const auto first = last.next(sides[0]);
+	const auto second = last.next(sides[0]);
+	check(begins(first.block, {0x01, 0x21, 0x01}) && first.block == second.block && !second.is_free, "said twice");
+	const auto acked = sides[1].take(second.block);
+	check(last.next(sides[0]).is_free && acked && acked.notices().size() == 1, "not three times; the second acknowledges");
 
 	// a mobile comes back to the channel that it opened by contention
 	sides = ends{um::datalink(um::role::mobile), um::datalink(um::role::network)};

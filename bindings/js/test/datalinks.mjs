@@ -99,9 +99,24 @@ const tryOpenedAgain = (um) => {
   assert.deepEqual(told(pair, between, 6), ["acked gotC", "acked gotB"]);
 };
 
+// the network releases SAPI 3 in the slot in which the mobile opens it again: a DM in the next slot refuses each
+const tryCollision = (um) => {
+  const air = [null, null];
+  const links = ["mobile", "network"].map((role) => um.dataLink(role, { channel: "sacch", t200: 4, t200Sapi3: 6 }));
+  links[0].main(true);
+  links[0].openBare();
+  assert.deepEqual(told(links, air, 4), ["opened", "opened"]);
+  links[0].openBare();
+  links[1].close(3);
+  assert.deepEqual(told(links, air, 2), ["", ""]);
+  assert.deepEqual(air.map((block) => [...block.slice(2, 5)]), [[15, 31, 1], [13, 31, 1]]);
+  assert.deepEqual(told(links, air, 1), ["closed", "closed"]);
+};
+
 export const tryDataLinks = (um) => {
   idle(um);
   tryOpenedAgain(um);
+  tryCollision(um);
   for (const channel of ["sdcch", "sacch"]) {
     const all = { 0: [0, 1, 2], 3: [0, 1, 2] };
     assert.deepEqual(session(um, channel), [all, all]);

@@ -153,6 +153,24 @@ const oneComesTwice = (um) => {
   assert.deepEqual(run(20), [["acked", "acked"], ["A", "B"]]);
 };
 
+// an RR with N(R) = 1 that is lost and said again
+const saysTwice = (um) => {
+  const [mobile, network] = pair(um);
+  mobile.establish(0);
+  pathOf([mobile, network])(4);
+  network.send(0, octetsOf("page"));
+  mobile.take(network.next().block);
+  const last = um.lastAnswer();
+  const [first, second, third] = [0, 1, 2].map(() => last.next(mobile));
+  assert.deepEqual([first.free, second.free, third.free], [false, false, true]);
+  assert.deepEqual([...first.block.subarray(0, 3)], [0x01, 0x21, 0x01]);
+  assert.deepEqual(second.block, first.block);
+  assert.deepEqual([...third.block.subarray(0, 3)], [0x01, 0x03, 0x01]);
+  assert.deepEqual(network.take(second.block).map(({ kind }) => kind), ["acked"]);
+  const before = network.toBytes();
+  assert.deepEqual([network.take(second.block), network.toBytes()], [[], before]);
+};
+
 const refuses = (um) => {
   const [mobile, network] = pair(um);
   const why = (call, reason, words) =>
@@ -171,5 +189,7 @@ const refuses = (um) => {
 };
 
 export const tryEstablishments = (um) => {
-  for (const scene of [assigned, assignedByTheNetwork, bothOpen, returned, openedAgain, handedOver, oneComesTwice, refuses]) scene(um);
+  for (const scene of [assigned, assignedByTheNetwork, bothOpen, returned, openedAgain, handedOver, oneComesTwice, saysTwice, refuses]) {
+    scene(um);
+  }
 };

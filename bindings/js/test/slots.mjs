@@ -123,9 +123,20 @@ const traffic = (um) => {
     assert.deepEqual([kind, [...accepted], flags, heard, carried, begun], ["facch", FILL, -1016, count, "facch", first]);
     assert.deepEqual([um.stealingFlags(bursts), receiver.bursts.length], [{ sum: -1016, wrong: 0 }, count]);
     assert.throws(() => receiver.take(first, soft.subarray(0, 148)), (error) => error.reason === "late");
+    assert.deepEqual(um.trafficFromBytes(receiver.toBytes()).toBytes(), receiver.toBytes());
     receiver.restart();
     assert.deepEqual(receiver.end(), []);
+    // sent by frame numbers the bursts are the same
+    const sender = um.trafficSender(channel, { tsc: 5 });
+    assert.deepEqual([sender.speech(new Uint8Array(592)), sender.facch(FILL), sender.facch(FILL)], [true, true, false]);
+    const again = um.trafficSenderFromBytes(sender.toBytes());
+    const made = [];
+    for (let frame = first; made.length < 148 * count; frame++) made.push(...(again.burst(frame) ?? []));
+    assert.deepEqual(Uint8Array.from(made), um.stealFacch(sent, new Uint8Array(148 * count)));
+    assert.throws(() => again.burst(first), (error) => error.reason === "late");
+    assert.deepEqual([sender.burst(first) !== null, sender.copy().burst(first + 26), sender.channel], [true, null, channel]);
   }
+  assert.throws(() => um.trafficSenderFromBytes(new Uint8Array(1790)), /expected "umO1"/);
   const stream = Uint8Array.from({ length: 114 }, (_, i) => (i * i) % 3 & 1);
   const burst = sent.subarray(0, 148);
   const ciphered = um.cipherBits(burst, stream);

@@ -27,6 +27,9 @@ const use = async (): Promise<void> => {
   if (block?.accepted && block.channel === "sacch") facts.push(um.readFrame(block.accepted, block.channel).unread === "ea");
   if (block) facts.push(block.erasure.erased === 1, block.erasure.wrongTraining.length === um.detectTraining(bursts).wrongTraining.length);
   facts.push(um.placeFrame("bcch_ccch", "uplink", 0, 7)?.channel === "rach", um.readSch([])?.bsic === 1);
+  const sender = um.trafficSender("half_rate_1", { direction: "uplink", tsc: 5 });
+  facts.push(sender.facch(block?.accepted ?? []), sender.speech(bursts), sender.burst(3)?.length === 148, sender.channel === "full_rate");
+  facts.push(um.trafficSenderFromBytes(sender.copy().toBytes()).burst(4) === null, um.trafficFromBytes([]).end().length === 0);
   facts.push(um.dataLink("mobile").idle);
   const assigned = um.dataLink("network", { establishment: "normal" });
   assigned.establish(0);
@@ -35,6 +38,8 @@ const use = async (): Promise<void> => {
   um.dataLink("mobile", { establishment: "handover" });
   // @ts-expect-error no such combination
   um.slot("sdcch");
+  // @ts-expect-error a sender has no time slot
+  um.trafficSender("full_rate", { timeslot: 1 });
   // @ts-expect-error no such SAPI
   side.timer(1);
   // @ts-expect-error a link of SAPI 0 opens with information

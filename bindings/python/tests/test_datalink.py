@@ -106,6 +106,20 @@ class DataLinks(Case):
         told = self.run_slots(links, air, 6)
         self.assertEqual([{"acked", ("got", b"C")}, {"acked", ("got", b"B")}], [set(side) for side in told])
 
+    def test_collision(self):
+        """The network releases SAPI 3 in the slot in which the mobile opens it again: a DM in the next slot refuses each."""
+        links = [um.DataLink(role, um.SACCH, 4, 6) for role in ("mobile", "network")]
+        air = [None, None]
+        links[0].main(True)
+        links[0].open_bare()
+        self.assertEqual([["opened"], ["opened"]], self.run_slots(links, air, 4))
+        links[0].open_bare()
+        links[1].close(3)
+        for kinds in ("sabm", "disc"), ("dm", "dm"):
+            self.assertEqual([[], []], self.run_slots(links, air, 1))
+            self.assertEqual(kinds, tuple(um.read_frame(block, um.SACCH).kind for block in air))
+        self.assertEqual([["closed"], ["closed"]], self.run_slots(links, air, 1))
+
     def test_sessions(self):
         draw = random.Random(1)
         for channel in (um.SDCCH, um.SACCH):

@@ -1,5 +1,6 @@
 """Traffic channels and ciphering: blocks of FACCH recorded of osmo-bts with the octets that libosmocoding found (vectors/facch.out)."""
 import copy
+import pickle
 import random
 
 from common import FILL, ROOT, Case, digits, numpy, um
@@ -81,6 +82,73 @@ class Traffic(Case):
         self.assertEqual("<um.Traffic full_rate, downlink, time slot 2>", repr(traffic))
         blocks = [traffic.take(frame, row) for frame, row in zip(frames, soft)][-1]
         self.assertEqual(octets, blocks[-1].block.report.accepted)
+
+    def test_sent(self):
+        """What a sender makes of recorded blocks, silence between them, is what a receiver reports; the halves are those recorded."""
+        for channel, timeslot, octets, bursts in recorded():
+            sender, traffic = um.TrafficSender(channel, tsc=5), um.Traffic(channel, timeslot=timeslot)
+            first, last = bursts[0][0], bursts[-1][0]
+            self.assertTrue(sender.facch(octets))
+            self.assertFalse(sender.facch(octets))
+            self.assertFalse(sender.speech([bytes(148)] * 4))
+            self.assertIsNone(sender.burst(first - 1))
+            again = um.TrafficSender.from_bytes(pickle.loads(pickle.dumps(sender)).to_bytes())
+            self.assertEqual((1790, b"umO1", sender), (len(again.to_bytes()), again.to_bytes()[:4], again))
+            sent = {frame: bits for frame in range(first, last + 1) if (bits := again.burst(frame)) is not None}
+            self.assertEqual([frame for frame, _ in bursts], list(sent))
+            block = [traffic.take(frame, um.soft_from_bits(bits)) for frame, bits in sent.items()][-1][-1]
+            self.assertEqual(("facch", octets, -1016, first), (block.kind, block.block.report.accepted, block.flags, block.block.first))
+            # written into the recorded bursts, the halves that were sent change nothing
+            self.assertEqual([bits for _, bits in bursts], um.steal_facch(um.send_block(octets, 5), [bits for _, bits in bursts]))
+            self.assertEqual(list(sent.values()), um.steal_facch(um.send_block(octets, 5), [bytes(148)] * len(bursts)))
+            self.assertIsNone(again.burst(last + 26))
+            with self.assertRaises(um.Refused) as caught:
+                again.burst(first)
+            self.assertEqual("late", caught.exception.reason)
+
+    def test_sent_beside_speech(self):
+        """FACCH goes before speech that waits; each burst has the halves of two blocks, and is written again if it is asked for again."""
+        draw = random.Random(7)
+        for channel, count in (("full_rate", 8), ("half_rate_0", 6), ("half_rate_1", 6)):
+            sender, frame, given, sent = um.TrafficSender(channel, "uplink", 3), 0, [], []
+            while len(given) < 40:
+                place = um.place_traffic(channel, "uplink", frame)
+                if place and place.begins is not None:
+                    block = [bytearray(row) for row in um.send_block(bytes(draw.randrange(256) for _ in range(23)), 3)]
+                    for row in block:
+                        row[60] = row[87] = 0
+                    given.append([bytes(row) for row in block])
+                    self.assertTrue(sender.speech(given[-1]))
+                    if len(given) % 3 == 0:
+                        octets = bytes(draw.randrange(256) for _ in range(23))
+                        self.assertTrue(sender.facch(octets))
+                        given[-1] = um.send_block(octets, 3)
+                bits = sender.burst(frame)
+                self.assertEqual(bits, copy.deepcopy(sender).burst(frame))
+                if place:
+                    sent.append(bits)
+                else:
+                    self.assertIsNone(bits)
+                frame += 1
+            for at in range(len(given) - 2):
+                soft = [um.soft_from_bits(row) for row in sent[4 * at : 4 * at + count]]
+                self.assertEqual([um.soft_from_bits(row).tobytes() for row in given[at]], um.join_facch(soft))
+
+    def test_saved(self):
+        channel, timeslot, octets, bursts = recorded()[0]
+        traffic = um.Traffic(channel, timeslot=timeslot, words=4, limit=20)
+        for frame, bits in bursts[:-1]:
+            traffic.take(frame, um.soft_from_bits(bits))
+        again = um.Traffic.from_bytes(traffic.to_bytes())
+        self.assertEqual((1809, b"umC1", traffic), (len(again.to_bytes()), again.to_bytes()[:4], again))
+        self.assertEqual(octets, again.take(bursts[-1][0], um.soft_from_bits(bursts[-1][1]))[-1].block.report.accepted)
+        self.refused(ValueError, ["octets: begins with b'umT2'; expected b'umC1'"], um.Traffic.from_bytes, b"umT2" + bytes(1805))
+        self.assertRaises(um.Refused, um.Traffic.from_bytes, b"umC1" + b"\xff" * 1805)
+        self.assertRaises(um.Refused, um.TrafficSender.from_bytes, b"umO1" + b"\xff" * 1786)
+        self.refused(ValueError, ["tsc: 8; expected 0 to 7"], um.TrafficSender, "full_rate", "uplink", 8)
+        self.refused(ValueError, ["block[1][2]: 2; expected a bit"], um.TrafficSender("full_rate").speech,
+                     [bytes(148), b"\0\0\2" + bytes(145), bytes(148), bytes(148)])
+        self.assertEqual("<um.TrafficSender half_rate_1, uplink, tsc 3>", repr(um.TrafficSender("half_rate_1", "uplink", 3)))
 
     def test_nearly_lost(self):
         """Weak bursts of a block that a later frame ends do not make that frame's burst refused; a block of hard bits is refused."""

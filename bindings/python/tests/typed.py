@@ -1,6 +1,6 @@
 """A user's program as `mypy --strict` sees it: it passes, and each line with `type: ignore` is an error that mypy finds. Never run."""
 import array
-from typing import Tuple
+from typing import Optional, Tuple
 
 import numpy
 import numpy.typing
@@ -43,6 +43,10 @@ def rows() -> "array.array[int]":
 
 
 def receiver(soft: Soft) -> bytes:
+    sender = um.TrafficSender("full_rate", "uplink", tsc=5)
+    given: bool = sender.facch(bytes(23)) and sender.speech([bytes(148)] * 4)
+    burst: Optional[bytes] = um.TrafficSender.from_bytes(sender.to_bytes()).burst(4) if given else None
+    assert um.Traffic.from_bytes(um.Traffic("half_rate_0").to_bytes()).channel and burst is None
     slot = um.Slot("sdcch8", "uplink", words=16, erasures=4)
     block = slot.take(3, soft[0]) or slot.take(4)
     place = um.place_frame("bcch_ccch", "downlink", 0, 7)

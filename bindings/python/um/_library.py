@@ -13,10 +13,8 @@ _NAME, _SYSTEM = _SYSTEMS.get(platform.system(), ("libum.so.0", "linux"))
 _FOLDER = platform.machine().replace("AMD64", "x86_64") + "-" + _SYSTEM
 _MAKE = (
     ("" if sys.maxsize > 2**32 else "\nThis Python has 32 bits, and the libraries of dist/ have 64.") +
-    "\nA release has it in dist/" + _FOLDER + ", and the wheel contains it. To build it in the repository, on Linux with the Rattle kit on"
-    " the PATH:"
-    "\n    (cd crates/um_c && rt lib)"
-    "\n    cc -shared -o bindings/python/um/libum.so.0 -Wl,--whole-archive crates/um_c/out/libum_c.a -Wl,--no-whole-archive"
+    "\nA release has it in dist/" + _FOLDER + ", and the wheel contains it. In the repository, on a little-endian machine of 64 bits for"
+    " which dist/ has none, 'make build' builds it there with clang."
     "\nThe environment variable UM_SO overrides the path."
 )
 
@@ -76,6 +74,10 @@ _CALLS: Dict[str, Tuple[Any, Tuple[Any, ...]]] = {
     "um_traffic_miss": (_U8, (_POINTER, _U32, _POINTER)),
     "um_traffic_restart": (_BOOL, (_POINTER,)),
     "um_traffic_end": (_U8, (_POINTER, _POINTER)),
+    "um_traffic_sender_new": (_BOOL, (_POINTER, _U8, _U8, _U8)),
+    "um_traffic_sender_facch": (_BOOL, (_POINTER, _POINTER)),
+    "um_traffic_sender_speech": (_BOOL, (_POINTER, _POINTER)),
+    "um_traffic_sender_burst": (_U8, (_POINTER, _U32, _POINTER)),
     "um_steal_facch_f": (_BOOL, (_POINTER, _POINTER)),
     "um_steal_facch_h": (_BOOL, (_POINTER, _POINTER)),
     "um_join_facch_f": (_BOOL, (_POINTER, _POINTER)),
@@ -99,6 +101,7 @@ _CALLS: Dict[str, Tuple[Any, Tuple[Any, ...]]] = {
     "um_datalink_main": (_U8, (_POINTER, _BOOL)),
     "um_datalink_take": (_U8, (_POINTER, _POINTER, _POINTER)),
     "um_datalink_next": (_U8, (_POINTER, _POINTER, _POINTER, _POINTER)),
+    "um_say_again": (_U8, (_POINTER, _U8, _U32, _POINTER)),
 }
 
 

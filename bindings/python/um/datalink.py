@@ -218,6 +218,23 @@ def _why_no_frame(octets: bytes, channel: Channel) -> str:
     raise AssertionError("the library reads these octets as a frame")
 
 
+class LastAnswer:
+    """The last answer of a data link, which goes once more into the next slot if that is free. An RR that is lost costs the other side a
+    T200; one that comes twice changes nothing there. Make one for each data link, and call its `next` in place of that of the data link."""
+
+    __slots__ = ("_said",)
+
+    def __init__(self) -> None:
+        self._said = ctypes.create_string_buffer(24)
+
+    def next(self, link: DataLink, layer1: "Octets" = b"\0\0") -> Sent:
+        """The block for this slot, as `DataLink.next` says it."""
+        sent = link.next(layer1)
+        block = ctypes.create_string_buffer(sent.block, 23)
+        answer = lib.um_say_again(self._said, link.channel, _FREE if sent.free else 0, block)
+        return Sent(block.raw, answer == _FREE, sent.notices)
+
+
 def _notices_of(raw: bytes) -> List[LinkNotice]:
     sapis: Tuple[int, ...] = tuple(raw[3 * _NOTICE : 3 * _NOTICE + 3])
     return [LinkNotice(sapis[at], notice_of(raw, at * _NOTICE)) for at in range(raw[3 * _NOTICE + 3])]

@@ -1,12 +1,14 @@
 """Traffic channels and ciphering (3GPP TS 45.002, 7; TS 45.003, 4.2 and 4.3; TS 43.020, C.1): FACCH in stolen halves of bursts, the traffic
-frames of a multiframe, a receiver of FACCH and SACCH by frame numbers, and bursts ciphered by a key stream. Speech is the caller's."""
+frames of a multiframe, a receiver of FACCH and SACCH by frame numbers, a sender, and bursts ciphered by a key stream. Speech is the
+caller's."""
 import array
 import ctypes
 import struct
 from typing import TYPE_CHECKING, Any, List, NamedTuple, Optional, Tuple
 
 from ._library import lib
-from ._values import are_hard_bits, bits, choice, hard_bits, is_row, minus_128, number, soft, soft_values
+from ._saved import Saved, headed
+from ._values import are_hard_bits, bits, choice, hard_bits, is_row, minus_128, number, octets as octets_of, soft, soft_values
 from .effects import TRAFFIC_REFUSALS, Refused
 from .blocks import Report, block_report
 from .slot import BLOCK_SIZE, LIMIT, Erasure, SlotBlock, block_of
@@ -15,7 +17,7 @@ from .tdma import DIRECTIONS, frame_number
 if TYPE_CHECKING:
     from typing import Literal
 
-    from ._types import Bits, SoftBits, SoftRow
+    from ._types import Bits, Octets, SoftBits, SoftRow
     from .tdma import Direction
 
     TrafficChannel = Literal["full_rate", "half_rate_0", "half_rate_1"]
@@ -28,6 +30,10 @@ TRAFFIC_KINDS: "Tuple[TrafficKind, ...]" = ("sacch", "facch", "stolen", "speech"
 # and a um_facch_erasure, which is the burst erased and eight counts
 _SIZE, _CHANNEL, _BURSTS, _LIMIT = 1808, 612, 622, 606
 _TRAFFIC = struct.Struct(f"<{BLOCK_SIZE}siB592s9s2x")
+# um_traffic_sender: the first burst, the channel, the direction, tsc, three blocks of 593 octets
+_SENDER, _SENDER_FIELDS, _SENDER_HEAD = 1788, 1786, b"umO1"
+# their saved forms
+_SACCH, _FIELDS, _HEAD = 607, 1805, b"umC1"
 _REFUSALS = dict(zip((4, 6, 7), TRAFFIC_REFUSALS))
 
 
@@ -55,13 +61,13 @@ class TrafficBlock(NamedTuple):
     """The halves joined to a block of four normal bursts, as octets in two's complement; None of SACCH."""
 
 
-class Traffic:
+class Traffic(Saved):
     """A receiver of a traffic channel, one of TRAFFIC_CHANNELS: collects the bursts of FACCH and of SACCH by their frame numbers.
 
     The frames come as those of a Slot do, and words, erasures and limit are those of a Slot. A block is decoded as FACCH whatever its flags
-    say. It is a value: copy and deepcopy copy it. One thread at a time may use it."""
+    say. It is a value: copy, deepcopy and pickle copy it. One thread at a time may use it."""
 
-    __slots__ = ("_state", "__weakref__")
+    __slots__ = ()
 
     def __init__(
         self, channel: "TrafficChannel", direction: "Direction" = "downlink", timeslot: int = 0, words: int = 1, erasures: int = 0,
@@ -123,8 +129,84 @@ class Traffic:
     def __repr__(self) -> str:
         return f"<um.Traffic {self.channel}, {DIRECTIONS[self._state.raw[9]]}, time slot {self._state.raw[10]}>"
 
+    @classmethod
+    def from_bytes(cls, octets: "Octets") -> "Traffic":
+        """Restores what `to_bytes`, or the call of another language, saved. ValueError if the octets are not a valid state."""
+        data = headed(octets_of("octets", octets), _HEAD, _FIELDS)
+        traffic = cls.__new__(cls)
+        # the receiver of SACCH, an octet of padding, and the other fields
+        traffic._state = ctypes.create_string_buffer(data[:_SACCH] + b"\0" + data[_SACCH:], _SIZE)
+        # a call on a copy tests the state
+        if lib.um_traffic_end(traffic._copy(), ctypes.create_string_buffer(_TRAFFIC.size)) == 4:
+            raise Refused("from_bytes", "notraffic")
+        return traffic
+
+    def to_bytes(self) -> bytes:
+        """The state in the form that all languages read, for `from_bytes`."""
+        raw = self._state.raw
+        return _HEAD + raw[:_SACCH] + raw[_SACCH + 1 : _FIELDS + 1]
+
     def _copy(self) -> Any:
         return ctypes.create_string_buffer(self._state.raw, _SIZE)
+
+
+class TrafficSender(Saved):
+    """A sender of a traffic channel, one of TRAFFIC_CHANNELS: makes of blocks the bursts of FACCH and speech, by their frame numbers. tsc
+    is the training sequence of FACCH. SACCH is the caller's.
+
+    Each fourth traffic burst begins a block of four joined bursts, as `send_block` makes them. The block that was given last waits for the
+    next such frame; FACCH goes before speech. At half rate a block of speech is two frames, which FACCH steals both. It is a value: copy,
+    deepcopy and pickle copy it."""
+
+    __slots__ = ()
+
+    def __init__(self, channel: "TrafficChannel", direction: "Direction" = "downlink", tsc: int = 0) -> None:
+        self._state = ctypes.create_string_buffer(_SENDER)
+        settings = choice("channel", channel, TRAFFIC_CHANNELS), choice("direction", direction, DIRECTIONS)
+        lib.um_traffic_sender_new(self._state, *settings, number("tsc", tsc, 0, 7))
+
+    def facch(self, octets: "Octets") -> bool:
+        """Gives a block of FACCH, 23 octets, in place of speech that waits. False: a block of FACCH waits."""
+        return bool(lib.um_traffic_sender_facch(self._state, octets_of("octets", octets, 23)))
+
+    def speech(self, block: Any) -> bool:
+        """Gives a block of speech: its four joined bursts, at half rate of two frames, whose stealing flags are 0. False: a block of FACCH
+        waits, which steals its place."""
+        return bool(lib.um_traffic_sender_speech(self._state, _bits_of("block", block, 4)))
+
+    def burst(self, frame: int) -> Optional[bytes]:
+        """The 148 bits of a frame's burst; None if nothing is to be sent: no block has a half in it, or the frame is none of the traffic
+        channel. If a block may begin in this frame, the one that waits begins. Refused with the reason `late` if the frame is before those
+        of the blocks being sent."""
+        bits_of_burst = ctypes.create_string_buffer(148)
+        answer = lib.um_traffic_sender_burst(self._state, frame_number("frame", frame), bits_of_burst)
+        if answer == 5:
+            raise Refused("burst", "late")
+        return None if answer else bits_of_burst.raw
+
+    @property
+    def channel(self) -> "TrafficChannel":
+        """One of TRAFFIC_CHANNELS."""
+        return TRAFFIC_CHANNELS[self._state.raw[4]]
+
+    def __repr__(self) -> str:
+        return f"<um.TrafficSender {self.channel}, {DIRECTIONS[self._state.raw[5]]}, tsc {self._state.raw[6]}>"
+
+    @classmethod
+    def from_bytes(cls, octets: "Octets") -> "TrafficSender":
+        """Restores what `to_bytes`, or the call of another language, saved. ValueError if the octets are not a valid state."""
+        data = headed(octets_of("octets", octets), _SENDER_HEAD, _SENDER_FIELDS)
+        sender = cls.__new__(cls)
+        sender._state = ctypes.create_string_buffer(data, _SENDER)
+        # a call on a copy tests the state
+        copy = ctypes.create_string_buffer(data, _SENDER)
+        if lib.um_traffic_sender_burst(copy, 0, ctypes.create_string_buffer(148)) == 3:
+            raise Refused("from_bytes", "notraffic")
+        return sender
+
+    def to_bytes(self) -> bytes:
+        """The state in the form that all languages read, for `from_bytes`."""
+        return _SENDER_HEAD + self._state.raw[:_SENDER_FIELDS]
 
 
 def place_traffic(channel: "TrafficChannel", direction: "Direction", frame: int) -> Optional[TrafficPlace]:

@@ -141,6 +141,27 @@ pub struct Sent {
     pub report: Report,
 }
 
+/// The last answer of a data link, which goes once more into the next slot if that is free.
+///
+/// An RR that is lost costs the other side a T200, and one that comes twice changes nothing there. Make one for each data link, and call its
+/// [`next`](LastAnswer::next) in place of that of the data link.
+#[repr(C)]
+#[derive(Clone, Copy, Debug, Default, PartialEq, Eq, Hash)]
+pub struct LastAnswer {
+    waits: u8,
+    block: [u8; 23],
+}
+
+impl LastAnswer {
+    /// The block for this slot, as [`DataLink::next`] says it.
+    pub fn next(&mut self, link: &mut DataLink, layer1: [u8; 2]) -> Sent {
+        let mut sent = link.next(layer1);
+        let said = if sent.is_free { 10 } else { 0 };
+        sent.is_free = unsafe { um_say_again(self, link.channel() as u8, said, &mut sent.block) } == 10;
+        sent
+    }
+}
+
 extern "C" {
     fn um_datalink_new_for(link: &mut DataLink, role: u8, channel: u8, establishment: u8, t200: u8, t200_sapi3: u8) -> bool;
     fn um_datalink_valid(link: &DataLink) -> bool;
@@ -154,6 +175,7 @@ extern "C" {
     fn um_datalink_main(link: &mut DataLink, established: bool) -> u8;
     fn um_datalink_take(link: &mut DataLink, block: &[u8; 23], report: &mut Report) -> u8;
     fn um_datalink_next(link: &mut DataLink, layer1: &[u8; 2], block: &mut [u8; 23], report: &mut Report) -> u8;
+    fn um_say_again(said: &mut LastAnswer, channel: u8, next: u32, block: &mut [u8; 23]) -> u8;
 }
 
 fn accepted(answer: u8) -> Result<(), Refused> {

@@ -204,6 +204,8 @@ pub enum NotSaved {
     NoEnd,
     /// No receiver of a time slot has this state.
     NoSlot,
+    /// No receiver, or no sender, of a traffic channel has this state.
+    NoTraffic,
 }
 
 impl fmt::Display for NotSaved {
@@ -213,7 +215,7 @@ impl fmt::Display for NotSaved {
             NotSaved::Head { found, expected } => {
                 write!(f, "the octets begin with \"{}\"; expected \"{}\"", found.escape_ascii(), expected.escape_ascii())
             }
-            NotSaved::NoEnd | NotSaved::NoSlot => f.write_str("the state is not valid"),
+            NotSaved::NoEnd | NotSaved::NoSlot | NotSaved::NoTraffic => f.write_str("the state is not valid"),
         }
     }
 }

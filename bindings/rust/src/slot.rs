@@ -299,6 +299,11 @@ impl Slot {
         let mut octets = [0; SLOT_OCTETS];
         let mut fields = Writer(&mut octets);
         fields.put(HEAD);
+        self.put_fields(&mut fields);
+        octets
+    }
+
+    pub(crate) fn put_fields(&self, fields: &mut Writer<'_>) {
         fields.put(&self.last.to_le_bytes());
         fields.put(&self.first.to_le_bytes());
         fields.put(&[self.combination, self.direction, self.timeslot, self.words, self.erasures, self.heard]);
@@ -306,7 +311,14 @@ impl Slot {
             fields.put(&burst.map(|soft| soft as u8));
         }
         fields.put(&[self.limit]);
-        octets
+    }
+
+    pub(crate) fn of_fields(fields: &mut Reader<'_>) -> Slot {
+        let (last, first) = (u32::from_le_bytes(fields.take()), u32::from_le_bytes(fields.take()));
+        let [combination, direction, timeslot, words, erasures, heard] = fields.take();
+        let bursts = core::array::from_fn(|_| fields.take::<148>().map(|octet| octet as i8));
+        let [limit] = fields.take();
+        Slot { last, first, combination, direction, timeslot, words, erasures, heard, bursts, limit }
     }
 
     /// Restores what [`to_bytes`](Slot::to_bytes), or the call of another language, saved.
@@ -315,15 +327,10 @@ impl Slot {
     ///
     /// [`NotSaved`] says what was found and what was expected.
     pub fn from_bytes(octets: &[u8]) -> Result<Slot, NotSaved> {
-        let mut fields = Reader(saved::fields(octets, HEAD, SLOT_OCTETS)?);
-        let (last, first) = (u32::from_le_bytes(fields.take()), u32::from_le_bytes(fields.take()));
-        let [combination, direction, timeslot, words, erasures, heard] = fields.take();
-        let bursts = core::array::from_fn(|_| fields.take::<148>().map(|octet| octet as i8));
-        let [limit] = fields.take();
-        let slot = Slot { last, first, combination, direction, timeslot, words, erasures, heard, bursts, limit };
+        let slot = Slot::of_fields(&mut Reader(saved::fields(octets, HEAD, SLOT_OCTETS)?));
         // a call on a copy tests the state
         let mut plain = NO_PLAIN_BLOCK;
-        let answer = unsafe { um_slot_miss(&mut { slot }, last.wrapping_add(1) % FRAMES, &mut plain) };
+        let answer = unsafe { um_slot_miss(&mut { slot }, slot.last.wrapping_add(1) % FRAMES, &mut plain) };
         if answer == 3 { Err(NotSaved::NoSlot) } else { Ok(slot) }
     }
 }

@@ -1,11 +1,12 @@
-//! Traffic channels and ciphering: FACCH in stolen halves of bursts, the traffic frames of a multiframe, a receiver of FACCH and SACCH, and
-//! bursts ciphered by a key stream. Speech is the caller's.
+//! Traffic channels and ciphering: FACCH in stolen halves of bursts, the traffic frames of a multiframe, a receiver of FACCH and SACCH, a
+//! sender, and bursts ciphered by a key stream. Speech is the caller's.
 
 use crate::blocks::{not_hard, BlockReport, NO_BLOCK};
+use crate::saved::{self, Reader, Writer};
 use crate::slot::{PlainBlock, NO_PLAIN_BLOCK};
 use crate::tdma::{in_time, Direction, FRAMES};
 use crate::words::words;
-use crate::{Combination, Invalid, Slot, SlotBlock};
+use crate::{Combination, Invalid, NotSaved, Slot, SlotBlock};
 use core::fmt;
 
 /// A traffic channel: full rate, or one of the two of a time slot at half rate.
@@ -155,7 +156,55 @@ impl fmt::Debug for Traffic {
     }
 }
 
+/// The octets of a saved [`Traffic`].
+pub const TRAFFIC_OCTETS: usize = 1809;
+
+const HEAD: &[u8; 4] = b"umC1";
+
+/// The octets of a saved [`TrafficSender`].
+pub const TRAFFIC_SENDER_OCTETS: usize = 1790;
+
+const SENDER_HEAD: &[u8; 4] = b"umO1";
+
+/// The joined bursts of a block, and 0 if it is not sent.
+#[repr(C)]
+#[derive(Clone, Copy, PartialEq, Eq, Hash)]
+struct SentBlock {
+    kind: u8,
+    bursts: [[u8; 148]; 4],
+}
+
+const NO_SENT_BLOCK: SentBlock = SentBlock { kind: 0, bursts: [[0; 148]; 4] };
+
+/// A sender of a traffic channel: makes of blocks the bursts of FACCH and speech, by their frame numbers. SACCH is the caller's.
+///
+/// Each fourth traffic burst begins a block of four joined bursts, as [`send_block`](crate::send_block) makes them. The block that was
+/// given last waits for the next such frame; FACCH goes before speech. At half rate a block of speech is two frames, which FACCH steals
+/// both.
+#[repr(C)]
+#[derive(Clone, Copy, PartialEq, Eq, Hash)]
+pub struct TrafficSender {
+    first: u32,
+    channel: u8,
+    direction: u8,
+    tsc: u8,
+    waiting: SentBlock,
+    begun: SentBlock,
+    before: SentBlock,
+}
+
+/// The settings.
+impl fmt::Debug for TrafficSender {
+    fn fmt(&self, f: &mut fmt::Formatter<'_>) -> fmt::Result {
+        f.debug_struct("TrafficSender").field("channel", &self.channel()).field("tsc", &self.tsc).finish()
+    }
+}
+
 extern "C" {
+    fn um_traffic_sender_new(sender: &mut TrafficSender, channel: u8, direction: u8, tsc: u8) -> bool;
+    fn um_traffic_sender_facch(sender: &mut TrafficSender, octets: &[u8; 23]) -> bool;
+    fn um_traffic_sender_speech(sender: &mut TrafficSender, block: &[[u8; 148]; 4]) -> bool;
+    fn um_traffic_sender_burst(sender: &mut TrafficSender, frame: u32, burst: &mut [u8; 148]) -> u8;
     fn um_place_traffic(channel: u8, direction: u8, frame: u32, place: &mut [u8; 3]) -> u8;
     fn um_next_facch(channel: u8, direction: u8, frame: u32, first: &mut u32) -> bool;
     fn um_traffic_new(traffic: &mut Traffic, channel: u8, direction: u8, timeslot: u8, words: u8, erasures: u8) -> bool;
@@ -400,6 +449,41 @@ impl Traffic {
         &self.bursts[..if self.channel == 0 { 8 } else { 6 }]
     }
 
+    /// The state in the form that all languages read, for [`from_bytes`](Traffic::from_bytes).
+    #[must_use]
+    pub fn to_bytes(&self) -> [u8; TRAFFIC_OCTETS] {
+        let mut octets = [0; TRAFFIC_OCTETS];
+        let mut fields = Writer(&mut octets);
+        fields.put(HEAD);
+        self.sacch.put_fields(&mut fields);
+        fields.put(&self.first.to_le_bytes());
+        fields.put(&[self.channel, self.ended]);
+        fields.put(&self.came);
+        for burst in &self.bursts {
+            fields.put(&burst.map(|soft| soft as u8));
+        }
+        octets
+    }
+
+    /// Restores what [`to_bytes`](Traffic::to_bytes), or the call of another language, saved.
+    ///
+    /// # Errors
+    ///
+    /// [`NotSaved`] says what was found and what was expected.
+    pub fn from_bytes(octets: &[u8]) -> Result<Traffic, NotSaved> {
+        let mut fields = Reader(saved::fields(octets, HEAD, TRAFFIC_OCTETS)?);
+        let sacch = Slot::of_fields(&mut fields);
+        let first = u32::from_le_bytes(fields.take());
+        let [channel, ended] = fields.take();
+        let came = fields.take();
+        let bursts = core::array::from_fn(|_| fields.take::<148>().map(|octet| octet as i8));
+        let traffic = Traffic { sacch, first, channel, ended, came, bursts };
+        // a call on a copy tests the state
+        let mut plain = NO_TRAFFIC_BLOCK;
+        let answer = unsafe { um_traffic_end(&mut { traffic }, &mut plain) };
+        if answer == 4 { Err(NotSaved::NoTraffic) } else { Ok(traffic) }
+    }
+
     /// The blocks of a call, which is made again as long as a block ended before, and the one that the frame completes.
     fn heard(
         &mut self, mut call: impl FnMut(&mut Traffic, &mut PlainTrafficBlock) -> u8,
@@ -421,5 +505,104 @@ impl Traffic {
                 _ => unreachable!("the state is written by the library alone, so it is that of a receiver"),
             }
         }
+    }
+}
+
+impl TrafficSender {
+    /// A new sender, which has no block; `tsc` is the training sequence code of FACCH, 0 to 7.
+    ///
+    /// # Errors
+    ///
+    /// [`Invalid::TrainingSequence`] if it is above 7.
+    pub fn new(channel: TrafficChannel, direction: Direction, tsc: u8) -> Result<TrafficSender, Invalid> {
+        let mut sender = TrafficSender {
+            first: FRAMES,
+            channel: channel as u8,
+            direction: direction as u8,
+            tsc,
+            waiting: NO_SENT_BLOCK,
+            begun: NO_SENT_BLOCK,
+            before: NO_SENT_BLOCK,
+        };
+        unsafe { um_traffic_sender_new(&mut sender, channel as u8, direction as u8, tsc) }
+            .then_some(sender)
+            .ok_or(Invalid::TrainingSequence)
+    }
+
+    /// Gives a block of FACCH, in place of speech that waits. False: a block of FACCH waits.
+    #[must_use]
+    pub fn facch(&mut self, octets: &[u8; 23]) -> bool {
+        unsafe { um_traffic_sender_facch(self, octets) }
+    }
+
+    /// Gives a block of speech: its four joined bursts, at half rate of two frames, whose stealing flags are 0. False: a block of FACCH
+    /// waits, which steals its place.
+    ///
+    /// # Errors
+    ///
+    /// [`Invalid::Bit`] if an octet is neither 0 nor 1.
+    pub fn speech(&mut self, block: &[[u8; 148]; 4]) -> Result<bool, Invalid> {
+        if block.iter().flatten().any(|&bit| bit > 1) {
+            return Err(Invalid::Bit);
+        }
+        Ok(unsafe { um_traffic_sender_speech(self, block) })
+    }
+
+    /// The burst of a frame; `None` if nothing is to be sent: no block has a half in it, or the frame is none of the traffic channel. If a
+    /// block may begin in this frame, the one that waits begins.
+    ///
+    /// # Errors
+    ///
+    /// [`Invalid::FrameNumber`] if there is no such frame number, [`Invalid::Late`] if it is before those of the blocks being sent.
+    pub fn burst(&mut self, frame: u32) -> Result<Option<[u8; 148]>, Invalid> {
+        let mut bits = [0; 148];
+        match unsafe { um_traffic_sender_burst(self, frame, &mut bits) } {
+            0 => Ok(Some(bits)),
+            4 => Err(Invalid::FrameNumber),
+            5 => Err(Invalid::Late),
+            _ => Ok(None),
+        }
+    }
+
+    /// The traffic channel.
+    #[must_use]
+    pub fn channel(&self) -> TrafficChannel {
+        match self.channel {
+            0 => TrafficChannel::FullRate,
+            1 => TrafficChannel::HalfRate0,
+            _ => TrafficChannel::HalfRate1,
+        }
+    }
+
+    /// The state in the form that all languages read, for [`from_bytes`](TrafficSender::from_bytes).
+    #[must_use]
+    pub fn to_bytes(&self) -> [u8; TRAFFIC_SENDER_OCTETS] {
+        let mut octets = [0; TRAFFIC_SENDER_OCTETS];
+        let mut fields = Writer(&mut octets);
+        fields.put(SENDER_HEAD);
+        fields.put(&self.first.to_le_bytes());
+        fields.put(&[self.channel, self.direction, self.tsc]);
+        for block in [&self.waiting, &self.begun, &self.before] {
+            fields.put(&[block.kind]);
+            block.bursts.iter().for_each(|burst| fields.put(burst));
+        }
+        octets
+    }
+
+    /// Restores what [`to_bytes`](TrafficSender::to_bytes), or the call of another language, saved.
+    ///
+    /// # Errors
+    ///
+    /// [`NotSaved`] says what was found and what was expected.
+    pub fn from_bytes(octets: &[u8]) -> Result<TrafficSender, NotSaved> {
+        let mut fields = Reader(saved::fields(octets, SENDER_HEAD, TRAFFIC_SENDER_OCTETS)?);
+        let first = u32::from_le_bytes(fields.take());
+        let [channel, direction, tsc] = fields.take();
+        let mut block = || SentBlock { kind: fields.take::<1>()[0], bursts: core::array::from_fn(|_| fields.take()) };
+        let (waiting, begun, before) = (block(), block(), block());
+        let sender = TrafficSender { first, channel, direction, tsc, waiting, begun, before };
+        // a call on a copy tests the state
+        let answer = unsafe { um_traffic_sender_burst(&mut { sender }, 0, &mut [0; 148]) };
+        if answer == 3 { Err(NotSaved::NoTraffic) } else { Ok(sender) }
     }
 }

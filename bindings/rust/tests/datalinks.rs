@@ -97,6 +97,22 @@ fn opened_again() -> Result<(), Box<dyn Error>> {
     Ok(())
 }
 
+/// The network releases SAPI 3 in the slot in which the mobile opens it again: a DM in the next slot refuses each.
+#[test]
+fn collision() -> Result<(), Box<dyn Error>> {
+    let new = |role| DataLink::new(role, Channel::Sacch, 4, 6);
+    let (mut links, mut air) = ([new(Role::Mobile)?, new(Role::Network)?], [None; 2]);
+    links[0].main(true);
+    links[0].open_bare()?;
+    assert_eq!(told(&mut links, &mut air, 4, false)?, ["opened", "opened"]);
+    links[0].open_bare()?;
+    links[1].close(Sapi::ShortMessages)?;
+    assert_eq!(told(&mut links, &mut air, 2, false)?, ["", ""]);
+    assert_eq!(air.map(|block| block.map(|octets| octets[2..5].to_vec())), [Some(vec![15, 31, 1]), Some(vec![13, 31, 1])]);
+    assert_eq!(told(&mut links, &mut air, 1, false)?, ["closed", "closed"]);
+    Ok(())
+}
+
 /// After `Closed` the answer to the other side's release waits for its slot; a SABM and its answer, and a release, do too.
 #[test]
 fn idle() -> Result<(), Box<dyn Error>> {

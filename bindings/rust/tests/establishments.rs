@@ -1,7 +1,7 @@
 //! Scenes of an assignment, a handover and a return, by hand: what each side reports, and the octets of the frames that open a link, from
 //! 3GPP TS 44.006. The mobile's command and the network's response have C/R = 0.
 use std::error::Error;
-use um::{Channel, DataLink, Establishment, Invalid, Notice, Refused, Role, Sapi, State};
+use um::{Channel, DataLink, Establishment, Invalid, LastAnswer, Notice, Refused, Role, Sapi, State};
 
 const ZERO: Sapi = Sapi::Signalling;
 type Tried = Result<(), Box<dyn Error>>;
@@ -174,6 +174,24 @@ fn one_comes_twice() -> Tried {
         links[0].send(ZERO, message)?;
     }
     assert_eq!(path.run(&mut links, 20, &[])?, ["acked acked", "A B"]);
+    Ok(())
+}
+
+/// An RR with N(R) = 1 that is lost and said again.
+#[test]
+fn an_answer_is_said_twice() -> Tried {
+    let (mut links, mut path, mut last) = (normal()?, Path::default(), LastAnswer::default());
+    links[0].establish(ZERO)?;
+    path.run(&mut links, 4, &[])?;
+    links[1].send(ZERO, b"page")?;
+    let page = links[1].next([0, 0]).block;
+    let _ = links[0].take(&page)?;
+    let sent = [(); 3].map(|()| last.next(&mut links[0], [0, 0]));
+    assert_eq!(sent.map(|one| one.is_free), [false, false, true]);
+    assert_eq!((&sent[0].block[..3], sent[1].block), (&[0x01, 0x21, 0x01][..], sent[0].block));
+    assert_eq!(links[1].take(&sent[1].block)?.notices().count(), 1);
+    let before = links[1];
+    assert_eq!((links[1].take(&sent[1].block)?.notices().count(), links[1]), (0, before));
     Ok(())
 }
 

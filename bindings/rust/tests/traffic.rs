@@ -1,6 +1,6 @@
 //! Traffic channels and ciphering: blocks of FACCH recorded of osmo-bts with the octets that libosmocoding found (vectors/facch.out).
 use std::error::Error;
-use um::{Combination, Direction, Invalid, Slot, Traffic, TrafficChannel, TrafficKind};
+use um::{Combination, Direction, Invalid, NotSaved, Slot, Traffic, TrafficChannel, TrafficKind, TrafficSender};
 
 struct Recorded {
     channel: TrafficChannel,
@@ -102,6 +102,42 @@ fn missing_late_and_nearly_lost() -> Result<(), Box<dyn Error>> {
     traffic.restart();
     assert_eq!(traffic.end().blocks().count(), 0);
     assert_eq!(um::place_traffic(TrafficChannel::FullRate, Direction::Uplink, 12)?, None);
+    Ok(())
+}
+
+#[test]
+fn blocks_that_are_sent() -> Result<(), Box<dyn Error>> {
+    for Recorded { channel, timeslot, octets, bursts } in recorded()? {
+        let mut sender = TrafficSender::new(channel, Direction::Downlink, 5)?;
+        assert_eq!((sender.speech(&[[0; 148]; 4])?, sender.facch(&octets), sender.facch(&octets)), (true, true, false));
+        assert_eq!((sender.speech(&[[0; 148]; 4])?, sender.speech(&[[2; 148]; 4])), (false, Err(Invalid::Bit)));
+        let (first, last) = (bursts[0].0, bursts[bursts.len() - 1].0);
+        assert_eq!(sender.burst(first - 1)?, None);
+        let mut sender = TrafficSender::from_bytes(&sender.to_bytes())?;
+        let mut traffic = Traffic::new(channel, Direction::Downlink, timeslot, 1, 0)?;
+        let mut frames = Vec::new();
+        let mut heard = None;
+        for frame in first..=last {
+            if let Some(bits) = sender.burst(frame)? {
+                assert_eq!(sender.burst(frame)?, Some(bits));
+                frames.push(frame);
+                traffic = Traffic::from_bytes(&traffic.to_bytes())?;
+                heard = traffic.take(frame, &um::soft_from_bits(&bits))?.blocks().last().copied();
+            }
+        }
+        assert_eq!(frames, bursts.iter().map(|(frame, _)| *frame).collect::<Vec<_>>());
+        let block = heard.expect("a block");
+        assert_eq!((block.kind, block.block.report.accepted(), block.flags), (TrafficKind::Facch, Some(&octets), -1016));
+        assert_eq!((sender.burst(last + 26)?, sender.burst(first), sender.channel()), (None, Err(Invalid::Late), channel));
+    }
+    assert_eq!(TrafficSender::new(TrafficChannel::FullRate, Direction::Uplink, 8), Err(Invalid::TrainingSequence));
+    let mut octets = TrafficSender::new(TrafficChannel::FullRate, Direction::Uplink, 7)?.to_bytes();
+    assert_eq!((octets.len(), &octets[..4]), (um::TRAFFIC_SENDER_OCTETS, &b"umO1"[..]));
+    octets[4..7].fill(1);
+    assert_eq!(TrafficSender::from_bytes(&octets), Err(NotSaved::NoTraffic));
+    assert_eq!(Traffic::from_bytes(&[[0; um::TRAFFIC_OCTETS - 4].as_slice(), b"umC1"].concat()).map(|_| ()), {
+        Err(NotSaved::Head { found: [0; 4], expected: b"umC1" })
+    });
     Ok(())
 }
 

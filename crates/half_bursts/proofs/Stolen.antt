@@ -20,11 +20,11 @@ even_is_own n b p hn hb even = grind arith
 partner-modulo : (n b : ℕ) → b < 4 → partner n b % 4 ≡ b
 partner-modulo n b hb = grind arith
 
-own_value : (half : ℕ) (burst old : List ℕ) (p : ℕ) → half_of_position p ≢ half →
+pub own_value : (half : ℕ) (burst old : List ℕ) (p : ℕ) → half_of_position p ≢ half →
     value_with_half 0 half burst old p ≡ get_or burst p 0
 own_value half burst old p own = grind (arith, own)
 
-length-with_half : (half : ℕ) (burst old : List ℕ) → length (with_half half burst old) ≡ 148
+pub length-with_half : (half : ℕ) (burst old : List ℕ) → length (with_half half burst old) ≡ 148
 length-with_half half burst old = length-map-range_with_len (value_with_half 0 half burst old) 0 148
 
 module _ (block bursts : List (List ℕ)) where

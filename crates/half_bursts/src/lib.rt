@@ -12,4 +12,4 @@ pub use joining::join;
 pub use laws::{
     law_bursts_of_the_standard, law_coded_bits_share_no_position, law_stolen_blocks_join_again,
 };
-pub use stealing::steal;
+pub use stealing::{steal, write_other_than};

@@ -45,10 +45,10 @@ fn steal_burst(count: usize, index: usize, burst: &[u8; BURST_BITS], into: &mut 
     }
 }
 
-// Overwrites all but one half of a burst. The first loop has nine times sixteen positions and no remainder: a block takes 320 instructions
-// less than with one loop.
+/// Overwrites all of a burst but one half: 1 its odd positions, 2 its even ones, 3 none. The first loop has nine times sixteen
+/// positions and no remainder: a block takes 320 instructions less than with one loop.
 #[inline(always)]
-fn write_other_than(half: u8, burst: &[u8; BURST_BITS], into: &mut [u8; BURST_BITS])
+pub fn write_other_than(half: u8, burst: &[u8; BURST_BITS], into: &mut [u8; BURST_BITS])
     ensures value { into.new ≡ with_half half burst.now into.old }
     ensures bits { length burst.now ≡ 148 }
 {

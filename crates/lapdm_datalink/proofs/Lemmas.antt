@@ -15,12 +15,12 @@ use Rattle.lapdm_frame.specs.Frames.{FrameFits, octets_of}
 use Rattle.lapdm_frame.specs.Readings.{IsOnlyEncodedFrame}
 use Rattle.lapdm_end.specs.lapdm_window.declared.effects.Effects.{Effects}
 use Rattle.lapdm_end.specs.lapdm_window.declared.State.{State}
-use Rattle.lapdm_end.specs.lapdm_window.declared.Refused.TheVariants.{NotIdle}
 use Rattle.lapdm_end.specs.lapdm_window.Ends.{EndpointState, Outcome, awaits_answer, IsValidEndpoint, Role, sapi_number}
 use Rattle.lapdm_end.specs.Addresses.{spec_role_of}
 use Rattle.lapdm_end.specs.lapdm_window.Calls.{Call, OpensWithoutInfo, T200Expires, refusal_of, call_outcome, IsCallAllowedForEndpoint}
 use Rattle.lapdm_end.specs.lapdm_window.Calls.{awaited_frame}
 use Rattle.lapdm_end.specs.lapdm_window.Steps.{HasEffects}
+use Rattle.lapdm_end.specs.lapdm_window.Tables.{SendsDm, outcome_of_reply, reply_to_frame}
 use Rattle.lapdm_link.proofs.lapdm_window.Lemmas.{Keeps, keeps-call, keeps-frame, IsValidEndpoint-initial}
 use Rattle.lapdm_end.specs.declared.ends.Endpoint.{Endpoint}
 use Rattle.lapdm_end.specs.Abstraction as E
@@ -28,11 +28,11 @@ use Rattle.lapdm_datalink.specs.declared.links.Link.{Link}
 use Rattle.lapdm_datalink.specs.Links.{LinkState, is_awaiting_kind, with_frame, with_frames, with_outcome, without_needless_answer, is_due}
 use Rattle.lapdm_datalink.specs.Links.{SlotOutcome, sends_due_frame, expires, sends_awaited, sends_nothing, sends_answer, keeps_back}
 use Rattle.lapdm_datalink.specs.Links.{slot_outcome_owing, renewed_for, after_received, as_normal, as_taken, is_opened_again, is_return}
+use Rattle.lapdm_datalink.specs.Links.{refuses}
 use Rattle.lapdm_datalink.specs.Links.{is_sapi3}
 use Rattle.lapdm_datalink.specs.Links.{may_be_established, for_establishment, after_establishment}
 use Rattle.lapdm_datalink.specs.DataLinks.{DataLinkState, IsDataLink, with_sapi3, link_with_sapi, with_link, having_heard}
 use Rattle.lapdm_datalink.specs.DataLinks.{with_clocks_moved, on_sapi0}
-use Rattle.lapdm_datalink.specs.DataLinks.{data_link_outcome}
 use Rattle.lapdm_end.specs.lapdm_window.declared.Sapi.TheVariants.{Zero, Three}
 use Rattle.lapdm_datalink.specs.Links.{afresh, for_call, for_frame, after_call, after_frame, ignores, received_outcome, slot_outcome}
 use Rattle.lapdm_end.specs.lapdm_window.declared.Sapi.{Sapi}
@@ -178,7 +178,7 @@ pub record HasAddressOf (x : EndpointValues) (e : EndpointState) : Type 0 where
   pub sapi : x.sapi ≡ e.sapi
   pub channel : x.window.channel ≡ e.channel
 
-address_of_values : (x : EndpointValues) (e : EndpointState) → P.ValuesRepresent x e → HasAddressOf x e
+pub address_of_values : (x : EndpointValues) (e : EndpointState) → P.ValuesRepresent x e → HasAddressOf x e
 address_of_values x e h = record {
   role = sym (ap (λ (y : EndpointValues). spec_role_of y.role) h.values_match) ∙ h.represents.address.role;
   sapi = sym (ap (λ (y : EndpointValues). y.sapi) h.values_match) ∙ h.represents.address.sapi;
@@ -379,13 +379,6 @@ module _ (l : LinkState) where
   pub found_normal : l.endpoint.sapi ≡ Zero → may_be_established l.endpoint.state ≡ true → for_establishment l ≡ as_normal l
   found_normal h g = rw (h, g) refl
 
-  pub found_called : l.endpoint.sapi ≡ Three → for_establishment l ≡ for_call OpensWithoutInfo l
-  found_called h = rw h refl
-
-  pub found_busy : l.endpoint.sapi ≡ Zero → may_be_established l.endpoint.state ≡ false →
-      refusal_of OpensWithoutInfo (for_establishment l).endpoint ≡ Some NotIdle
-  found_busy h g = grind (arith, h, g)
-
   allowed_establishment : refusal_of OpensWithoutInfo (for_establishment l).endpoint ≡ None →
       (for_establishment l).endpoint.sapi ≡ Three
   allowed_establishment ok = grind (arith, ok)
@@ -400,6 +393,15 @@ module _ (l : LinkState) where
       (by_establishment (λ m. IsValidEndpoint m.endpoint) (IsValidEndpoint-initial l.endpoint.role Three l.endpoint.channel)
       (valid_for_call OpensWithoutInfo l h)) (allowed_establishment ok) ok))
 
+pub keeps-received : (f : Frame) (l : LinkState) → IsValidEndpoint l.endpoint → FrameFits l.endpoint.channel f →
+    Keeps l.endpoint (received_outcome f l)
+keeps-received f l h fits = by (refuses f l.endpoint)
+  where
+    by : (b : Bool) → Keeps l.endpoint
+        (outcome_of_reply (if b then SendsDm else reply_to_frame (as_taken f l.endpoint) l.endpoint) l.endpoint)
+    by true = grind arith
+    by false = keeps-frame (as_taken f l.endpoint) l.endpoint h (taken_fits l.endpoint.channel f l.endpoint fits)
+
 pub same_after_frame : (f : Frame) (l : LinkState) → IsValidEndpoint l.endpoint → FrameFits l.endpoint.channel f →
     IsSameLink l (after_frame f l)
 same_after_frame f l h fits =
@@ -407,8 +409,7 @@ same_after_frame f l h fits =
     let m = for_frame f l in
     by_test (ignores f l)
     (same_trans s (same_outcome m (received_outcome f m)
-    (keeps-frame (as_taken f m.endpoint) m.endpoint (valid_for_frame f l h)
-    (rw s.channel (taken_fits l.endpoint.channel f m.endpoint fits)))))
+    (keeps-received f m (valid_for_frame f l h) (rw s.channel fits))))
   where
     by_test : (b : Bool) → IsSameLink l (let m = for_frame f l in with_outcome (received_outcome f m) m) →
         IsSameLink l (if b then l else (let m = for_frame f l in with_outcome (received_outcome f m) m))
@@ -485,17 +486,6 @@ valid_with_flags heard main s h = record {
 
 pub valid_clocks : (s : DataLinkState) → IsDataLink s → IsDataLink (with_clocks_moved s)
 valid_clocks s h = grind arith
-
-pub valid_slot : (s : DataLinkState) → IsDataLink s → IsDataLink (data_link_outcome s).new_state
-valid_slot s h = by_frame (slot_outcome (with_clocks_moved s).link0).frame
-  where
-    by_frame : (sent : Option Frame) →
-        IsDataLink (with_sapi3 (slot_outcome (with_clocks_moved s).link0) sent (with_clocks_moved s)).new_state
-    by_frame (Some f) = replaced Zero _ (with_clocks_moved s) (valid_clocks s h) (same_slot (with_clocks_moved s).link0)
-    by_frame None =
-        let m = with_clocks_moved s in
-        replaced Three _ (with_link Zero (slot_outcome m.link0).link m) (replaced Zero _ m (valid_clocks s h) (same_slot m.link0))
-        (same_slot m.link3)
 
 -- what follows from a call that is not refused follows once its refusal is known to be none
 pub on_ok_known : {A E P Q : Type 0} (r : Result A E) → (result_err r ≡ None → P → Q) → OnOk r P → OnOk r Q

@@ -12,7 +12,7 @@ use Rattle.lapdm_end.specs.lapdm_window.Rules.{answers_poll, resends_outstanding
 use Rattle.lapdm_end.specs.lapdm_window.Tables.{Reply, TakesIFrame, TakesRr, TakesRej, outcome_of_reply, reply_to_frame, frame_outcome}
 use Rattle.lapdm_end.specs.lapdm_window.Calls.{Call, Sends, call_outcome, with_queued_message}
 use Rattle.lapdm_link.proofs.lapdm_window.Lemmas.{Keeps}
-use Rattle.lapdm_datalink.specs.Links.{is_awaiting_kind, IsLinkCall}
+use Rattle.lapdm_datalink.specs.Links.{LinkState, is_awaiting_kind, link_reply, received_outcome, IsLinkCall}
 use Rattle.lapdm_datalink.specs.Abstraction.{IsAnswer, MayBeReturned}
 
 -- the frame awaits an answer, or is an answer of a link with this role and SAPI
@@ -87,6 +87,9 @@ returns-reply r x = grind arith
 
 pub returns-frame : (f : Frame) (x : EndpointState) → Returns x (frame_outcome f x)
 returns-frame f x = returns-reply (reply_to_frame f x) x
+
+pub returns-received : (f : Frame) (l : LinkState) → Returns l.endpoint (received_outcome f l)
+returns-received f l = returns-reply (link_reply f l.endpoint) l.endpoint
 
 pub returns-call : (call : Call) (x : EndpointState) → IsLinkCall call → Returns x (call_outcome call x)
 returns-call (Sends m) x is =

@@ -15,7 +15,7 @@ use Rattle.{
   },
   lapdm_datalink.specs.{
     Links.{LinkState, link_with, is_opened_again, is_reopened_by_frame, renewed_for, after_received},
-    Slots.{IsSabmThatOpened, IsRepeat, IsNewOpening},
+    Slots.{IsSabmThatOpened, IsRepeat, IsNewOpening, IsSabmInClosing, IsRefused},
   },
 }
 
@@ -40,6 +40,11 @@ closed_stays f l h = grind (arith, h)
 -- a closed link that a frame opens again has heard nothing
 pub reopened_unheard : (f : Frame) (l : LinkState) → is_reopened_by_frame f l ≡ true → (after_received f l).heard ≡ false
 reopened_unheard f l h = rw (sym (closed_stays f l h)) (grind (arith, h))
+
+-- ---- a SABM in Closing
+
+pub refused : (f : Frame) (l : LinkState) → IsSabmInClosing f l → IsRefused f l
+refused f l h = grind (arith, h.state, h.command, h.content)
 
 -- ---- each is refused where the other holds
 

@@ -5,3 +5,4 @@ pub mod Abstraction
 pub mod Sides
 pub mod Parts
 pub mod Slots
+pub mod Outlooks

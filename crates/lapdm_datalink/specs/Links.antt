@@ -15,7 +15,7 @@ use Rattle.lapdm_end.specs.lapdm_window.segmenting.Segments.{Message}
 use Rattle.lapdm_end.specs.lapdm_window.Ends.{Role, Network, EndpointState, Outcome, initial_endpoint, awaits_answer, command_frame}
 use Rattle.lapdm_end.specs.lapdm_window.Ends.{sapi_number, acked_message_count}
 use Rattle.lapdm_end.specs.lapdm_window.Rules.{is_open}
-use Rattle.lapdm_end.specs.lapdm_window.Tables.{frame_outcome, is_command, answers_repeated_sabm}
+use Rattle.lapdm_end.specs.lapdm_window.Tables.{Reply, SendsDm, reply_to_frame, outcome_of_reply, is_command, answers_repeated_sabm}
 use Rattle.lapdm_end.specs.lapdm_window.Calls.{Call, Opens, OpensWithoutInfo, Sends, Closes, awaited_frame}
 use Rattle.lapdm_end.specs.lapdm_window.Calls.{t200_expiry, call_outcome}
 use Rattle.lapdm_link.specs.Worlds.{rej_replaced_by_rr}
@@ -165,9 +165,27 @@ ignores f l = is_unnumbered_answer f.content && awaits_unnumbered_answer l.endpo
 abbrev pub as_taken : Frame → EndpointState → Frame
 as_taken f e = record f { sapi = sapi_number e.sapi; content = rej_replaced_by_rr f.content }
 
--- what the endpoint does with a received frame
+-- whether the state is Closing
+abbrev pub is_closing : State → Bool
+is_closing Closing = true
+is_closing other = false
+
+-- whether this is the content of a SABM
+abbrev pub is_sabm : Content → Bool
+is_sabm (Sabm p info) = true
+is_sabm other = false
+
+-- whether the link refuses a received frame: the other side opens the link while it is being released here
+abbrev pub refuses : Frame → EndpointState → Bool
+refuses f e = is_sabm f.content && is_closing e.state && is_command e f
+
+-- the reply to a received frame: a DM if the link refuses it (section 5.4.6.2), otherwise that of the endpoint
+abbrev pub link_reply : Frame → EndpointState → Reply
+link_reply f e = if refuses f e then SendsDm else reply_to_frame (as_taken f e) e
+
+-- what the link does with a received frame
 abbrev pub received_outcome : Frame → LinkState → Outcome
-received_outcome f l = frame_outcome (as_taken f l.endpoint) l.endpoint
+received_outcome f l = outcome_of_reply (link_reply f l.endpoint) l.endpoint
 
 -- the link after it takes a frame of its SAPI, unless the frame opens an open link again
 abbrev pub after_frame : Frame → LinkState → LinkState

@@ -1,9 +1,9 @@
 -- What a link does to its endpoint in a slot, and how soon it answers an I frame.
 use Rattle.std.specs.Prelude.{◌≡◌, ◌≢◌, ◌⊎◌, ℕ, Bool, true, false, not, ◌&&◌, [], ◌∷◌, Option, Some, None}
-use Rattle.lapdm_frame.specs.Content.{Content, I, Rr, Rej, Sabm, Ua, Frame}
+use Rattle.lapdm_frame.specs.Content.{Content, I, Rr, Rej, Sabm, Dm, Ua, Frame}
 use Rattle.lapdm_end.specs.lapdm_window.declared.Sapi.TheVariants.{Three}
-use Rattle.lapdm_end.specs.lapdm_window.declared.State.TheVariants.{Opening, Open}
-use Rattle.lapdm_end.specs.lapdm_window.segmenting.Segments.{Segment}
+use Rattle.lapdm_end.specs.lapdm_window.declared.State.TheVariants.{Opening, Open, Closing}
+use Rattle.lapdm_end.specs.lapdm_window.segmenting.Segments.{Message, Segment}
 use Rattle.lapdm_end.specs.lapdm_window.declared.Notice.TheVariants.{Opened}
 use Rattle.lapdm_end.specs.lapdm_window.Ends.{awaits_answer, command_cr, response_frame, IsPossibleSabmInfo}
 use Rattle.lapdm_end.specs.lapdm_window.Tables.{is_command, answers_repeated_sabm}
@@ -103,6 +103,21 @@ pub record IsNewOpening (f : Frame) (l : LinkState) : Type 0 where
   pub fresh : CountsFromZero (after_received f l)
   pub notices : received_notices f l ≡ Opened l.endpoint.sabm_info ∷ []
   pub answer : (after_received f l).answer ≡ Some (response_frame l.endpoint (Ua true l.endpoint.sabm_info))
+
+-- ---- a SABM in Closing
+
+-- a SABM from the other side arrives at a link that is being released
+pub record IsSabmInClosing (f : Frame) (l : LinkState) : Type 0 where
+  pub state : l.endpoint.state ≡ Closing
+  pub command : is_command l.endpoint f ≡ true
+  pub info : Message
+  pub content : f.content ≡ Sabm true info
+
+-- it is refused: the endpoint stays as it is, the link reports nothing, and sends a DM in its next slot
+pub record IsRefused (f : Frame) (l : LinkState) : Type 0 where
+  pub endpoint : (after_received f l).endpoint ≡ l.endpoint
+  pub notices : received_notices f l ≡ []
+  pub dm : (slot_outcome (after_slot (after_received f l))).frame ≡ Some (response_frame l.endpoint (Dm true))
 
 -- ---- normal establishment
 

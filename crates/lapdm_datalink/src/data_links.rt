@@ -1,16 +1,15 @@
 //! A data link: both links of one side of a channel, slot by slot.
 
-ghost use Rattle.std.specs.Prelude.{◌≡◌, ◌≢◌, false, [], map, Option, Some, None, IfSome, IfNone, IfOk, OnOk, OnErr};
-ghost use Rattle.std.specs.Option.{option_map};
+ghost use Rattle.std.specs.Prelude.{◌≡◌, ◌≢◌, false, map, IfOk, OnOk, OnErr};
 ghost use Rattle.std.specs.Result.{result_err};
 ghost use Rattle.lapdm_frame.specs.Content.{frame_of_view};
-ghost use Rattle.lapdm_frame.specs.Frames.{FrameFits, octets_of};
+ghost use Rattle.lapdm_frame.specs.Frames.{octets_of};
 ghost use Rattle.lapdm_end.specs.lapdm_window.Calls.{endpoint_call_of, IsCallAllowedFor, OpensWithoutInfo, SendsUi, refusal_of};
 ghost use Rattle.lapdm_end.specs.lapdm_window.segmenting.Buffers.{octets_in_buffer};
 ghost use Rattle.lapdm_end.specs.lapdm_window.declared.Sapi.TheVariants as P;
 ghost use Rattle.lapdm_end.specs.Addresses.{spec_role_of};
 ghost use Rattle.lapdm_end.specs.lapdm_window.Ends.{initial_endpoint};
-ghost use Rattle.lapdm_datalink.specs.Links.{link_with, afresh, IsLinkCall, for_call, after_call, after_received, received_notices};
+ghost use Rattle.lapdm_datalink.specs.Links.{link_with, afresh, IsLinkCall, for_call, after_call};
 ghost use Rattle.lapdm_datalink.specs.Links.{for_establishment, after_establishment, unacked_messages};
 ghost use Rattle.lapdm_datalink.specs.Abstraction as L;
 ghost use Rattle.lapdm_datalink.specs.DataLinks.{
@@ -19,18 +18,12 @@ ghost use Rattle.lapdm_datalink.specs.DataLinks.{
   link_with_sapi,
   with_link,
   holds_up_sapi3,
-  having_heard,
-  sapi_for_frame,
-  after_arrival,
-  notices_of_taking,
-  with_clocks_moved,
   unit_frame,
-  data_link_outcome,
 };
-ghost use Rattle.lapdm_datalink.specs.Abstraction.{channel_of as link_channel, role_of as link_role, sapi_of, notices_if};
+ghost use Rattle.lapdm_datalink.specs.Abstraction.{channel_of as link_channel, role_of as link_role, sapi_of};
 
-use crate::links::{Link, any_on_sapi0, on_sapi0};
-use lapdm_end::{Call, Channel, Effects, MessageBuffer, Refused, Role, Sapi};
+use crate::links::{Link, on_sapi0};
+use lapdm_end::{Call, Channel, MessageBuffer, Refused, Role, Sapi};
 use lapdm_frame::{BLOCK_OCTETS, Body, FrameView};
 
 /// How the link of SAPI 0 is established.
@@ -218,108 +211,6 @@ impl DataLink {
         ensures represents { (s : DataLinkState) → Represents self.now s → result ≡ s.link0.endpoint.channel }
     {
         self.link0.endpoint.channel()
-    }
-
-    // Returns the SAPI of the link that takes a received frame, or `None` if the data link drops it.
-    fn sapi_for(&self, frame: &FrameView<'_>) -> Option<Sapi>
-        ensures { (s : DataLinkState) → Represents self.now s → result ≡ sapi_for_frame (frame_of_view frame.now) s }
-    {
-        self.link0.sapi_for(frame, self.is_main_established)
-    }
-
-    /// Processes a received frame, and replaces the notices in `effects` by those of the link that takes it; it gets no frames. Returns the
-    /// SAPI of that link, or `None` if the frame is dropped.
-    pub fn take(&mut self, frame: &FrameView<'_>, effects: &mut Effects) -> Option<Sapi>
-        requires { FrameFits (channel_of self.old) (frame_of_view frame.now) }
-        ensures sapi { (s : DataLinkState) → Represents self.old s → result ≡ sapi_for_frame (frame_of_view frame.now) s }
-        ensures represents { (s : DataLinkState) → Represents self.old s
-            → Represents self.new (after_arrival (frame_of_view frame.now) s) }
-        ensures notices { (s : DataLinkState) → Represents self.old s
-            → effects.new.notices ≡ notices_of_taking result (frame_of_view frame.now) s }
-        ensures frames { effects.new.frames ≡ [] }
-        ensures others { IfSome result (λ sapi. link_of (other sapi) self.new ≡ link_of (other sapi) self.old) }
-        ensures dropped0 { IfNone result (link_of P.Zero self.new ≡ link_of P.Zero self.old) }
-        ensures dropped3 { IfNone result (link_of P.Three self.new ≡ link_of P.Three self.old) }
-        ensures role { role_of self.new ≡ role_of self.old }
-        ensures channel { channel_of self.new ≡ channel_of self.old }
-    {
-        let sapi = self.sapi_for(frame);
-        self.hear(frame);
-        match sapi {
-            Some(sapi) => self.pass(sapi, frame, effects),
-            None => effects.clear(),
-        }
-        sapi
-    }
-
-    // Keeps in mind whether a received frame took the slot of an answer on SAPI 3.
-    fn hear(&mut self, frame: &FrameView<'_>)
-        ensures represents { (s : DataLinkState) → Represents self.old s
-            → Represents self.new (having_heard (frame_of_view frame.now) s) }
-        ensures link0 { link_of P.Zero self.new ≡ link_of P.Zero self.old }
-        ensures link3 { link_of P.Three self.new ≡ link_of P.Three self.old }
-    {
-        if holds_up_sapi3(frame) {
-            self.heard_sapi0 = true;
-        }
-    }
-
-    // Passes a frame to the link with this SAPI.
-    fn pass(&mut self, sapi: Sapi, frame: &FrameView<'_>, effects: &mut Effects)
-        requires { FrameFits (channel_of self.old) (frame_of_view frame.now) }
-        ensures represents { (s : DataLinkState) → Represents self.old s
-            → Represents self.new (with_link sapi (after_received (frame_of_view frame.now) (link_with_sapi sapi s)) s) }
-        ensures notices { (s : DataLinkState) → Represents self.old s
-            → effects.new.notices ≡ received_notices (frame_of_view frame.now) (link_with_sapi sapi s) }
-        ensures frames { effects.new.frames ≡ [] }
-        ensures others { link_of (other sapi) self.new ≡ link_of (other sapi) self.old }
-        ensures role { role_of self.new ≡ role_of self.old }
-        ensures channel { channel_of self.new ≡ channel_of self.old }
-    {
-        match sapi {
-            Sapi::Zero => self.link0.receive(frame, effects),
-            Sapi::Three => self.link3.receive(frame, effects),
-        }
-    }
-
-    // Counts the slot for T200: for that of SAPI 3 only if no frame of SAPI 0 took the place of its answer.
-    fn move_clocks(&mut self)
-        ensures represents { (s : DataLinkState) → Represents self.old s → Represents self.new (with_clocks_moved s) }
-        ensures role { role_of self.new ≡ role_of self.old }
-        ensures channel { channel_of self.new ≡ channel_of self.old }
-    {
-        self.link0.count_slot_unless(false);
-        self.link3.count_slot_unless(self.heard_sapi0);
-        self.heard_sapi0 = false;
-    }
-
-    /// Returns what the data link does in this slot: SAPI 0 goes first.
-    pub fn next(&mut self) -> Slot
-        ensures represents { (s : DataLinkState) → Represents self.old s → Represents self.new (data_link_outcome s).new_state }
-        ensures block { (s : DataLinkState) → Represents self.old s
-            → result.block ≡ option_map (octets_of (channel_of self.old)) (data_link_outcome s).frame }
-        ensures gave_up0 { (s : DataLinkState) → Represents self.old s → notices_if result.gave_up0 ≡ (data_link_outcome s).notices0 }
-        ensures gave_up3 { (s : DataLinkState) → Represents self.old s → notices_if result.gave_up3 ≡ (data_link_outcome s).notices3 }
-        ensures role { role_of self.new ≡ role_of self.old }
-        ensures channel { channel_of self.new ≡ channel_of self.old }
-    {
-        self.move_clocks();
-        let endpoint_sapi = self.link0.endpoint_sapi();
-        let channel = self.channel();
-        let slot0 = self.link0.slot();
-        if let Some(_) = slot0.block {
-            return Slot {
-                block: any_on_sapi0(endpoint_sapi, channel, slot0.block),
-                gave_up0: slot0.gave_up,
-                gave_up3: false,
-            };
-        }
-        let slot3 = self.link3.slot();
-        Slot {
-            block: slot3.block,
-            gave_up0: slot0.gave_up,
-            gave_up3: slot3.gave_up,
-        }
     }
 }
 

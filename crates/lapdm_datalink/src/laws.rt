@@ -10,7 +10,7 @@ ghost use Rattle.lapdm_end.specs.lapdm_window.Rules.{is_open};
 ghost use Rattle.lapdm_datalink.specs.Links.{LinkState, after_received, after_slot, is_reopened_by_frame, slot_outcome, sabm_goes_first};
 ghost use Rattle.lapdm_datalink.specs.Links.{is_closed};
 ghost use Rattle.lapdm_datalink.specs.Slots.{GoesFirst, IsNewOpening, IsRepeat, IsSabmThatOpened, IsStepOfEndpoint, nr_of, took};
-ghost use Rattle.lapdm_datalink.specs.Slots.{CountsFromZero, IsBareSabm, IsNormalOpening, IsEstablishedAfresh};
+ghost use Rattle.lapdm_datalink.specs.Slots.{CountsFromZero, IsSabmInClosing, IsRefused, IsBareSabm, IsNormalOpening, IsEstablishedAfresh};
 ghost use Rattle.lapdm_datalink.specs.DataLinks.{DataLinkState, after_arrival};
 
 /// Law: in a slot, the endpoint of a link does nothing, repeats the frame that awaits an answer without counting it, or handles the expiry
@@ -49,6 +49,12 @@ pub fn law_sapi_0_goes_first()
 pub fn law_sabm_in_open_is_a_repeat_or_an_opening()
     ensures { (f : Frame) (l : LinkState) → IsSabmThatOpened f l
         → (l.heard ≡ false → IsRepeat f l) × (l.heard ≡ true → IsNewOpening f l) }
+{}
+
+/// Law: a SABM that arrives while a link is being released is refused: the release goes on, and the next slot carries a DM.
+#[tactic(auto, using(crate::proofs::SabmInOpen::refused))]
+pub fn law_sabm_in_closing_is_refused()
+    ensures { (f : Frame) (l : LinkState) → IsSabmInClosing f l → IsRefused f l }
 {}
 
 /// Law: a closed link that a frame opens again has heard nothing, whatever it had heard before it was closed.

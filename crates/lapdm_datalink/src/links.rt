@@ -13,7 +13,7 @@ ghost use Rattle.lapdm_end.specs.lapdm_window.Calls.{endpoint_call_of, IsCallAll
 ghost use Rattle.lapdm_end.specs.lapdm_window.Calls.{refusal_of, call_outcome};
 ghost use Rattle.lapdm_end.specs.lapdm_window.Ends.{initial_endpoint, awaits_answer, sapi_number};
 ghost use Rattle.lapdm_end.specs.lapdm_window.segmenting.Buffers.{octets_in_buffer};
-ghost use Rattle.lapdm_end.specs.lapdm_window.Tables.{is_command, answers_repeated_sabm};
+ghost use Rattle.lapdm_end.specs.lapdm_window.Tables.{SendsDm, outcome_of_reply, frame_outcome, is_command, answers_repeated_sabm};
 ghost use Rattle.lapdm_end.specs.lapdm_window.declared.Sapi.TheVariants as P;
 ghost use Rattle.lapdm_link.specs.Worlds.{rej_replaced_by_rr};
 ghost use Rattle.lapdm_end.specs.Addresses.{spec_role_of};
@@ -40,6 +40,8 @@ ghost use Rattle.lapdm_datalink.specs.Links.{
   after_frame,
   frame_notices,
   received_outcome,
+  refuses,
+  as_taken,
   is_numbered,
   is_opened_again,
   is_return,
@@ -50,7 +52,6 @@ ghost use Rattle.lapdm_datalink.specs.Links.{
   ui_frame,
   is_unnumbered_answer,
   ignores,
-  after_slot,
   is_due,
   is_plain_rr,
   sabm_goes_first,
@@ -60,12 +61,11 @@ ghost use Rattle.lapdm_datalink.specs.Links.{
   sends_due_frame,
   slot_outcome,
 };
-ghost use Rattle.lapdm_datalink.specs.DataLinks.{DataLinkState, takes_sapi3, sapi_for_frame, on_sapi0};
-ghost use Rattle.lapdm_datalink.specs.Parts.{acts_in_slot};
+ghost use Rattle.lapdm_datalink.specs.DataLinks.{on_sapi0};
 ghost use Rattle.lapdm_datalink.specs.Abstraction.{channel_of, role_of, sapi_of, Represents, MayBeReturned, notices_if};
 
 use lapdm_end::{Call, Channel, Effects, Endpoint, MessageBuffer, Refused, Role, Sapi, State};
-use lapdm_frame::{BLOCK_OCTETS, Body, FrameView, read_on};
+use lapdm_frame::{BLOCK_OCTETS, Body, FrameView, read_on, write_on};
 
 /// A link of one SAPI, and what it has to send.
 #[derive(Debug, Drop)]
@@ -520,13 +520,60 @@ impl Link {
         }
     }
 
-    // Passes a frame to the endpoint, and keeps the frames that it returns.
+    // Returns whether the link refuses a received frame: a SABM, while it is being released.
+    fn refuses(&self, frame: &FrameView<'_>) -> bool
+        ensures { (l : LinkState) → Represents self.now l → result ≡ refuses (frame_of_view frame.now) l.endpoint }
+    {
+        let Body::Sabm { .. } = frame.body else {
+            return false;
+        };
+        self.endpoint.state() == State::Closing && self.is_command(frame)
+    }
+
+    // Owes the DM that refuses a SABM.
+    fn owe_dm(&mut self)
+        ensures represents { (l : LinkState) → Represents self.old l
+            → Represents self.new (with_outcome (outcome_of_reply SendsDm l.endpoint) l) }
+        ensures role { role_of self.new ≡ role_of self.old }
+        ensures sapi { sapi_of self.new ≡ sapi_of self.old }
+        ensures channel { channel_of self.new ≡ channel_of self.old }
+    {
+        let dm = FrameView {
+            sapi: sapi_number(self.endpoint.sapi()),
+            cr: self.endpoint.role() == Role::Mobile,
+            body: Body::Dm { f: true },
+        };
+        self.answer = Some(write_on(&dm, self.endpoint.channel()));
+    }
+
+    // Refuses a frame, or passes it to the endpoint.
     fn take_considered(&mut self, frame: &FrameView<'_>, effects: &mut Effects)
         requires { FrameFits (channel_of self.old) (frame_of_view frame.now) }
         ensures done { (l : LinkState) → Represents self.old l
             → Represents self.new (with_outcome (received_outcome (frame_of_view frame.now) l) l) }
         ensures notices { (l : LinkState) → Represents self.old l
             → effects.new.notices ≡ (received_outcome (frame_of_view frame.now) l).notices }
+        ensures frames { effects.new.frames ≡ [] }
+        ensures role { role_of self.new ≡ role_of self.old }
+        ensures sapi { sapi_of self.new ≡ sapi_of self.old }
+        ensures channel { channel_of self.new ≡ channel_of self.old }
+    {
+        if self.refuses(frame) {
+            effects.clear();
+            self.owe_dm();
+            return;
+        }
+        self.pass(frame, effects);
+    }
+
+    // Passes a frame to the endpoint, and keeps the frames that it returns.
+    fn pass(&mut self, frame: &FrameView<'_>, effects: &mut Effects)
+        requires { FrameFits (channel_of self.old) (frame_of_view frame.now) }
+        ensures done { (l : LinkState) → Represents self.old l
+            → Represents self.new
+            (with_outcome (frame_outcome (as_taken (frame_of_view frame.now) l.endpoint) l.endpoint) l) }
+        ensures notices { (l : LinkState) → Represents self.old l
+            → effects.new.notices ≡ (frame_outcome (as_taken (frame_of_view frame.now) l.endpoint) l.endpoint).notices }
         ensures frames { effects.new.frames ≡ [] }
         ensures role { role_of self.new ≡ role_of self.old }
         ensures sapi { sapi_of self.new ≡ sapi_of self.old }
@@ -540,35 +587,6 @@ impl Link {
         self.endpoint.take_frame_into(&taken, effects);
         self.keep_all(effects.frames.as_slice());
         effects.frames.clear();
-    }
-
-    // Returns whether the data link of this link of SAPI 0 takes frames of SAPI 3.
-    fn takes_sapi3(&self, is_main_established: bool) -> bool
-        ensures { (s : DataLinkState) → Represents self.now s.link0 → is_main_established ≡ s.is_main_established
-            → result ≡ takes_sapi3 s }
-    {
-        match (self.endpoint.role(), self.endpoint.channel()) {
-            (Role::Network, _) => true,
-            (Role::Mobile, Channel::Sdcch) => match self.endpoint.state() {
-                State::Open | State::Closing => true,
-                State::Idle | State::Opening | State::Closed => false,
-            },
-            (Role::Mobile, Channel::Sacch) => is_main_established,
-        }
-    }
-
-    /// Returns the SAPI of the link that takes a frame received by the data link of this link of SAPI 0, or `None` if it is dropped.
-    pub fn sapi_for(&self, frame: &FrameView<'_>, is_main_established: bool) -> Option<Sapi>
-        ensures { (s : DataLinkState) → Represents self.now s.link0 → is_main_established ≡ s.is_main_established
-            → result ≡ sapi_for_frame (frame_of_view frame.now) s }
-    {
-        if frame.sapi == 0 {
-            return Some(Sapi::Zero);
-        }
-        if frame.sapi == 3 && self.takes_sapi3(is_main_established) {
-            return Some(Sapi::Three);
-        }
-        None
     }
 
     /// Returns the messages that were passed to the link and are not completely acknowledged, oldest first.
@@ -585,18 +603,6 @@ impl Link {
         self.endpoint.sapi()
     }
 
-    pub fn role(&self) -> Role
-        ensures { spec_role_of result ≡ role_of self.now }
-    {
-        self.endpoint.role()
-    }
-
-    pub fn channel(&self) -> Channel
-        ensures { result ≡ channel_of self.now }
-    {
-        self.endpoint.channel()
-    }
-
     /// Encodes a UI frame, for a slot that is free.
     pub fn unit(&self, message: &[u8]) -> Result<[u8; BLOCK_OCTETS], Refused>
         ensures refusal { (l : LinkState) → Represents self.now l → result_err result ≡ refusal_of (SendsUi message.now) l.endpoint }
@@ -606,32 +612,10 @@ impl Link {
         self.endpoint.ui_block(message)
     }
 
-    /// Counts a slot, unless it does not count.
-    pub fn count_slot_unless(&mut self, is_stopped: bool)
-        ensures represents { (l : LinkState) → Represents self.old l → Represents self.new (if is_stopped then l else after_slot l) }
-        ensures role { role_of self.new ≡ role_of self.old }
-        ensures sapi { sapi_of self.new ≡ sapi_of self.old }
-        ensures channel { channel_of self.new ≡ channel_of self.old }
-    {
-        if !is_stopped && self.clock > 0 {
-            self.clock -= 1;
-        }
-    }
-
     fn is_due(&self) -> bool
         ensures { (l : LinkState) → Represents self.now l → result ≡ is_due l }
     {
         self.clock == 0 && self.endpoint.awaits_answer()
-    }
-
-    /// Returns whether the link sends a frame or is given up in a slot that it may use: it owes an answer, or its frame is due.
-    pub fn acts_in_slot(&self) -> bool
-        ensures { (l : LinkState) → Represents self.now l → result ≡ acts_in_slot l }
-    {
-        match self.answer {
-            Some(_) => true,
-            None => self.is_due(),
-        }
     }
 
     // Returns whether the own SABM was not sent yet, so that it goes before the UA to the SABM of the other side.

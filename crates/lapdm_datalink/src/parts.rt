@@ -1,6 +1,6 @@
 //! Exports the state of a link as plain data, and restores a link from it.
 
-ghost use Rattle.std.specs.Prelude.{◌≡◌, ◌≢◌, ◌≤◌, ◌↔◌, false, IsTrue, IsSome, IfSome};
+ghost use Rattle.std.specs.Prelude.{◌≡◌, ◌≢◌, ◌≤◌, ◌↔◌, false, IsTrue, IfSome, MatchOption};
 ghost use Rattle.lapdm_frame.specs.Content.{content_of_body, frame_of_view};
 ghost use Rattle.lapdm_end.specs.Addresses.{spec_role_of};
 ghost use Rattle.lapdm_datalink.specs.Links.{LinkState};
@@ -92,6 +92,15 @@ fn has_answer_block_if_any(parts: &LinkView<'_>) -> bool
     }
 }
 
+impl LinkView<'_> {
+    /// Returns whether some link has this state.
+    pub fn is_link(&self) -> bool
+        ensures { IsTrue result ↔ SomeLinkHasValues (values_of_parts self.now) }
+    {
+        has_answer_block_if_any(self) && self.endpoint.is_endpoint()
+    }
+}
+
 fn is_same_role(role: Role, other: Role) -> bool
     ensures { IsTrue result ↔ (spec_role_of role ≡ spec_role_of other) }
 {
@@ -152,6 +161,21 @@ impl Link {
         self.clock = parts.clock;
         self.heard = parts.heard;
         true
+    }
+
+    /// Returns the link with this state, or `None` if no link can have it.
+    pub fn from_parts(parts: &LinkView<'_>) -> Option<Link>
+        ensures { MatchOption result (SomeLinkHasValues (values_of_parts parts.now) → ⊥)
+            (λ m. SomeLinkHasValues (values_of_parts parts.now)
+            × ((l : LinkState) → ValuesRepresent (values_of_parts parts.now) l → Represents m l)) }
+    {
+        let end = &parts.endpoint;
+        let mut held = Link::new_on(end.role, end.sapi, end.window.channel, parts.t200);
+        if held.restore_any(parts) {
+            Some(held)
+        } else {
+            None
+        }
     }
 
     /// Restores a link from its state. Returns false and changes nothing if no link with this SAPI and channel can have this state.
@@ -254,9 +278,9 @@ impl DataLink {
     /// Returns the data link with this state, or `None` if no data link can have it.
     pub fn from_parts(parts: &DataLinkView<'_>) -> Option<DataLink>
         ensures same { IfSome result (λ m. data_link_values_of m ≡ data_link_values_of_parts parts.now) }
-        ensures represents { IfSome result
-            (λ m. (s : DataLinkState) → RepresentDataLink (data_link_values_of_parts parts.now) s → DataLinkRepresents m s) }
-        ensures valid { IsSome result ↔ RepresentSomeDataLink (data_link_values_of_parts parts.now) }
+        ensures read { MatchOption result (RepresentSomeDataLink (data_link_values_of_parts parts.now) → ⊥)
+            (λ m. RepresentSomeDataLink (data_link_values_of_parts parts.now)
+            × ((s : DataLinkState) → RepresentDataLink (data_link_values_of_parts parts.now) s → DataLinkRepresents m s)) }
     {
         let end = &parts.link0.endpoint;
         let mut held = DataLink::with_endpoint(end.sapi, end.role, end.window.channel, 1, 1);

@@ -15,18 +15,19 @@ use Rattle.lapdm_end.specs.lapdm_window.segmenting.Segments.{Segment}
 use Rattle.lapdm_end.specs.lapdm_window.Ends.{Role, EndpointState, Outcome, ◌then◌, awaits_answer}
 use Rattle.lapdm_end.specs.lapdm_window.Rules.{sends_next_segment, evaluates_nr, accepts_segment, answers_segment, rejects_segment}
 use Rattle.lapdm_end.specs.lapdm_window.Rules.{answers_poll, is_open, resends_outstanding_segment}
-use Rattle.lapdm_end.specs.lapdm_window.Tables.{Reply, TakesIFrame, TakesRr, TakesRej, outcome_of_reply, reply_to_frame, frame_outcome}
+use Rattle.lapdm_end.specs.lapdm_window.Tables.{Reply, TakesIFrame, TakesRr, TakesRej, SendsDm, outcome_of_reply, reply_to_frame}
 use Rattle.lapdm_end.specs.lapdm_window.Tables.{is_command}
 use Rattle.lapdm_end.specs.lapdm_window.Calls.{Call, Opens, OpensWithoutInfo, Sends, Closes, refusal_of, call_outcome, with_queued_message}
 use Rattle.lapdm_end.specs.lapdm_window.Calls.{awaited_frame, t200_expiry, IsCallAllowedFor}
 use Rattle.lapdm_link.proofs.Lemmas.{AllOf, IsReplyTo, cause_of, is_on, of-append}
 use Rattle.lapdm_delivery.specs.Lockstep.{after_call_unless}
 use Rattle.lapdm_datalink.specs.Links.{LinkState, SlotOutcome, is_awaiting_kind, with_frame, with_frames, with_outcome, afresh, for_call}
-use Rattle.lapdm_datalink.specs.Links.{IsLinkCall, after_frame, received_outcome, ignores, is_reopened_by_call, is_reopened_by_frame}
+use Rattle.lapdm_datalink.specs.Links.{IsLinkCall, after_frame, received_outcome, ignores, refuses, is_reopened_by_call}
+use Rattle.lapdm_datalink.specs.Links.{is_reopened_by_frame}
 use Rattle.lapdm_datalink.specs.Links.{is_numbered, first_frame, is_sabm_that_opened, is_return, renewed_for, heard_with, after_received}
 use Rattle.lapdm_datalink.specs.Links.{received_notices, slot_outcome, as_taken, as_normal, is_opening, is_opening_content, is_sapi3}
 use Rattle.lapdm_datalink.specs.Links.{is_opened_with_contention, frame_notices}
-use Rattle.lapdm_datalink.proofs.Returned.{returns-frame, returns-call}
+use Rattle.lapdm_datalink.proofs.Returned.{returns-received, returns-call}
 use Rattle.lapdm_datalink.proofs.Lemmas.{endpoint_with_frame, endpoint_with_frames}
 use Rattle.lapdm_datalink.proofs.Answering.{IsSlot, sabm_first, idles, answering, repeating, expiring, is_slot}
 
@@ -113,8 +114,15 @@ grows-reply c (TakesRej nr poll) x cause = grows-open x _ cause.2
     (steady-three nr (answers_poll poll) resends_outstanding_segment (steady-poll poll) steady-resends x)
 grows-reply c r x cause = grind arith
 
-grows-frame : (f : Frame) (x : EndpointState) → Grows x (frame_outcome f x)
-grows-frame f x = grows-reply f.content (reply_to_frame f x) x (cause_of x f)
+grows-frame : (f : Frame) (l : LinkState) → Grows l.endpoint (received_outcome f l)
+grows-frame f l = by (refuses f l.endpoint)
+  where
+    x : EndpointState
+    x = l.endpoint
+
+    by : (b : Bool) → Grows x (outcome_of_reply (if b then SendsDm else reply_to_frame (as_taken f x) x) x)
+    by true = grows-reply f.content SendsDm x tt
+    by false = let g = as_taken f x in grows-reply g.content (reply_to_frame g x) x (cause_of x g)
 
 grows-call : (role : Role) (call : Call) (x : EndpointState) → IsLinkCall call → IsCallAllowedFor role x.sapi call →
     refusal_of call x ≡ None → Grows x (call_outcome call x)
@@ -190,9 +198,7 @@ ages-frame k f l once = by (ignores f l) (is_reopened_by_frame f l) once
     by : (b c : Bool) → c ≡ false →
         Ages k l (if b then l else (let m = if c then afresh l else l in with_outcome (received_outcome f m) m))
     by true false e = ages-same k l
-    by false false e =
-        let g = as_taken f l.endpoint in
-        ages-outcome k _ l (returns-frame g l.endpoint).sapi (grows-frame g l.endpoint)
+    by false false e = ages-outcome k _ l (returns-received f l).sapi (grows-frame f l)
     by b true e = absurd cc
 
 pub ages-call : (k : Sapi) (role : Role) (call : Call) (l : LinkState) → IsLinkCall call → IsCallAllowedFor role k call →

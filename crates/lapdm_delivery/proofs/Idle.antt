@@ -6,8 +6,8 @@ use Rattle.{
     proofs.Lemmas.{OpensWithoutInfo, Sends, SendsUi, Closes, T200Expires, Repeats, SendsFillFrame, call_outcome, refusal_of, frame_outcome},
     proofs.Lemmas.{other, World, end_of, way, acted, without_oldest_item, AllOf, of-append, IsPlaced, HasWindowOfOne, end_of-acted},
     proofs.Lemmas.{end_of-acted_else, way-acted, way-acted_other, other_is, taken-frame, Goes, remains, ends, closes, begins, opens},
-    proofs.Lemmas.{initial_world, Channel, QueueCapacity},
-    specs.Worlds.IsOldestSentOrRrForRej,
+    proofs.Lemmas.{initial_world, Channel, FrameFits, QueueCapacity},
+    specs.{Events.BothSides, Worlds.MayBeReadFor},
   },
   lapdm_datalink.specs.DataLinks.is_ui,
 }
@@ -145,6 +145,17 @@ fresh-acts {s} {w} r o own peer =
       comes = rw (way-acted r s o w) (of-append _ (way r w) o.frames g.0.comes g.2);
     }))
 
+-- what an end reads for a frame in transit: it fits if that frame does, and is a UI frame or an early one if that frame is
+pub record IsReadFor (r : Role) (sides : BothSides) (g f : Frame) : Type 0 where
+  pub may : MayBeReadFor r sides g f
+  pub fits : (channel : Channel) → FrameFits channel f → FrameFits channel g
+  pub early : (q : Role) (s : Sapi) → is_early q s f.content ≡ true → is_early q s g.content ≡ true
+  pub ui : is_ui f.content ≡ true → is_ui g.content ≡ true
+
+abbrev pub ReadsOldest : Role → BothSides → Frame → List Frame → Type 0
+ReadsOldest r sides g [] = ⊥
+ReadsOldest r sides g (f ∷ fs) = IsReadFor r sides g f
+
 module _ {s : Sapi} {w : World} (h : IsFresh s w) (r : Role) where
   pub fresh-calls : (call : Call) → IsPlaced r s call → refusal_of call (end_of r s w) ≡ None →
       IsFresh s (acted r s (call_outcome call (end_of r s w)) w)
@@ -153,16 +164,7 @@ module _ {s : Sapi} {w : World} (h : IsFresh s w) (r : Role) where
       (λ e. (let g = idle-call (end_of r s w) call ok e in ((fresh_at r h).0 g.0, g.1)))
       (λ e. (let g = (fresh_at r h).1 e in let t = early-call (end_of r s w) r s call placed ok g.state in (g, t.0, t.1)))
 
-  early-read : (f g : Frame) (fs : List Frame) (q : Role) → IsOldestSentOrRrForRej (Some g) (f ∷ fs) →
-      is_early q s f.content ≡ true →
-      is_early q s g.content ≡ true
-  early-read f g fs q read e = grind arith
-
-  ui-read : (f g : Frame) (fs : List Frame) → IsOldestSentOrRrForRej (Some g) (f ∷ fs) → is_ui f.content ≡ true →
-      is_ui g.content ≡ true
-  ui-read f g fs read e = grind arith
-
-  pub fresh-takes : (g : Frame) (q : List Frame) → way (other r) w ≡ q → IsOldestSentOrRrForRej (Some g) q →
+  pub fresh-takes : (g : Frame) (q : List Frame) → way (other r) w ≡ q → ReadsOldest r w.ends g q →
       (end_of r s w).role ≡ r → (end_of r s w).sapi ≡ s → HasWindowOfOne (end_of r s w) →
       IsFresh s (acted r s (frame_outcome g (end_of r s w)) (without_oldest_item (other r) w))
   fresh-takes g [] front read role sapi window = absurd read
@@ -171,13 +173,13 @@ module _ {s : Sapi} {w : World} (h : IsFresh s w) (r : Role) where
       let v = fresh-loses h (other r) in
       fresh-acts r (frame_outcome g x) (λ e. (let idle = idle-was x window g e in
       let comes : AllEarly r s (f ∷ fs) = rw front at ((fresh_at r h).0 idle).comes in
-      ((fresh_at r v).0 idle, rw (idle-frame x r s g role sapi idle (early-read f g fs r read comes.0) e) tt)))
+      ((fresh_at r v).0 idle, rw (idle-frame x r s g role sapi idle (read.early r s comes.0) e) tt)))
       (λ e. (let sent : AllUi (f ∷ fs) = rw front at ((fresh_at r h).1 e).sent in
-      let same = ui-frame x g (ui-read f g fs read sent.0) in
+      let same = ui-frame x g (read.ui sent.0) in
       ((fresh_at r v).1 e, rw same.0 ((fresh_at r h).1 e).state, rw same.1 tt)))
 
   -- an endpoint in Idle returns nothing for what arrives
-  pub idle-silent : (g : Frame) (q : List Frame) → way (other r) w ≡ q → IsOldestSentOrRrForRej (Some g) q →
+  pub idle-silent : (g : Frame) (q : List Frame) → way (other r) w ≡ q → ReadsOldest r w.ends g q →
       (end_of r s w).role ≡ r → (end_of r s w).sapi ≡ s → HasWindowOfOne (end_of r s w) →
       (frame_outcome g (end_of r s w)).new_state.state ≡ Idle →
       ((end_of r s w).state ≡ Idle) × ((frame_outcome g (end_of r s w)).frames ≡ [])
@@ -186,4 +188,4 @@ module _ {s : Sapi} {w : World} (h : IsFresh s w) (r : Role) where
       let x = end_of r s w in
       let idle = idle-was x window g e in
       let comes : AllEarly r s (f ∷ fs) = rw front at ((fresh_at r h).0 idle).comes in
-      (idle, idle-frame x r s g role sapi idle (early-read f g fs r read comes.0) e)
+      (idle, idle-frame x r s g role sapi idle (read.early r s comes.0) e)

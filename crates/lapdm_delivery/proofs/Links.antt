@@ -7,7 +7,7 @@ use Rattle.{
     },
     specs.Links.{is_closed, is_opening_call, afresh, IsLinkCall, LinkState, SlotOutcome, is_opening, is_awaiting_kind, with_frame},
     specs.Links.{with_frames, with_outcome, first_frame, after_call, after_frame, frame_notices, received_outcome, is_reopened_by_call},
-    specs.Links.{is_reopened_by_frame, ignores, after_slot, slot_outcome, ui_frame, as_taken},
+    specs.Links.{is_reopened_by_frame, ignores, refuses, after_slot, slot_outcome, ui_frame, as_taken},
   },
   lapdm_link.{
     proofs.{
@@ -20,21 +20,24 @@ use Rattle.{
       Lemmas.{Says, is_called, taken-frame, IsPlaced, Idle, State, n200, Closed, Goes, remains, ends, closes, begins, opens, cause_of},
       Lemmas.{IsReplyTo, closes_and_reports, may_send_next_segment, with_queued_message, sends_segment, no_effect, is_idle-is, not_false},
       Lemmas.{passes, single_frame_refusal_checks},
-      Subsequences.{IsSub, all, append, dropped, empty, kept, none},
     },
-    specs.Worlds.{rej_replaced_by_rr, IsOldestSentOrRrForRej},
+    specs.{Events.BothSides, Worlds.{rej_replaced_by_rr, rr_for_rej, dm_for_any}},
   },
   std.{specs.Prelude.{IfSome, ◌||◌}, proofs.lemmas.Bool.Decides.nat_tests},
   lapdm_end.specs.lapdm_window.{
     Tables.{Reply, reply_to_frame, outcome_of_reply, Nothing, SendsDm, SendsUa, ReportsUiInformation, TakesIFrame, TakesRr, TakesRej},
-    declared.State.TheVariants.{Open, Opening},
+    declared.State.TheVariants.{Closing, Open, Opening},
+    Ends.{command_frame, response_frame},
     Rules.is_open,
     Calls.{sabm, t200_expiry},
   },
+  lapdm_frame.specs.Content.{Dm, Disc},
   lapdm_delivery.proofs.{
     Claims.seen,
+    Idle.{IsReadFor, ReadsOldest},
     Worlds.{Reaches, calls, takes, loses, silent},
-    Queues.{on_air, pending, unsent-sent, IsNoOpening, elsewhere, answers, pending-outcome},
+    Queues.{IsCovered, StandsFor, all, append, dm_for_disc, dropped, empty, itself, kept, none},
+    Queues.{on_air, pending, unsent-elsewhere, unsent-sent, IsNoOpening, elsewhere, answers, pending-outcome},
   },
 }
 use Rattle.lapdm_end.specs.lapdm_window.declared.Reason.TheVariants as R
@@ -48,7 +51,7 @@ pub record IsSound (s : Sapi) (l : LinkState) : Type 0 where
 -- the link, with these frames of its SAPI on the air, is an endpoint of a session and its queue
 pub record Fits (r : Role) (s : Sapi) (air : List Frame) (l : LinkState) (w : World) : Type 0 where
   pub endpoint : end_of r s w ≡ l.endpoint
-  pub queue : IsSub (air ++ pending l) (way r w)
+  pub queue : IsCovered (air ++ pending l) (way r w)
   pub sound : IsSound s l
 
 -- a session reaches a state that both ends of a link fit; layer 3 has seen `log`
@@ -125,7 +128,7 @@ module _ {s : Sapi} {r : Role} {air air' : List Frame} {l l' : LinkState} {log :
     window = rw k.here.endpoint at (k.reaches.reached.reported r s).window_of_one
 
     -- nothing happens in the session
-    pub stays : {air2 : List Frame} {l2 : LinkState} → l2.endpoint ≡ l.endpoint → IsSub (air2 ++ pending l2) (way r k.world) →
+    pub stays : {air2 : List Frame} {l2 : LinkState} → l2.endpoint ≡ l.endpoint → IsCovered (air2 ++ pending l2) (way r k.world) →
         IsSound s l2 → LinkAt s r air2 l2 air' l' log
     stays e queue sound = record {
       world = k.world;
@@ -139,7 +142,7 @@ module _ {s : Sapi} {r : Role} {air air' : List Frame} {l l' : LinkState} {log :
     -- the endpoint acts in a state in which the other end fits
     acts : {air2 there_air : List Frame} {l2 : LinkState} (v : World) (o : Outcome) (new seen_new : List LogLine) →
         Reaches s (acted r s o v) (k.lines ++ new) → seen new ≡ seen_new → Fits (other r) s there_air l' v →
-        l2.endpoint ≡ o.new_state → IsSub (air2 ++ pending l2) (way r v ++ o.frames) → IsSound s l2 →
+        l2.endpoint ≡ o.new_state → IsCovered (air2 ++ pending l2) (way r v ++ o.frames) → IsSound s l2 →
         LinkAt s r air2 l2 there_air l' (log ++ seen_new)
     acts v o new seen_new reaches is there e queue sound = record {
       world = acted r s o v;
@@ -159,7 +162,7 @@ module _ {s : Sapi} {r : Role} {air air' : List Frame} {l l' : LinkState} {log :
         refusal_of call l.endpoint ≡ None →
         seen (Asked r s call ∷ map (Notified r s) (call_outcome call l.endpoint).notices) ≡ seen_new →
         l2.endpoint ≡ (call_outcome call l.endpoint).new_state →
-        IsSub (air2 ++ pending l2) (way r k.world ++ (call_outcome call l.endpoint).frames) → IsSound s l2 →
+        IsCovered (air2 ++ pending l2) (way r k.world ++ (call_outcome call l.endpoint).frames) → IsSound s l2 →
         LinkAt s r air2 l2 air' l' (log ++ seen_new)
     calls_with call seen_new placed ok is e queue sound =
         acts k.world (call_outcome call l.endpoint) (Asked r s call ∷ map (Notified r s) (call_outcome call l.endpoint).notices) seen_new
@@ -190,7 +193,7 @@ module _ {s : Sapi} {r : Role} {air air' : List Frame} {l l' : LinkState} {log :
         refusal_of call l.endpoint ≡ None →
         seen (Asked r s call ∷ map (Notified r s) (call_outcome call l.endpoint).notices) ≡ seen_new →
         l2.endpoint ≡ (call_outcome call l.endpoint).new_state → l2.is_sent ≡ true → l2.answer ≡ None →
-        IsSub frames (call_outcome call l.endpoint).frames → LinkAt s r (air ++ frames) l2 air' l' (log ++ seen_new)
+        IsCovered frames (call_outcome call l.endpoint).frames → LinkAt s r (air ++ frames) l2 air' l' (log ++ seen_new)
     sends_now call {l2} frames seen_new placed ok is e sent owes_none sub =
         calls_with call seen_new placed ok is e
         (rw (unsent-sent l2 sent, owes_none, append-nil) (append (on_air air (pending l) k.here.queue) sub))
@@ -214,9 +217,9 @@ awaited-sabm : (p : Bool) (st : State) (e : EndpointState) → is_opening st ≡
 awaited-sabm p Opening e h = refl
 awaited-sabm p st e h = absurd cc
 
-first-some : (fs : List Frame) → IsSub (cons_option (first_frame fs) []) fs
+first-some : (fs : List Frame) → IsCovered (cons_option (first_frame fs) []) fs
 first-some [] = empty
-first-some (f ∷ fs) = kept (none fs)
+first-some (f ∷ fs) = kept (itself refl) (none fs)
 
 -- the frame that a link sends in a slot has its SAPI
 pub slot-on : (s : Sapi) (l : LinkState) (o : SlotOutcome) → l.endpoint.sapi ≡ s → IsSound s l → IsSlot l o →
@@ -352,6 +355,28 @@ taken_same s f e same on = λ i. record f { sapi = number i; content = rej_repla
     number : sapi_number e.sapi ≡ f.sapi
     number = ap sapi_number same ∙ sym (on_is s f on)
 
+-- what is read of a frame on the air for the one in the queue for which it stands
+reads : (r : Role) (sides : BothSides) (f first g : Frame) → g ≡ record f { content = rej_replaced_by_rr f.content } →
+    StandsFor f first → IsReadFor r sides g first
+reads r sides f first g same (itself is) = rw (same, ← is) (record {
+  may = rr_for_rej refl;
+  fits = λ channel h. grind arith;
+  early = λ q s h. grind arith;
+  ui = λ h. grind arith;
+})
+reads r sides f first g same (dm_for_disc p sapi dm disc) = rw (same, dm) (record {
+  may = dm_for_any sapi refl;
+  fits = λ channel h. grind (arith, sapi);
+  early = λ q s h. absurd (grind (arith, disc));
+  ui = λ h. absurd (grind (arith, disc));
+})
+
+refused-closing : (f : Frame) (e : EndpointState) → refuses f e ≡ true → e.state ≡ Closing
+refused-closing f e h = grind arith
+
+closing_not_idle : Closing ≡ Idle → ⊥
+closing_not_idle h = cc h
+
 -- ---- the frames in front of the one that arrives are lost
 
 way-lost : (q : Role) (w : World) → way q (without_oldest_item q w) ≡ drop 1 (way q w)
@@ -361,24 +386,28 @@ way-lost_other : (r : Role) (w : World) → way r (without_oldest_item (other r)
 way-lost_other Mobile w = refl
 way-lost_other Network w = refl
 
--- the session goes on until this frame is the oldest in transit to side `r`
+-- the session goes on until the oldest frame in transit to side `r` is the one for which this frame stands
 record IsInFront (s : Sapi) (r : Role) (w : World) (lines : List LogLine) (f : Frame) (xs : List Frame) : Type 0 where
   world : World
   left : List Frame
   reaches : Reaches s world lines
-  front : way (other r) world ≡ f ∷ left
-  sub : IsSub xs left
+  first : Frame
+  front : way (other r) world ≡ first ∷ left
+  stands : StandsFor f first
+  sub : IsCovered xs left
   ends : world.ends ≡ w.ends
   same_way : way r world ≡ way r w
 
 in_front : {s : Sapi} (r : Role) (w : World) {lines : List LogLine} (f : Frame) (xs q : List Frame) →
-    Reaches s w lines → way (other r) w ≡ q → IsSub (f ∷ xs) q → IsInFront s r w lines f xs
+    Reaches s w lines → way (other r) w ≡ q → IsCovered (f ∷ xs) q → IsInFront s r w lines f xs
 in_front r w f xs [] h e g = elim g [ ]
-in_front r w f xs (y ∷ ys) h e (kept g) = record {
+in_front r w f xs (y ∷ ys) h e (kept t g) = record {
   world = w;
   left = ys;
   reaches = h;
+  first = y;
   front = e;
+  stands = t;
   sub = g;
   ends = refl;
   same_way = refl;
@@ -390,7 +419,9 @@ in_front r w f xs (y ∷ ys) h e (dropped g) =
       world = t.world;
       left = t.left;
       reaches = t.reaches;
+      first = t.first;
       front = t.front;
+      stands = t.stands;
       sub = t.sub;
       ends = t.ends;
       same_way = t.same_way ∙ way-lost_other r w;
@@ -399,13 +430,13 @@ in_front r w f xs (y ∷ ys) h e (dropped g) =
 module _ (l : LinkState) (air : List Frame) where
   -- what the endpoint returns for a call waits
   waits-call : (q : List Frame) (call : Call) → IsLinkCall call → refusal_of call l.endpoint ≡ None →
-      (l.endpoint.state ≡ Idle → l.answer ≡ None) → IsSub (air ++ pending l) q →
-      IsSub (air ++ pending (with_outcome (call_outcome call l.endpoint) l)) (q ++ (call_outcome call l.endpoint).frames)
+      (l.endpoint.state ≡ Idle → l.answer ≡ None) → IsCovered (air ++ pending l) q →
+      IsCovered (air ++ pending (with_outcome (call_outcome call l.endpoint) l)) (q ++ (call_outcome call l.endpoint).frames)
   waits-call q call own ok idle h = by_state call own (send-open l call own ok)
     where
       by_state : (call : Call) → IsLinkCall call →
           (is_opening (call_outcome call l.endpoint).new_state.state ≡ false) ⊎ (l.endpoint.state ≡ Idle) →
-          IsSub (air ++ pending (with_outcome (call_outcome call l.endpoint) l)) (q ++ (call_outcome call l.endpoint).frames)
+          IsCovered (air ++ pending (with_outcome (call_outcome call l.endpoint) l)) (q ++ (call_outcome call l.endpoint).frames)
       by_state call own (inl e) = pending-outcome air (call_outcome call l.endpoint) l q (elsewhere e) h
       by_state (Opens info) own (inr e) = rw (idle e) (append (on_air air (pending l) h) (all _))
       by_state OpensWithoutInfo own (inr e) = rw (idle e) (append (on_air air (pending l) h) (all _))
@@ -466,20 +497,22 @@ module _ {s : Sapi} {r : Role} {air rest : List Frame} {l l' : LinkState} {f : F
       there = left_there;
     }
 
-    take_with : is_on s f ≡ true →
-        LinkAt s r air (with_outcome (received_outcome f l) l) rest l'
-        (log ++ map (Notified r s) (received_outcome f l).notices)
-    take_with on =
+    -- the endpoint takes the frame
+    pass_with : is_on s f ≡ true →
+        LinkAt s r air (with_outcome (frame_outcome (as_taken f l.endpoint) l.endpoint) l) rest l'
+        (log ++ map (Notified r s) (frame_outcome (as_taken f l.endpoint) l.endpoint).notices)
+    pass_with on =
         let g = as_taken f l.endpoint in
         let same_frame : g ≡ record f { content = rej_replaced_by_rr f.content } = taken_same s f l.endpoint (own_sapi k) on in
         let on_taken : is_on s g ≡ true = on_own s g (ap sapi_number (own_sapi k)) in
-        let o = received_outcome f l in
+        let o = frame_outcome g l.endpoint in
         let z = without_oldest_item (other r) at_front.world in
         let same : end_of r s at_front.world ≡ l.endpoint = rw at_front.ends k.here.endpoint in
         let all_on : AllOn s o.frames = frames-on None l.endpoint o.new_state s (λ info e. cc e) (λ e. cc e) o.frames
         (subst (λ t. AllFrames (Says None l.endpoint o.new_state) t o.frames) (own_sapi k)
         (taken-frame l.endpoint (window k) g).frames) in
-        let oldest : IsOldestSentOrRrForRej (Some g) (way (other r) at_front.world) = rw at_front.front (inr same_frame) in
+        let oldest : ReadsOldest r at_front.world.ends g (way (other r) at_front.world) =
+        rw at_front.front (reads r at_front.world.ends f at_front.first g same_frame at_front.stands) in
         let quiet : o.new_state.state ≡ Idle → (l.endpoint.state ≡ Idle) × (o.frames ≡ []) =
         rw same at (silent at_front.reaches r g oldest) in
         acts k z o (map (Notified r s) o.notices) (map (Notified r s) o.notices)
@@ -490,6 +523,34 @@ module _ {s : Sapi} {r : Role} {air rest : List Frame} {l l' : LinkState} {f : F
         (pending-outcome air o l (way r k.world) (received-no_opening l (window k) g) k.here.queue))
         (sound-frames s o.frames (record l { endpoint = o.new_state }) all_on (λ e. (quiet e).1)
         (record { clock = k.here.sound.clock; answer = k.here.sound.answer; idle = λ e. k.here.sound.idle (quiet e).0 }))
+
+    -- the link refuses the frame: the DM that it owes stands for a DISC that the endpoint repeats
+    refuse_with : l.endpoint.state ≡ Closing →
+        LinkAt s r air (with_outcome (outcome_of_reply SendsDm l.endpoint) l) rest l' (log ++ [])
+    refuse_with closing =
+        let dm : Frame = response_frame l.endpoint (Dm true) in
+        let lost = lose_step in
+        let on_air_still : IsCovered air (way r lost.world) = on_air air (pending l) lost.here.queue in
+        let e : (call_outcome Repeats l.endpoint).frames ≡ command_frame l.endpoint (Disc true) ∷ [] = rw closing refl in
+        calls_with lost Repeats [] tt (rw closing refl) refl refl
+        (rw (unsent-elsewhere (record l { answer = Some dm }) (rw closing refl), e)
+        (append on_air_still (kept (dm_for_disc true refl refl refl) empty)))
+        (record {
+          clock = k.here.sound.clock;
+          answer = on_own s dm (ap sapi_number (own_sapi k));
+          idle = λ idle. absurd (closing_not_idle (sym closing ∙ idle));
+        })
+
+    take_with : is_on s f ≡ true →
+        LinkAt s r air (with_outcome (received_outcome f l) l) rest l'
+        (log ++ map (Notified r s) (received_outcome f l).notices)
+    take_with on = by_test (refuses f l.endpoint) refl
+      where
+        by_test : (b : Bool) → refuses f l.endpoint ≡ b →
+            (let o = outcome_of_reply (if b then SendsDm else reply_to_frame (as_taken f l.endpoint) l.endpoint) l.endpoint in
+            LinkAt s r air (with_outcome o l) rest l' (log ++ map (Notified r s) o.notices))
+        by_test true e = refuse_with (refused-closing f l.endpoint e)
+        by_test false e = pass_with on
 
     -- the frame arrives at the link
     pub take_step : is_on s f ≡ true → is_reopened_by_frame f l ≡ false →

@@ -27,7 +27,7 @@ use Rattle.lapdm_datalink.proofs.Answering.{is_slot}
 use Rattle.lapdm_datalink.proofs.Lemmas.{passed}
 use Rattle.lapdm_delivery.proofs.Claims.{seen, claims-seen, counts-seen, order-seen}
 use Rattle.lapdm_delivery.proofs.Worlds.{Reaches, at_start, start}
-use Rattle.lapdm_link.proofs.Subsequences.{IsSub, empty}
+use Rattle.lapdm_delivery.proofs.Queues.{IsCovered, empty}
 use Rattle.lapdm_delivery.proofs.Queues.{pending}
 use Rattle.lapdm_delivery.proofs.Links.{Fits, slot-on, free-waits, own_sapi, on_own, on_is}
 use Rattle.lapdm_delivery.proofs.Heard.{IsHeard, is_informed}
@@ -273,10 +273,6 @@ module _ (e : Establishment) {c : RunState} {log : List LogLine} (r : Role) (all
 
   own0 : moved.link0.endpoint.sapi ≡ k
   own0 = own_sapi k0.link
-
-  lines0 : (s : Sapi) (ms : List Notice) → lines_of s (sapi_of_endpoint e s) (map (Notified r Zero) ms ++ map (Notified r Three) [])
-      ≡ lines_of s (sapi_of_endpoint e s) (map (Notified r Zero) ms)
-  lines0 s ms = rw append-nil refl
 
   slot_of : (a : Option Frame) → slot0.frame ≡ a → (s : Sapi) → IsSlotOf s (with_sapi3 slot0 a moved)
   slot_of (Some f) is Zero =
@@ -574,7 +570,7 @@ module _ (e : Establishment) where
       sound = record { clock = λ n. refl; answer = tt; idle = λ n. refl };
     }
       where
-        none_sent : (r : Role) → IsSub [] (way r (start channel))
+        none_sent : (r : Role) → IsCovered [] (way r (start channel))
         none_sent Mobile = empty
         none_sent Network = empty
 

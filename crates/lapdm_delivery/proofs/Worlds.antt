@@ -1,12 +1,13 @@
 -- States of a session of `lapdm_link` with one event after another, in queues of unlimited length.
 use Rattle.{
   lapdm_link.{
-    proofs.Lemmas.{◌≡◌, refl, ◌++◌, true, List, [], ◌∷◌, map, nat_eq, None, Some, Frame, Channel, Role, Call, Sapi},
+    proofs.Lemmas.{◌≡◌, refl, ◌++◌, true, List, [], ◌∷◌, map, nat_eq, None, Some, Frame, Channel, Role},
+    proofs.Lemmas.{Mobile, Network, Call, Sapi},
     proofs.Lemmas.{call_outcome, refusal_of, frame_outcome, sapi_number, other, LogLine, Asked, Notified, World, inl, inr, initial_world},
     proofs.Lemmas.{end_of, way, acted, without_oldest_item, IsPlaced, AllFit, All-head, FrameFits, arith},
-    specs.{Events.unbounded_capacity, Worlds.IsOldestSentOrRrForRej},
+    specs.{Events.{BothSides, unbounded_capacity}, Worlds.IsOldestSentOrReplaced},
   },
-  lapdm_delivery.proofs.Idle.{IsFresh, fresh-start, fresh-calls, fresh-takes, fresh-loses, idle-silent},
+  lapdm_delivery.proofs.Idle.{IsFresh, ReadsOldest, fresh-start, fresh-calls, fresh-takes, fresh-loses, idle-silent},
 }
 use Rattle.lapdm_end.specs.lapdm_window.declared.State.TheVariants as S
 use Rattle.lapdm_link.proofs.Carriers as L
@@ -27,12 +28,17 @@ at_start channel s = record {
   fresh = fresh-start unbounded_capacity channel s;
 }
 
--- a frame that arrives fits in a block, since those in transit do
-oldest-fits : (channel : Channel) (f : Frame) (fs : List Frame) → AllFit channel fs → IsOldestSentOrRrForRej (Some f) fs →
-    FrameFits channel f
-oldest-fits channel f (g ∷ gs) fit (inl same) = rw same (All-head (FrameFits channel) g gs fit)
-oldest-fits channel f (g ∷ gs) fit (inr same) = let fits = All-head (FrameFits channel) g gs fit in rw same (grind arith)
-oldest-fits channel f [] fit read = absurd read
+-- a frame that is read fits in a block, since those in transit do
+oldest-fits : (channel : Channel) (r : Role) (ends : BothSides) (f : Frame) (fs : List Frame) → AllFit channel fs →
+    ReadsOldest r ends f fs → FrameFits channel f
+oldest-fits channel r ends f (g ∷ gs) fit read = read.fits channel (All-head (FrameFits channel) g gs fit)
+oldest-fits channel r ends f [] fit read = absurd read
+
+oldest-may : (r : Role) (ends : BothSides) (f : Frame) (fs : List Frame) → ReadsOldest r ends f fs →
+    IsOldestSentOrReplaced (other (other r)) ends (Some f) fs
+oldest-may Mobile ends f (g ∷ gs) read = read.may
+oldest-may Network ends f (g ∷ gs) read = read.may
+oldest-may r ends f [] read = absurd read
 
 module _ {s : Sapi} {w : World} {ls : List LogLine} (h : Reaches s w ls) where
   -- the endpoint carries out a call
@@ -45,21 +51,23 @@ module _ {s : Sapi} {w : World} {ls : List LogLine} (h : Reaches s w ls) where
     fresh = fresh-calls h.fresh r call placed ok;
   }
 
-  -- the oldest frame in transit, or an RR in place of a REJ, arrives at the endpoint
-  pub takes : (r : Role) (f : Frame) → nat_eq f.sapi (sapi_number s) ≡ true → IsOldestSentOrRrForRej (Some f) (way (other r) w) →
+  -- what is read for the oldest frame in transit arrives at the endpoint
+  pub takes : (r : Role) (f : Frame) → nat_eq f.sapi (sapi_number s) ≡ true → ReadsOldest r w.ends f (way (other r) w) →
       Reaches s (acted r s (frame_outcome f (end_of r s w)) (without_oldest_item (other r) w))
       (ls ++ map (Notified r s) (frame_outcome f (end_of r s w)).notices)
   takes r f on known =
       let x = h.reached.reported r s in
       record {
         channel = h.channel;
-        reached = L.takes h.reached r s f on
-            (oldest-fits h.channel f (way (other r) w) (h.reached.fit.queues (other r)) known, λ sound. known);
+        reached = L.takes h.reached r s f on (
+          oldest-fits h.channel r w.ends f (way (other r) w) (h.reached.fit.queues (other r)) known,
+          λ sound. oldest-may r w.ends f (way (other r) w) known,
+        );
         fresh = fresh-takes h.fresh r f (way (other r) w) refl known x.role x.sapi x.window_of_one;
       }
 
   -- an endpoint in Idle was there before, and returns nothing for what arrives
-  pub silent : (r : Role) (f : Frame) → IsOldestSentOrRrForRej (Some f) (way (other r) w) →
+  pub silent : (r : Role) (f : Frame) → ReadsOldest r w.ends f (way (other r) w) →
       (frame_outcome f (end_of r s w)).new_state.state ≡ S.Idle →
       ((end_of r s w).state ≡ S.Idle) × ((frame_outcome f (end_of r s w)).frames ≡ [])
   silent r f known e =

@@ -91,10 +91,6 @@ side_at r zero role =
     record { data_link = initial_data_link role r.channel r.establishment r.t200 (r.t200_sapi3 role); sent = [] }
 side_at r (suc n) role = side_after (r.part n role) (get_or (side_at r n (other role)).sent r.delay None) (side_at r n role)
 
--- its link of SAPI 0
-abbrev pub link0_at : (run : Run) (slot : ℕ) (role : Role) → LinkState
-link0_at r n role = (side_at r n role).data_link.link0
-
 -- what arrives at this side in the slot, its data link before it sends, and what this does
 abbrev pub arriving_at : (run : Run) (slot : ℕ) (role : Role) → Option Frame
 arriving_at r n role = get_or (side_at r n (other role)).sent r.delay None

@@ -4,7 +4,7 @@ ghost use Rattle.std.specs.Prelude.{◌≡◌, ◌↔◌, ◌<◌, ◌≤◌, []
 ghost use Rattle.lapdm_frame.specs.Layout.{n201, largest_n201};
 ghost use Rattle.lapdm_window.specs.segmenting.Joiners.{HoldsReassemblyOf};
 ghost use Rattle.lapdm_window.specs.segmenting.Segments.{max_message_octets, max_segments_per_message};
-ghost use Rattle.lapdm_window.specs.Ends.{EndpointState, IsPossibleSabmInfo};
+ghost use Rattle.lapdm_window.specs.Ends.{EndpointState, IsPossibleSabmInfo, awaits_answer, awaits_answer_in_state};
 ghost use Rattle.lapdm_window.specs.Parts.{values_of_parts as window_by};
 ghost use Rattle.lapdm_end.specs.Addresses.{spec_role_of};
 ghost use Rattle.lapdm_end.specs.Parts.{values_of, values_of_parts, ValuesRepresent, SomeEndpointHasValues, IsInitialWindow};
@@ -42,6 +42,20 @@ impl EndpointView<'_> {
             && is_window_initial_before_open(self.state, &self.window)
     }
 
+    /// Returns whether some endpoint has this state.
+    pub fn is_endpoint(&self) -> bool
+        ensures { IsTrue result ↔ SomeEndpointHasValues (values_of_parts self.now) }
+    {
+        self.are_consistent() && self.window.is_window()
+    }
+
+    /// Returns whether a frame awaits an answer: the SABM, the DISC, or an I frame.
+    pub fn awaits_answer(&self) -> bool
+        ensures { (e : EndpointState) → ValuesRepresent (values_of_parts self.now) e → result ≡ awaits_answer e }
+    {
+        awaits_answer_in_state(self.state, self.window.vs != self.window.va)
+    }
+
     fn has_possible_sabm_information(&self) -> bool
         ensures { IsTrue result ↔ IsPossibleSabmInfo self.now.state self.now.sapi self.now.sabm_info.now }
     {
@@ -58,6 +72,16 @@ impl EndpointView<'_> {
             (State::Opening, Sapi::Zero, Role::Network) => false,
             _ => true,
         }
+    }
+}
+
+fn awaits_answer_in_state(state: State, is_waiting: bool) -> bool
+    ensures { result ≡ awaits_answer_in_state state is_waiting }
+{
+    match state {
+        State::Idle | State::Closed => false,
+        State::Opening | State::Closing => true,
+        State::Open => is_waiting,
     }
 }
 

@@ -17,7 +17,7 @@ use Rattle.{
       Events.{Ask, Close, Deliver, Event, Idle, Lose, OpenBare, Open, Repeat, Rival, SendUi, Send, SessionEvent, T200Expiry, event_step},
       Events.{other, queues_after_removal, rival_refusal, rival_sabm, unbounded_capacity},
       Queues.{Queues, empty_queues, queue_of, with_items_appended},
-      Worlds.{IsBenignEventExceptRrForRej, IsOldestSentOrRrForRej, World, answer_unless_refused, initial_world, refusal},
+      Worlds.{IsBenignEventExceptReplaced, IsOldestSentOrReplaced, World, answer_unless_refused, initial_world, refusal},
       Worlds.world_after_possible_refusal,
     },
   },
@@ -106,15 +106,15 @@ reached-start Sound channel = record {
 }
 
 module _ {Sound : Type 0} {channel : Channel} {w : World} {ls : List LogLine} (h : IsReached Sound channel w ls) where
-  -- a receiver may read this frame: it fits in a block, and if `Sound`, it is the oldest in transit, or an RR in place of a REJ
+  -- a receiver may read this frame: it fits in a block, and if `Sound`, it is the oldest in transit, or what may replace it
   abbrev pub MayRead : Role → Frame → Type 0
-  MayRead sender f = FrameFits channel f × (Sound → IsOldestSentOrRrForRej (Some f) (way sender w))
+  MayRead sender f = FrameFits channel f × (Sound → IsOldestSentOrReplaced (other sender) w.ends (Some f) (way sender w))
 
   pub read-fits : (event : Event) → Knows MayRead event → Knows (λ sender f. FrameFits channel f) event
   read-fits (Deliver sender (Some f)) known = known.0
   read-fits event known = tt
 
-  read-benign : (event : Event) → Knows MayRead event → Sound → IsBenignEventExceptRrForRej None event w
+  read-benign : (event : Event) → Knows MayRead event → Sound → IsBenignEventExceptReplaced None event w
   read-benign (Deliver sender (Some f)) known sound = known.1 sound
   read-benign event known sound = tt
 

@@ -57,10 +57,9 @@ module _ {Notifies : ℕ → Content → Type 0} where
   climbs-append (d ∷ ds) a (last h) = first h a.0 (climbs-append ds a.1 (last (omega arith)))
   climbs-append ds a (first l t h) = first l t (climbs-append ds a h)
 
-climbs-rr : {Notifies : ℕ → Content → Type 0} {low high nr : ℕ} {pf : Bool} {cs : List Content} →
-    ((k : ℕ) → Notifies k (Rej nr pf) → Notifies k (Rr nr pf)) → Ascending Notifies low (Rej nr pf ∷ cs) high →
-    Ascending Notifies low (Rr nr pf ∷ cs) high
-climbs-rr says (first l t h) = first l (says _ t) h
+climbs-first : {Notifies : ℕ → Content → Type 0} {low high : ℕ} {c d : Content} {cs : List Content} →
+    ((k : ℕ) → Notifies k c → Notifies k d) → Ascending Notifies low (c ∷ cs) high → Ascending Notifies low (d ∷ cs) high
+climbs-first says (first l t h) = first l (says _ t) h
 
 -- the N(R) of the content, if it has one, is n modulo 8
 abbrev pub CountsIn : ℕ → Content → Type 0
@@ -144,14 +143,23 @@ module _ {ps : List Segment} {a s : ℕ} {qs : List Segment} {there back : List 
   pub number_gone : {c : Content} → IsDirection ps a s qs there (c ∷ back) → IsDirection ps a s qs there back
   number_gone h = direction (climbs-rest h.acknowledged) h.carried h.window h.in_range h.in_order
 
-  -- the invariant of one direction still holds after an RR with the same N(R) replaces a REJ in transit
-  pub number_as_rr : {nr : ℕ} {pf : Bool} → IsDirection ps a s qs there (Rej nr pf ∷ back) →
-      IsDirection ps a s qs there (Rr nr pf ∷ back)
-  number_as_rr h = direction (climbs-rr (λ k t. t) h.acknowledged) h.carried h.window h.in_range h.in_order
+  -- the invariant of one direction still holds after a frame with the same N(R), or the same segment, replaces the first in transit
+  pub number_as : {c d : Content} → ((k : ℕ) → CountsIn k c → CountsIn k d) → IsDirection ps a s qs there (c ∷ back) →
+      IsDirection ps a s qs there (d ∷ back)
+  number_as says h = direction (climbs-first says h.acknowledged) h.carried h.window h.in_range h.in_order
 
-  pub segment_as_rr : {nr : ℕ} {pf : Bool} → IsDirection ps a s qs (Rej nr pf ∷ there) back →
-      IsDirection ps a s qs (Rr nr pf ∷ there) back
-  segment_as_rr h = direction h.acknowledged (climbs-rr (λ k t. t) h.carried) h.window h.in_range h.in_order
+  pub segment_as : {c d : Content} → ((k : ℕ) → CarriesIn ps k c → CarriesIn ps k d) →
+      IsDirection ps a s qs (c ∷ there) back →
+      IsDirection ps a s qs (d ∷ there) back
+  segment_as says h = direction h.acknowledged (climbs-first says h.carried) h.window h.in_range h.in_order
+
+  -- the invariant of one direction still holds with a frame before all in transit that acknowledges nothing, or has no segment
+  pub number_before : {c : Content} → CountsIn a c → IsDirection ps a s qs there back → IsDirection ps a s qs there (c ∷ back)
+  number_before says h = direction (first (omega arith) says h.acknowledged) h.carried h.window h.in_range h.in_order
+
+  pub segment_before : {c : Content} → CarriesIn ps (length qs) c → IsDirection ps a s qs there back →
+      IsDirection ps a s qs (c ∷ there) back
+  segment_before says h = direction h.acknowledged (first (omega arith) says h.carried) h.window h.in_range h.in_order
 
   -- the invariant of one direction still holds after an N(R) acknowledges the outstanding segment
   pub number_in : (c : Content) (nr : ℕ) → ((k : ℕ) → CountsIn k c → nr ≡ k % 8) → s ≢ a → nr ≡ s % 8 →

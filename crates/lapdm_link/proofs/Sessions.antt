@@ -3,7 +3,7 @@ use Rattle.{
   lapdm_link.{
     proofs.{
       Acting.{is_called, opens, taken-frame},
-      Directions.{initial-direction, number_as_rr, segment_as_rr},
+      Directions.{initial-direction, number_as, number_before, number_gone, segment_as, segment_before},
       Events.{AllOf, IsForSapi, KnowsBy, acted, by_kind, by_link, calls_in_log-else, calls_in_log-own, content_of_body, contents-of_sapi},
       Events.{contents-other, contents_on, end_of-acted_else, end_of-acted, is_end, is_on, lines_of_step, link_else, notices_in_log-else},
       Events.{notices_in_log-own, other_is, rest, way-acted, way, without_oldest_item},
@@ -17,18 +17,20 @@ use Rattle.{
     },
     specs.Claims.{AckedAtMostDelivered, Asked, Claims, HasNoticesInOrder, LogLine, Notified, acked_message_numbers, answer_log_lines},
     specs.{Claims.{delivered_messages, is_same_sapi, session_log}, Events.{EventRefusal, Event, QueueCapacity, other}},
-    specs.{Queues.IsOldestSentOrNone, Worlds.{IsBenignEventExceptRrForRej, IsBenignEvent, IsBenignExceptRrForRej, IsBenign}},
-    specs.Worlds.{IsOldestSentOrRrForRej, World, answers, answer, initial_world, refusal, rej_replaced_by_rr, world_after},
+    specs.{Queues.IsOldestSentOrNone, Worlds.{IsBenignEventExceptReplaced, IsBenignEvent, IsBenignExceptReplaced, IsBenign}},
+    specs.Worlds.{IsOldestSentOrReplaced, MayBeReadFor, as_sent, dm_for_any, rr_for_rej, with_nr, without_ack},
+    specs.Worlds.{World, answers, answer, initial_world, refusal, rej_replaced_by_rr, world_after},
   },
   lapdm_window.specs.{
     Calls.Call,
-    Ends.{Mobile, Network, Role, initial_endpoint},
+    Ends.{Mobile, Network, Role, initial_endpoint, sapi_number, va},
     declared.{Notice.{TheVariants.Acked, Notice}, Sapi.{TheVariants.Zero, Sapi}},
-    lapdm_frame.{Content.{Content, Frame, Rej, Rr}, declared.Channel.Channel},
+    lapdm_frame.{Content.{Content, Dm, Frame, I, Rej, Rr}, declared.Channel.Channel},
     segmenting.Segments.Message,
   },
   std.proofs.Common.{Bool, List, Option, Some, [], append_assoc, ap, arith, false, inl, inr, length, refl, true, ℕ, ◌++◌, ◌+◌},
   std.proofs.{Common.{◌∙◌, ◌∷◌, ◌≡◌, ◌≤◌}, lemmas.List.{Elements.filter_map-append, append-nil, length-append}},
+  std.proofs.lemmas.Bool.Decides.nat_tests,
   std.specs.List.cons_option,
 }
 use Rattle.lapdm_link.specs.Claims as C
@@ -78,14 +80,36 @@ module _ {r q : Role} {s : Sapi} (x y : Side) {ls : List LogLine} where
 link-rr : {r q : Role} {s : Sapi} (x y : Side) {ls : List LogLine} (nr : ℕ) (pf : Bool) (cs : List Content) →
     IsLink r q s x (record y { outgoing = Rej nr pf ∷ cs }) ls → IsLink r q s x (record y { outgoing = Rr nr pf ∷ cs }) ls
 link-rr x y nr pf cs (link c u v o p) =
-    link (record { forward = number_as_rr c.forward; backward = segment_as_rr c.backward }) (record { units_sent = u.units_sent })
-    (record { units_sent = v.units_sent }) o p
+    link (record { forward = number_as (λ k t. t) c.forward; backward = segment_as (λ k t. t) c.backward })
+    (record { units_sent = u.units_sent }) (record { units_sent = v.units_sent }) o p
+
+-- a DM with F = 1 says nothing of a number or a message, so it may arrive where nothing was sent
+link-dm : {r q : Role} {s : Sapi} (x y : Side) {ls : List LogLine} (cs : List Content) →
+    IsLink r q s x (record y { outgoing = cs }) ls → IsLink r q s x (record y { outgoing = Dm true ∷ cs }) ls
+link-dm x y cs (link c u v o p) =
+    link (record { forward = number_before tt c.forward; backward = segment_before tt c.backward })
+    (record { units_sent = u.units_sent }) (record { units_sent = v.units_sent }) o ((tt, p.0), p.1)
 
 first-rr : {r q : Role} {s : Sapi} (x y : Side) {ls : List LogLine} (c : Content) (cs : List Content) →
     IsLink r q s x (record y { outgoing = cons_option (content_of_body c) cs }) ls →
     IsLink r q s x (record y { outgoing = cons_option (content_of_body (rej_replaced_by_rr c)) cs }) ls
 first-rr x y (Rej nr pf) cs h = link-rr x y nr pf cs h
 first-rr x y c cs h = h
+
+-- an N(R) that equals V(A) acknowledges nothing, so it may stand in place of any other
+first-nr : {r q : Role} {s : Sapi} (x y : Side) {ls : List LogLine} (c : Content) (cs : List Content) →
+    IsLink r q s x (record y { outgoing = cons_option (content_of_body c) cs }) ls →
+    IsLink r q s x (record y { outgoing = cons_option (content_of_body (with_nr (va x.endpoint) c)) cs }) ls
+first-nr x y (I ns nr p more info) cs (link c u v o h) =
+    link (record { forward = number_before refl (number_gone c.forward); backward = segment_as (λ k t. t) c.backward })
+    (record { units_sent = u.units_sent }) (record { units_sent = v.units_sent }) o h
+first-nr x y (Rr nr pf) cs (link c u v o h) =
+    link (record { forward = number_before refl (number_gone c.forward); backward = segment_as (λ k t. t) c.backward })
+    (record { units_sent = u.units_sent }) (record { units_sent = v.units_sent }) o h
+first-nr x y (Rej nr pf) cs (link c u v o h) =
+    link (record { forward = number_before refl (number_gone c.forward); backward = segment_as (λ k t. t) c.backward })
+    (record { units_sent = u.units_sent }) (record { units_sent = v.units_sent }) o h
+first-nr x y c cs h = h
 
 -- ---- the invariants of both links
 
@@ -193,34 +217,59 @@ AllLinks-lost : (sender : Role) (w : World) (ls : List LogLine) → AllLinks w l
 AllLinks-lost Mobile w ls h = AllLinks-by_role Network (without_oldest_item Mobile w) ls (λ s. Links-first_lost _ s w ls (h _ s))
 AllLinks-lost Network w ls h = AllLinks-by_role Mobile (without_oldest_item Network w) ls (λ s. Links-first_lost _ s w ls (h _ s))
 
+one_sapi : (s t : Sapi) (f : Frame) → is_on s f ≡ true → f.sapi ≡ sapi_number t → t ≡ s
+one_sapi s t f on h = grind (arith, nat_tests)
+
+-- what is read for a frame that was sent keeps the invariant of its link
+IsLink-read : (r : Role) (s : Sapi) (w : World) (ls : List LogLine) (f g : Frame) (gs : List Frame) → is_on s f ≡ true →
+    MayBeReadFor r w.ends f g →
+    (is_on s g ≡ true → IsLink r (other r) s (side r s w ls)
+    (record (side (other r) s w ls) { outgoing = cons_option (content_of_body g.content) (contents_on s gs) }) ls) →
+    IsLink r (other r) s (side r s w ls)
+    (record (side (other r) s w ls) { outgoing = cons_option (content_of_body f.content) (contents_on s gs) }) ls
+IsLink-read r s w ls f g gs on (as_sent same) h = rw same (h (rw same at on))
+IsLink-read r s w ls f g gs on (rr_for_rej same) h =
+    rw same (first-rr (side r s w ls) (side (other r) s w ls) g.content (contents_on s gs) (h (rw same at on)))
+IsLink-read r s w ls f g gs on (dm_for_any sapi content) h =
+    let lost = IsLink-first_gone _ (side (other r) s w ls) (content_of_body g.content) (contents_on s gs) (h (rw sapi at on)) in
+    rw content (link-dm (side r s w ls) (side (other r) s w ls) (contents_on s gs) lost)
+IsLink-read r s w ls f g gs on (without_ack t is same) h =
+    let on_sent : is_on s g ≡ true = rw same at on in
+    let rr = first-rr (side r s w ls) (side (other r) s w ls) g.content (contents_on s gs) (h on_sent) in
+    rw (same, one_sapi s t g on_sent is)
+    (first-nr (side r s w ls) (side (other r) s w ls) (rej_replaced_by_rr g.content) (contents_on s gs) rr)
+
 IsLink-frame_arrived : (r : Role) (s : Sapi) (w : World) (ls : List LogLine) (f : Frame) (fs : List Frame) → way (other r) w ≡ fs →
-    is_on s f ≡ true → IsOldestSentOrRrForRej (Some f) fs → Links r s w ls → IsLink r (other r) s (side r s w ls)
+    is_on s f ≡ true → IsOldestSentOrReplaced r w.ends (Some f) fs → Links r s w ls → IsLink r (other r) s (side r s w ls)
     (record (side (other r) s w ls) { outgoing = cons_option (content_of_body f.content) (contents_on s (rest fs)) }) ls
-IsLink-frame_arrived r s w ls f (g ∷ gs) is on (inl same) h = rw (ap (contents_on s) is ∙ comes-first s f (g ∷ gs) on same) at h
-IsLink-frame_arrived r s w ls f (g ∷ gs) is on (inr same) h =
-    let as_sent = rw (ap (contents_on s) is ∙ comes-first s g (g ∷ gs) (rw same at on) refl) at h in
-    rw same (first-rr (side r s w ls) (side (other r) s w ls) g.content (contents_on s gs) as_sent)
-IsLink-frame_arrived r s w ls f [] is on sent h = absurd sent
+IsLink-frame_arrived r s w ls f (g ∷ gs) is on may h = IsLink-read r s w ls f g gs on may
+    (λ on_sent. rw (ap (contents_on s) is ∙ comes-first s g (g ∷ gs) on_sent refl) at h)
+IsLink-frame_arrived r s w ls f [] is on may h = absurd may
 
-KnowsBy-oldest_sent_or_rr : (o : Option EventRefusal) (event : Event) (w : World) → IsBenignEventExceptRrForRej o event w →
-    KnowsBy o (λ sender f. IsOldestSentOrRrForRej (Some f) (way sender w)) event
-KnowsBy-oldest_sent_or_rr o event w h = grind arith
+KnowsBy-oldest_sent_or_replaced : (o : Option EventRefusal) (event : Event) (w : World) → IsBenignEventExceptReplaced o event w →
+    KnowsBy o (λ sender f. IsOldestSentOrReplaced (other sender) w.ends (Some f) (way sender w)) event
+KnowsBy-oldest_sent_or_replaced o event w h = grind arith
 
-GoesInSession-event : (w : World) (ls : List LogLine) (event : Event) → IsBenignEventExceptRrForRej (refusal event w) event w →
+twice : (r : Role) → other (other r) ≡ r
+twice r = grind arith
+
+GoesInSession-event : (w : World) (ls : List LogLine) (event : Event) → IsBenignEventExceptReplaced (refusal event w) event w →
     IsSession w ls →
     GoesInSession ls (world_after event w) (answer_log_lines event (answer event w))
-GoesInSession-event w ls event benign h = by_kind w (GoesInSession ls) (λ sender f. IsOldestSentOrRrForRej (Some f) (way sender w))
+GoesInSession-event w ls event benign h = by_kind w (GoesInSession ls)
+    (λ sender f. IsOldestSentOrReplaced (other sender) w.ends (Some f) (way sender w))
     (λ g. (rw append-nil h.links, tt, tt)) (λ r s call placed ok. (let x = h.reported r s in
     session-acts ls w (called placed (is_called _ x.window_of_one _ ok)) x.role x.sapi refl refl (h.links r s) (λ t n. h.links r t)))
     (λ r s f on known. (let x = h.reported r s in
     session-acts ls (without_oldest_item (other r) w) (took refl (taken-frame _ x.window_of_one f)) x.role
-    x.sapi (left-here r s w ls) (left-there r s w ls) (IsLink-frame_arrived r s w ls f (way (other r) w) refl on known (h.links r s))
+    x.sapi (left-here r s w ls) (left-there r s w ls)
+    (IsLink-frame_arrived r s w ls f (way (other r) w) refl on (rw (twice r) at known) (h.links r s))
     (λ t n. Links-first_lost r t w ls (h.links r t)))) (λ sender g. (rw append-nil (AllLinks-lost sender w ls h.links), tt, tt))
     (λ info ok. (let x = h.reported Mobile Zero in
     session-acts ls w rival x.role x.sapi refl refl (h.links _ _) (λ t n. h.links Mobile t)))
-    _ (KnowsBy-oldest_sent_or_rr _ _ w benign)
+    _ (KnowsBy-oldest_sent_or_replaced _ _ w benign)
 
-pub session-step : (w : World) (ls : List LogLine) (event : Event) → IsBenignEventExceptRrForRej (refusal event w) event w →
+pub session-step : (w : World) (ls : List LogLine) (event : Event) → IsBenignEventExceptReplaced (refusal event w) event w →
     IsSession w ls →
     IsSession (world_after event w) (ls ++ answer_log_lines event (answer event w))
 session-step w ls event benign h =
@@ -230,19 +279,19 @@ session-step w ls event benign h =
     let after_delivered : AllOccur IsAfterDelivered [] (ls ++ new) = occur-append IsAfterDelivered [] ls new h.after_delivered g.1 in
     record { reported = reported; links = g.0; after_delivered = after_delivered; after_cause = occur-append _ [] ls new h.after_cause g.2 }
 
-session-run : (events : List Event) (w : World) (ls : List LogLine) → IsBenignExceptRrForRej events w → IsSession w ls →
+session-run : (events : List Event) (w : World) (ls : List LogLine) → IsBenignExceptReplaced events w → IsSession w ls →
     ((z : World) × IsSession z (ls ++ C.session_log events (answers events w)))
 session-run [] w ls benign h = (w, rw append-nil h)
 session-run (event ∷ events) w ls benign h =
     rw (← append_assoc) (session-run events (world_after event w) _ benign.1 (session-step w ls event benign.0 h))
 
-pub benign_allows_rr : (o : Option EventRefusal) (event : Event) (w : World) → IsBenignEvent o event w →
-    IsBenignEventExceptRrForRej o event w
-benign_allows_rr o event w h = grind arith
+pub benign_allows_replaced : (o : Option EventRefusal) (event : Event) (w : World) → IsBenignEvent o event w →
+    IsBenignEventExceptReplaced o event w
+benign_allows_replaced o event w h = grind arith
 
-allows_rr : (events : List Event) (w : World) → IsBenign events w → IsBenignExceptRrForRej events w
-allows_rr [] w h = tt
-allows_rr (event ∷ events) w h = (benign_allows_rr (refusal event w) event w h.0, allows_rr events _ h.1)
+allows_replaced : (events : List Event) (w : World) → IsBenign events w → IsBenignExceptReplaced events w
+allows_replaced [] w h = tt
+allows_replaced (event ∷ events) w h = (benign_allows_replaced (refusal event w) event w h.0, allows_replaced events _ h.1)
 
 -- ---- what the invariant of a session says of its log
 
@@ -292,14 +341,14 @@ module _ (capacity : QueueCapacity) (channel : Channel) where
     abbrev log : List LogLine
     log = C.session_log events (answers events origin)
 
-    pub counts_with_rr : IsBenignExceptRrForRej events origin → AckedAtMostDelivered log
-    counts_with_rr benign = counts_of (session-run events origin [] benign initial-session).1
+    pub counts_with_replaced : IsBenignExceptReplaced events origin → AckedAtMostDelivered log
+    counts_with_replaced benign = counts_of (session-run events origin [] benign initial-session).1
 
-    pub claims_with_rr : IsBenignExceptRrForRej events origin → Claims log
-    claims_with_rr benign = claims_of (session-run events origin [] benign initial-session).1
+    pub claims_with_replaced : IsBenignExceptReplaced events origin → Claims log
+    claims_with_replaced benign = claims_of (session-run events origin [] benign initial-session).1
 
     pub acked_at_most_delivered : IsBenign events origin → AckedAtMostDelivered log
-    acked_at_most_delivered benign = counts_with_rr (allows_rr events origin benign)
+    acked_at_most_delivered benign = counts_with_replaced (allows_replaced events origin benign)
 
     pub claims : IsBenign events origin → Claims log
-    claims benign = claims_with_rr (allows_rr events origin benign)
+    claims benign = claims_with_replaced (allows_replaced events origin benign)

@@ -1,10 +1,13 @@
 -- Sessions that exchange frames: the state of the four endpoints and of the frames in transit between them.
-use Rattle.std.specs.Prelude.{◌≡◌, ◌≤◌, ◌⊎◌, All, List, [], ◌∷◌, length, Option, Some, None}
+use Rattle.std.specs.Prelude.{◌≡◌, ◌≤◌, ℕ, true, All, List, [], ◌∷◌, length, Option, Some, None}
 use Rattle.lapdm_window.specs.lapdm_frame.declared.Channel.{Channel}
-use Rattle.lapdm_window.specs.lapdm_frame.Content.{Content, Rr, Rej, Frame}
+use Rattle.lapdm_window.specs.lapdm_frame.Content.{Content, I, Rr, Rej, Dm, Frame}
 use Rattle.lapdm_window.specs.lapdm_frame.Frames.{FrameFits}
+use Rattle.lapdm_window.specs.declared.Sapi.{Sapi}
+use Rattle.lapdm_window.specs.Ends.{Role, sapi_number, va}
 use Rattle.lapdm_link.specs.Queues.{Queues, empty_queues, queue_of, with_items_appended, queue_length, IsOldestSentOrNone}
 use Rattle.lapdm_link.specs.Events.{Event, Deliver, BothSides, idle_endpoints, sending_role, SideStep, event_step, queues_after_removal}
+use Rattle.lapdm_link.specs.Events.{other, endpoint_at}
 use Rattle.lapdm_link.specs.Events.{QueueCapacity, bounded_capacity, EventRefusal, refusal_with_capacity, Answer, Refuses, Accepts}
 
 -- the state of a session: the capacity of its queues, the channel, the endpoints, and the frames in transit
@@ -76,23 +79,40 @@ abbrev pub rej_replaced_by_rr : Content → Content
 rej_replaced_by_rr (Rej nr pf) = Rr nr pf
 rej_replaced_by_rr c = c
 
--- the frame read, if any, is the oldest frame sent; an RR with the same N(R) may replace a REJ
-abbrev pub IsOldestSentOrRrForRej : (arrived : Option Frame) (sent : List Frame) → Type 0
-IsOldestSentOrRrForRej None sent = Unit {0}
-IsOldestSentOrRrForRej (Some f) [] = ⊥
-IsOldestSentOrRrForRej (Some f) (first ∷ others) = (f ≡ first) ⊎ (f ≡ record first { content = rej_replaced_by_rr first.content })
+-- the content with this N(R), if it has one
+abbrev pub with_nr : (nr : ℕ) (content : Content) → Content
+with_nr n (I ns nr p more info) = I ns n p more info
+with_nr n (Rr nr pf) = Rr n pf
+with_nr n (Rej nr pf) = Rej n pf
+with_nr n c = c
 
--- if the event delivers a frame and is not refused, the receiver reads the oldest frame in transit, or none, or an RR in place of a REJ
--- with the same N(R)
-abbrev pub IsBenignEventExceptRrForRej : (refused : Option EventRefusal) (event : Event) (world : World) → Type 0
-IsBenignEventExceptRrForRej None (Deliver sender read) w = IsOldestSentOrRrForRej read (queue_of sender w.queues)
-IsBenignEventExceptRrForRej refused event w = Unit {0}
+-- what may be read where a frame was sent to this side: the frame itself, an RR with the same N(R) if it is a REJ, a DM with F = 1 on its
+-- SAPI, or the frame with an N(R) that acknowledges nothing, since it equals V(A) of the endpoint that reads it
+pub data MayBeReadFor (reader : Role) (ends : BothSides) (read sent : Frame) : Type 0 where
+  as_sent : read ≡ sent → MayBeReadFor reader ends read sent
+  rr_for_rej : read ≡ record sent { content = rej_replaced_by_rr sent.content } → MayBeReadFor reader ends read sent
+  dm_for_any : read.sapi ≡ sent.sapi → read.content ≡ Dm true → MayBeReadFor reader ends read sent
+  without_ack : (sapi : Sapi) → sent.sapi ≡ sapi_number sapi →
+      read ≡ record sent { content = with_nr (va (endpoint_at reader sapi ends)) (rej_replaced_by_rr sent.content) } →
+      MayBeReadFor reader ends read sent
 
--- the session is benign, except that the receiver may read an RR where a REJ with the same N(R) was sent
-abbrev pub IsBenignExceptRrForRej : (events : List Event) (world : World) → Type 0
-IsBenignExceptRrForRej [] w = Unit {0}
-IsBenignExceptRrForRej (event ∷ events) w = IsBenignEventExceptRrForRej (refusal event w) event w
-    × IsBenignExceptRrForRej events (world_after event w)
+-- the frame read by this side, if any, is the oldest frame sent to it, or may be read for it
+abbrev pub IsOldestSentOrReplaced : (reader : Role) (ends : BothSides) (read : Option Frame) (sent : List Frame) → Type 0
+IsOldestSentOrReplaced reader ends None sent = Unit {0}
+IsOldestSentOrReplaced reader ends (Some f) [] = ⊥
+IsOldestSentOrReplaced reader ends (Some f) (first ∷ others) = MayBeReadFor reader ends f first
+
+-- if the event delivers a frame and is not refused, the receiver reads the oldest frame in transit, or none, or what may be read for it
+abbrev pub IsBenignEventExceptReplaced : (refused : Option EventRefusal) (event : Event) (world : World) → Type 0
+IsBenignEventExceptReplaced None (Deliver sender read) w =
+    IsOldestSentOrReplaced (other sender) w.ends read (queue_of sender w.queues)
+IsBenignEventExceptReplaced refused event w = Unit {0}
+
+-- the session is benign, except that the receiver may read for a frame what `MayBeReadFor` allows
+abbrev pub IsBenignExceptReplaced : (events : List Event) (world : World) → Type 0
+IsBenignExceptReplaced [] w = Unit {0}
+IsBenignExceptReplaced (event ∷ events) w = IsBenignEventExceptReplaced (refusal event w) event w
+    × IsBenignExceptReplaced events (world_after event w)
 
 -- if the event delivers a frame, the frame fits in a block of the channel (every frame that is read from a block does)
 abbrev pub ArrivingFrameFits : (channel : Channel) (event : Event) → Type 0

@@ -6,7 +6,7 @@ ghost use Rattle.std.specs.Prelude.{All, List};
 ghost use Rattle.lapdm_window.specs.declared.Sapi.TheVariants.{Zero, Three};
 ghost use Rattle.lapdm_window.specs.lapdm_frame.declared.Channel.{Channel};
 ghost use Rattle.lapdm_link.specs.Events.{QueueCapacity, Event};
-ghost use Rattle.lapdm_link.specs.Worlds.{initial_world, answers, IsBenign, IsBenignExceptRrForRej, ArrivingFrameFits, SentFramesFit};
+ghost use Rattle.lapdm_link.specs.Worlds.{initial_world, answers, IsBenign, IsBenignExceptReplaced, ArrivingFrameFits, SentFramesFit};
 ghost use Rattle.lapdm_link.specs.Claims.{LogLine, log_lines_of_sapi, session_log, Claims, HasNoticesInOrder, AckedAtMostDelivered};
 
 /// Law: if each frame arrives in order and unchanged, or is lost, each endpoint delivers a prefix of the messages that its peer sent, and
@@ -18,14 +18,15 @@ pub fn law_lapdm_delivers_in_order()
         → Claims (session_log events (answers events (initial_world capacity channel))) }
 {}
 
-/// Law: if each frame arrives in order and unchanged, or is lost, except that an RR may arrive in place of a REJ with the same N(R),
-/// messages are delivered in order, and before they are reported as acknowledged.
-pub fn law_rr_may_replace_rej()
+/// Law: if each frame arrives in order and unchanged, or is lost, messages are delivered in order, and before they are reported as
+/// acknowledged. An RR may arrive in place of a REJ with the same N(R), a DM with F = 1 in place of any frame, and any frame with an N(R)
+/// that acknowledges nothing.
+pub fn law_frames_may_be_replaced()
     ensures delivery { (capacity : QueueCapacity) (channel : Channel) (events : List Event) →
-        IsBenignExceptRrForRej events (initial_world capacity channel)
+        IsBenignExceptReplaced events (initial_world capacity channel)
         → Claims (session_log events (answers events (initial_world capacity channel))) }
     ensures acked_at_most_delivered { (capacity : QueueCapacity) (channel : Channel) (events : List Event) →
-        IsBenignExceptRrForRej events (initial_world capacity channel)
+        IsBenignExceptReplaced events (initial_world capacity channel)
         → AckedAtMostDelivered (session_log events (answers events (initial_world capacity channel))) }
 {}
 

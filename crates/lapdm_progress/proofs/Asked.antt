@@ -20,12 +20,12 @@ use Rattle.lapdm_end.specs.lapdm_window.Ends.{Role, Mobile, Network, EndpointSta
 use Rattle.lapdm_end.specs.lapdm_window.Ends.{awaits_answer, initial_endpoint}
 use Rattle.lapdm_end.specs.lapdm_window.Rules.{sends_next_segment, evaluates_nr, accepts_segment, answers_segment, rejects_segment}
 use Rattle.lapdm_end.specs.lapdm_window.Rules.{answers_poll, resends_outstanding_segment}
-use Rattle.lapdm_end.specs.lapdm_window.Tables.{Reply, TakesIFrame, TakesRr, TakesRej, outcome_of_reply, reply_to_frame, frame_outcome}
+use Rattle.lapdm_end.specs.lapdm_window.Tables.{Reply, TakesIFrame, TakesRr, TakesRej, outcome_of_reply}
 use Rattle.lapdm_end.specs.lapdm_window.Calls.{Call, Opens, OpensWithoutInfo, Sends, Closes, refusal_of, call_outcome, with_queued_message}
 use Rattle.lapdm_end.specs.lapdm_window.Calls.{is_idle, t200_expiry}
 use Rattle.lapdm_link.proofs.lapdm_window.Lemmas.{segments_of_all_messages-push}
 use Rattle.lapdm_link.proofs.lapdm_window.segmenting.Lemmas.{length-segments}
-use Rattle.lapdm_datalink.specs.Links.{LinkState, with_outcome, ignores, as_taken, after_slot, slot_outcome, received_outcome}
+use Rattle.lapdm_datalink.specs.Links.{LinkState, link_reply, with_outcome, ignores, after_slot, slot_outcome, received_outcome}
 use Rattle.lapdm_datalink.specs.DataLinks.{DataLinkState, endpoint_sapi}
 use Rattle.lapdm_datalink.specs.declared.data_links.Establishment.TheVariants.{Contention}
 use Rattle.lapdm_delivery.proofs.LockstepHeard.{zero-regular}
@@ -109,15 +109,15 @@ stays-reply r x = grind arith
 
 -- a mobile in Idle opens no link of SAPI 0 by a frame
 idle-stays : (f : Frame) (x : EndpointState) → x.role ≡ Mobile → x.sapi ≡ Zero → x.state ≡ Idle →
-    (frame_outcome f x).new_state.state ≡ Idle
+    (outcome_of_reply (link_reply f x) x).new_state.state ≡ Idle
 idle-stays f x role sapi idle = grind arith
 
 opened-frame : (r : Role) (f : Frame) (x : EndpointState) → x.role ≡ r → x.sapi ≡ Zero →
-    opened r (frame_outcome f x).new_state ≤ opened r x
+    opened r (outcome_of_reply (link_reply f x) x).new_state ≤ opened r x
 opened-frame Network f x role sapi = omega arith
 opened-frame Mobile f x role sapi = elim (cases_Bool (is_idle x.state)) [
   | inl e ↦ rw (idle-stays f x role sapi (is e), e) (omega arith)
-  | inr e ↦ rw e (one_most (not (is_idle (frame_outcome f x).new_state.state)))
+  | inr e ↦ rw e (one_most (not (is_idle (outcome_of_reply (link_reply f x) x).new_state.state)))
 ]
   where
     is : is_idle x.state ≡ true → x.state ≡ Idle
@@ -152,13 +152,10 @@ module _ (r : Role) (channel : Channel) where
       Asked r channel n (C.after_arriving (Some f) l).endpoint
   asked-frame n f l h = by (ignores f l)
     where
-      heard : Frame
-      heard = as_taken f l.endpoint
-
       new : Asked r channel n (with_outcome (received_outcome f l) l).endpoint
       new = rw (outcome_endpoint (received_outcome f l) l)
-          (asked-stays n l.endpoint _ h (stays-reply (reply_to_frame heard l.endpoint) l.endpoint)
-          (opened-frame r heard l.endpoint h.role h.sapi))
+          (asked-stays n l.endpoint _ h (stays-reply (link_reply f l.endpoint) l.endpoint)
+          (opened-frame r f l.endpoint h.role h.sapi))
 
       by : (b : Bool) → Asked r channel n (if b then l else with_outcome (received_outcome f l) l).endpoint
       by true = h

@@ -1,13 +1,13 @@
 -- A run that is cut: after some slots layer 3 makes no call and no block is lost. Until then both runs are the same.
 use Rattle.{
   lapdm_progress.{
-    proofs.{Known.{mobile_slot, network_slot, Known, Unclosed, known}, FromStart.{closed_calls, from_start, keeps, unclosed, mobile_ready}},
-    proofs.{FromStart.network_ready_open, Slots.slots_same, Runs.NeverReleases, Expiries.pays, Polls.progresses},
+    proofs.{Known.Unclosed, FromStart.{from_start, keeps, unclosed}},
+    proofs.{Slots.slots_same, Runs.NeverReleases, Expiries.pays, Polls.progresses},
     specs.{
-      Progress.{arriving_at, link_at, ready_at, frame_at, is_loss, is_loss_at, is_lossy, waiting_slots, lossy_slots, expiries, is_i_frame},
+      Progress.{link_at, ready_at, frame_at, is_loss, is_loss_at, is_lossy, waiting_slots, lossy_slots, expiries, is_i_frame},
       Progress.{is_repetition, IsWithoutRelease, IsPaidFor, Progress, round_trip, PaysForExpiries, Progresses, frames_of},
       Progress.{ProgressesFromStart, KeepsLinks, NoneGaveUp},
-      Channels.{after_arriving, Turn, Side, side_at, side_after, before_sending, IsUse, Run},
+      Channels.{Turn, Side, side_at, side_after, before_sending, IsUse, Run},
     },
   },
   std.specs.Prelude.{get_or, None, zero, ◌≡◌, ℕ, suc, ◌+◌, ◌≤◌, Bool, true, false, nat_lt, [], ◌≢◌, Option},
@@ -83,40 +83,6 @@ not_closed other h = refl
 none_closed : (m : ℕ) (r : Run) (u : IsWithoutRelease r m) (n : ℕ) → n ≤ m → NoneGaveUp r n → Unclosed (cut m r) (never m r u) n
 none_closed m r u n h none = unclosed (cut m r) (never m r u) n
     (λ q e. cc (link_same m r n h q, none q))
-
--- a link is closed only in its own slot, and not by what arrives or by a call
-pub ready_unclosed : (r : Run) → round_trip r.delay ≤ r.t200 → (n : ℕ) → IsWithoutRelease r (suc n) → NoneGaveUp r n →
-    (role : Role) → is_closed (ready_at r n role).endpoint.state ≡ false
-ready_unclosed r long n u none role = ap (λ l. is_closed l.endpoint.state) (sym (ready_same (suc n) r n (omega arith) role))
-    ∙ not_closed (ready_at c n role).endpoint.state (by role)
-  where
-    c : Run
-    c = cut (suc n) r
-
-    h : Known (cut (suc n) r) (never (suc n) r u) n
-    h = known (cut (suc n) r) (never (suc n) r u) n (none_closed (suc n) r u n (omega arith) none)
-
-    by : (role : Role) → (ready_at (cut (suc n) r) n role).endpoint.state ≢ Closed
-    by Mobile = mobile_ready (cut (suc n) r) (never (suc n) r u) long n h (mobile_slot (cut (suc n) r) (never (suc n) r u) n h)
-    by Network = network_ready_open (cut (suc n) r) (never (suc n) r u) long n h (network_slot (cut (suc n) r) (never (suc n) r u) n h)
-
-closed_is : (s : State) → is_closed s ≡ true → s ≡ Closed
-closed_is Closed h = refl
-closed_is other h = absurd cc
-
--- nor by what arrives alone
-pub arrived_unclosed : (r : Run) → round_trip r.delay ≤ r.t200 → (n : ℕ) → IsWithoutRelease r (suc n) → NoneGaveUp r n →
-    (role : Role) → is_closed (after_arriving (arriving_at r n role) (link_at r n role)).endpoint.state ≡ false
-arrived_unclosed r long n u none role = elim (cases_Bool (is_closed a.endpoint.state)) [
-  | inl e ↦ absurd (cc (
-    ready_unclosed r long n u none role,
-    ap is_closed (closed_calls r.pair role (r.turn n role).calls a (u n (omega arith) role) (closed_is a.endpoint.state e)),
-  ))
-  | inr e ↦ e
-]
-  where
-    a : LinkState
-    a = after_arriving (arriving_at r n role) (link_at r n role)
 
 -- a payment in one run is one in another that is the same up to the slot
 pub paid_as : {d t : ℕ} {f g : ℕ → Role → Option Frame} {l m : ℕ → Role → Bool} {x y : ℕ → Role → LinkState}

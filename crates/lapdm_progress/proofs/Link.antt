@@ -4,10 +4,11 @@ use Rattle.{
     declared.{Sapi.TheVariants.{Three, Zero}, State.TheVariants.Open, Refused.Refused},
     Calls.{OpensWithoutInfo, call_outcome, sends_sabm, Call, Opens, Sends, refusal_of, awaited_frame, t200_expiry, is_idle},
     Ends.{sapi_number, EndpointState, Role, Mobile, vr, vs, va, command_cr},
-    Tables.{Reply, TakesIFrame, TakesRr, reply_to_frame, outcome_of_reply, is_command},
+    Tables.{Reply, TakesIFrame, TakesRr, outcome_of_reply, is_command},
   },
   lapdm_datalink.{
     specs.{Links.{with_outcome, LinkState, SlotOutcome, slot_outcome, ignores, is_due, first_frame, is_awaiting_kind}, Slots.expires_in},
+    specs.Links.link_reply,
     specs.Slots.{nr_in, nr_of},
     proofs.Answering.{IsSlot, sabm_first, idles, answering, repeating, expiring, is_slot, slot_keeps},
   },
@@ -20,7 +21,6 @@ use Rattle.{
   std.specs.Prelude.{◌≡◌, ℕ, ◌+◌, ◌%◌, ◌≤◌, Bool, true, false, not, ◌&&◌, ◌⊎◌, List, Option, Some, None},
   std.specs.Prelude.{IfSome, ◌≢◌, [], ◌∷◌, All},
   lapdm_frame.specs.Content.{Content, I, Rr, Frame},
-  lapdm_link.specs.Worlds.rej_replaced_by_rr,
 }
 
 -- the N(S) and the P bit of an I frame
@@ -40,7 +40,7 @@ poll_in other = false
 
 module _ (cr : Bool) (l : LinkState) where
   abbrev pub reply_with : Content → Reply
-  reply_with c = reply_to_frame (record { sapi = sapi_number l.endpoint.sapi; cr = cr; content = rej_replaced_by_rr c }) l.endpoint
+  reply_with c = link_reply (record { sapi = sapi_number l.endpoint.sapi; cr = cr; content = c }) l.endpoint
 
   pub not_rej : (c : Content) → is_rej (reply_with c) ≡ false
   not_rej (I ns nr p more info) = grind arith

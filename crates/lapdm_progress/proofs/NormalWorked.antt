@@ -11,8 +11,8 @@ use Rattle.lapdm_end.specs.lapdm_window.Calls.{Call, OpensWithoutInfo, Sends}
 use Rattle.lapdm_delivery.specs.Lockstep.{Run, HasCalls, IsCallOf}
 use Rattle.lapdm_progress.specs.Channels.{place, IsUse}
 use Rattle.lapdm_progress.specs.Whole.{awaits, link_at, calls_to, endpoints, sapi_0_of, OpensOnce, IsUsedOnceBefore, Progress}
+use Rattle.lapdm_progress.specs.Whole.{NormalKeepsLinks, NormalProgresses}
 use Rattle.lapdm_progress.specs.Progress.{slots_with, frames_of}
-use Rattle.lapdm_progress.proofs.Bounds.{normal_progresses, normal_is_kept}
 
 abbrev calls_of : Role → List (List (Sapi × Call))
 calls_of Mobile = [] ∷ ((Zero, Sends (7 ∷ [])) ∷ []) ∷ []
@@ -62,6 +62,6 @@ in_slot (suc (suc n)) Network = grind arith
 used : (k : ℕ) → IsUsedOnceBefore run Network k
 used k = record { calls = λ n h role. (in_slot n role).calls_are; once = λ n h role. (in_slot n role).once }
 
-pub bound : (role : Role) → Progress run (sapi_0_of Network) 5 role
-bound role = normal_progresses run refl calls (omega arith) Network 5 (used 6)
-    (normal_is_kept run refl calls (omega arith) Network 5 (used 5) (omega arith)) role
+bound : NormalKeepsLinks run → NormalProgresses run → (role : Role) → Progress run (sapi_0_of Network) 5 role
+bound keeps law role =
+    law refl calls (omega arith) Network 5 (used 6) (keeps refl calls (omega arith) Network 5 (used 5) (omega arith)) role

@@ -23,7 +23,7 @@ use Rattle.lapdm_datalink.specs.DataLinks.{DataLinkState, link_with_sapi, taken_
 use Rattle.lapdm_datalink.specs.DataLinks.{with_sapi3, with_clocks_moved}
 use Rattle.lapdm_datalink.specs.Abstraction.{IsAnswer, is_answer_kind}
 use Rattle.lapdm_delivery.specs.Runs.{after_arrival_if_any}
-use Rattle.lapdm_datalink.proofs.Returned.{IsReturned, Returns, returns-call, returns-frame}
+use Rattle.lapdm_datalink.proofs.Returned.{IsReturned, Returns, returns-call, returns-received}
 use Rattle.lapdm_datalink.proofs.Lemmas.{awaited-own, endpoint_with_frame, by_renewal}
 use Rattle.lapdm_datalink.proofs.Answering.{IsSlot, sabm_first, idles, answering, repeating, expiring, is_slot}
 
@@ -81,7 +81,7 @@ own_frame : (s : Sapi) (f : Frame) (l : LinkState) → Owns s l → Owns s (afte
 own_frame s f l h =
     own_if s (ignores f l) l (with_outcome (received_outcome f (for_frame f l)) (for_frame f l)) h
     (own_outcome s (for_frame f l) (own_if s _ (afresh l) l (own_afresh s l h) h) (received_outcome f (for_frame f l))
-    (returns-frame _ (for_frame f l).endpoint))
+    (returns-received f (for_frame f l)))
 
 own_received : (s : Sapi) (f : Frame) (l : LinkState) → Owns s l → Owns s (after_received f l)
 own_received s f l h =

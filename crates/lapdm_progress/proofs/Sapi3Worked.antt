@@ -12,9 +12,8 @@ use Rattle.{
   lapdm_delivery.specs.Lockstep.{Run, HasCalls, IsCallOf},
   lapdm_progress.{
     specs.{Channels.{place, IsUse}, Whole.{awaits, link_at, calls_to, sapi_3_of, IsFree, OpensOnce, IsUsedBefore, IsKeptTo, HasT200}},
-    specs.Whole.Progress,
+    specs.Whole.{Progress, Sapi3KeepsLinks, Sapi3Progresses},
     specs.Progress.{slots_with, frames_of},
-    proofs.Bounds.{sapi_3_progresses, sapi_3_is_kept},
   },
 }
 
@@ -105,12 +104,12 @@ timed : HasT200 run
 timed = record { same = refl; long = omega arith }
 
 -- nothing is lost, so neither is given up, and neither waits longer than the bound
-kept : IsKeptTo run Three 8
-kept = sapi_3_is_kept run calls timed Network 8 (record {
+kept : Sapi3KeepsLinks run → IsKeptTo run Three 8
+kept law = law calls timed Network 8 (record {
   calls = λ n h. used.calls n (omega (arith, h));
   once = λ n h. used.once n (omega (arith, h));
   free = λ n h. used.free n (omega (arith, h));
 }) (omega arith)
 
-pub bound : (role : Role) → Progress run (sapi_3_of Network) 8 role
-bound role = sapi_3_progresses run calls timed Network 8 used kept role
+bound : Sapi3KeepsLinks run → Sapi3Progresses run → (role : Role) → Progress run (sapi_3_of Network) 8 role
+bound keeps law role = law calls timed Network 8 used (kept keeps) role

@@ -8,7 +8,8 @@ use Rattle.{
     },
     specs.Channels.{Pair, Turn, may_open, after_slot, after_calls, after_arriving, before_sending, IsUse},
   },
-  std.specs.Prelude.{◌≡◌, ℕ, ◌≤◌, Bool, true, false, ◌&&◌, ◌⊎◌, List, [], ◌∷◌, Option, None, All, IfSome},
+  std.specs.Prelude.{◌≡◌, ℕ, ◌≤◌, Bool, true, false, if◌then◌else◌, ◌&&◌, ◌⊎◌, List, []},
+  std.specs.Prelude.{◌∷◌, Option, None, All, IfSome},
   std.proofs.Common.{inl, inr, arith, refl, ap, sym, ◌∙◌, subst},
   lapdm_frame.specs.Content.{Content, I, Rr, Rej, Frame},
   lapdm_end.specs.lapdm_window.{
@@ -21,7 +22,7 @@ use Rattle.{
   },
   lapdm_link.specs.Worlds.rej_replaced_by_rr,
   lapdm_datalink.{
-    specs.Links.{LinkState, slot_outcome, is_opening, sabm_goes_first, with_frame, with_frames, is_awaiting_kind},
+    specs.Links.{LinkState, as_taken, refuses, slot_outcome, is_opening, sabm_goes_first, with_frame, with_frames, is_awaiting_kind},
     proofs.Answering.owes_nothing,
   },
 }
@@ -46,7 +47,16 @@ module _ (cr : Bool) (l : LinkState) where
 
   idle_reply : (c : Content) → is_idle (outcome_of_reply (reply_with cr l c) l.endpoint).new_state.state ≡ true →
       (outcome_of_reply (reply_with cr l c) l.endpoint).new_state ≡ l.endpoint
-  idle_reply c = idle_at (sapi_number l.endpoint.sapi) c
+  idle_reply c = by (refuses arrived l.endpoint)
+    where
+      arrived : Frame
+      arrived = record { sapi = sapi_number l.endpoint.sapi; cr = cr; content = c }
+
+      by : (b : Bool) →
+          (let o = outcome_of_reply (if b then SendsDm else reply_to_frame (as_taken arrived l.endpoint) l.endpoint) l.endpoint in
+          is_idle o.new_state.state ≡ true → o.new_state ≡ l.endpoint)
+      by true h = refl
+      by false h = idle_at (sapi_number l.endpoint.sapi) c h
 
   -- an I frame is taken in Open alone
   i_reply : (ns nr : ℕ) (p more : Bool) (info : List ℕ) →

@@ -5,9 +5,16 @@ use Rattle.{
     declared.{Sapi.TheVariants.Zero, State.TheVariants.{Open, Closed}},
     Calls.{Call, Opens, Sends},
   },
-  std.specs.Prelude.{Bool, ◌≡◌, refl, ℕ, zero, suc, true, false, List, [], ◌∷◌, replicate, get_or},
-  lapdm_frame.specs.declared.Channel.TheVariants.Sdcch,
-  lapdm_progress.specs.{Channels.{Run, Turn}, Progress.{link_at, waiting_slots, lossy_slots, frames_at}},
+  std.specs.Prelude.{All, Bool, ◌≡◌, ◌≤◌, refl, ℕ, zero, suc, true, false, List, [], ◌∷◌},
+  std.specs.Prelude.{Option, None, replicate, get_or},
+  std.proofs.Common.arith,
+  lapdm_frame.specs.{declared.Channel.TheVariants.Sdcch, Content.Frame},
+  lapdm_datalink.specs.Links.LinkState,
+  lapdm_progress.specs.{
+    Channels.{IsUse, Run, Turn},
+    Progress.{AreOpen, FromStart, IsPaid, IsPaidFor, IsWithin, KeepsLinks, NoneGaveUp, PaysForExpiries, Progress, Progresses},
+    Progress.{ProgressesFromStart, few_losses, frames_at, link_at, lossy_slots, waiting_slots},
+  },
 }
 
 -- slots without a call: nothing is lost, the mobile's block is lost, or the network's
@@ -97,3 +104,90 @@ holds_on = refl
 -- T200 of one slot is less than the round trip: the SABM is repeated without a loss
 hasty : (link_at (run_of 1 (mobile_asks (Opens (1 ∷ [])) plain ∷ [])) 2 Mobile).endpoint.retries ≡ 1
 hasty = refl
+
+-- ---- the bounds refuse one slot, one expiry and one delay more
+
+waits_a_slot_more : IsWithin 3 0 0 2 1 0 Mobile → ⊥
+waits_a_slot_more h = let bound : 3 ≤ 2 = h.waits in omega (arith, bound)
+
+waits_a_slot_more_at_the_network : IsWithin 4 0 0 2 1 0 Network → ⊥
+waits_a_slot_more_at_the_network h = let bound : 4 ≤ 3 = h.waits in omega (arith, bound)
+
+waits_a_slot_more_for_a_loss : IsWithin 6 0 0 2 1 1 Mobile → ⊥
+waits_a_slot_more_for_a_loss h = let bound : 6 ≤ 5 = h.waits in omega (arith, bound)
+
+waits_a_slot_more_with_a_delay : IsWithin 5 0 1 4 1 0 Mobile → ⊥
+waits_a_slot_more_with_a_delay h = let bound : 5 ≤ 4 = h.waits in omega (arith, bound)
+
+expires_without_a_loss : IsWithin 0 1 0 2 1 0 Mobile → ⊥
+expires_without_a_loss h = let bound : 1 ≤ 0 = h.expires in omega (arith, bound)
+
+five : few_losses ≡ 5
+five = refl
+
+abbrev silent : ℕ → Role → Option Frame
+silent n role = None
+
+unpaid : (is_lost : ℕ → Role → Bool) (link : ℕ → Role → LinkState) (n : ℕ) →
+    IsPaidFor 0 2 silent is_lost link n Mobile → ⊥
+unpaid is_lost link n h = cc h.sent
+
+-- ---- what the laws say of these runs
+
+early_uses : (n : ℕ) (role : Role) → All (IsUse early.pair role) (early.turn n role).calls
+early_uses zero Mobile = grind arith
+early_uses zero Network = grind arith
+early_uses (suc zero) Mobile = grind arith
+early_uses (suc zero) Network = grind arith
+early_uses (suc (suc n)) Mobile = grind arith
+early_uses (suc (suc n)) Network = grind arith
+
+early_is_kept : KeepsLinks early → NoneGaveUp early 6
+early_is_kept law = law (omega arith) 6 (λ n below role. early_uses n role) (omega arith)
+
+early_is_within : KeepsLinks early → ProgressesFromStart early → FromStart early 6 Network
+early_is_within keeps law = law (omega arith) 6 (λ n below role. early_uses n role) (early_is_kept keeps) Network
+
+quiet_uses : (n : ℕ) (role : Role) → All (IsUse quiet.pair role) (quiet.turn n role).calls
+quiet_uses zero Mobile = grind arith
+quiet_uses zero Network = grind arith
+quiet_uses (suc zero) Mobile = grind arith
+quiet_uses (suc zero) Network = grind arith
+quiet_uses (suc (suc zero)) Mobile = grind arith
+quiet_uses (suc (suc zero)) Network = grind arith
+quiet_uses (suc (suc (suc n))) Mobile = grind arith
+quiet_uses (suc (suc (suc n))) Network = grind arith
+
+quiet_is_open : AreOpen quiet 3 2
+quiet_is_open zero below Mobile = refl
+quiet_is_open zero below Network = refl
+quiet_is_open (suc zero) below Mobile = refl
+quiet_is_open (suc zero) below Network = refl
+quiet_is_open (suc (suc zero)) below Mobile = refl
+quiet_is_open (suc (suc zero)) below Network = refl
+quiet_is_open (suc (suc (suc n))) below role = absurd (omega (arith, below))
+
+quiet_progresses : Progresses quiet → Progress quiet 3 2 Mobile
+quiet_progresses law = law (omega arith) 3 2 (λ n below role. quiet_uses n role) quiet_is_open Mobile
+
+lossy_uses : (n : ℕ) (role : Role) → All (IsUse lossy.pair role) (lossy.turn n role).calls
+lossy_uses zero Mobile = grind arith
+lossy_uses zero Network = grind arith
+lossy_uses (suc zero) Mobile = grind arith
+lossy_uses (suc zero) Network = grind arith
+lossy_uses (suc (suc zero)) Mobile = grind arith
+lossy_uses (suc (suc zero)) Network = grind arith
+lossy_uses (suc (suc (suc zero))) Mobile = grind arith
+lossy_uses (suc (suc (suc zero))) Network = grind arith
+lossy_uses (suc (suc (suc (suc zero)))) Mobile = grind arith
+lossy_uses (suc (suc (suc (suc zero)))) Network = grind arith
+lossy_uses (suc (suc (suc (suc (suc zero))))) Mobile = grind arith
+lossy_uses (suc (suc (suc (suc (suc zero))))) Network = grind arith
+lossy_uses (suc (suc (suc (suc (suc (suc n)))))) Mobile = grind arith
+lossy_uses (suc (suc (suc (suc (suc (suc n)))))) Network = grind arith
+
+-- the I frame of slot 2 is repeated in slot 4
+lossy_is_paid : KeepsLinks lossy → PaysForExpiries lossy → IsPaid lossy 4 Mobile
+lossy_is_paid keeps law =
+    let kept = keeps (omega arith) 4 (λ n below role. lossy_uses n role) (omega arith) in
+    law (omega arith) 4 (λ n below role. lossy_uses n role) kept Mobile refl

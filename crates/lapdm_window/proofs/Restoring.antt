@@ -8,7 +8,7 @@ use Rattle.{
   },
   segmenting.{
     proofs.Lemmas.{count-all, count-append, count-whole, HasHistory-joiner, one_part, length-segments, IsN201-n201},
-    specs.{Joiners.HoldsReassemblyOf, Joining.message_count, Parts.JoinerValues, Segments.{IsValidMessage, Message, Segment}},
+    specs.{Joining.message_count, Segments.{IsValidMessage, Message, Segment}},
     specs.{Segments.{number_of_segments, segments}, lapdm_frame.Layout.n201},
   },
   std.proofs.Common.{All, List, [], ap, arith, drop, get_or, inl, inr, length, not, refl, replicate, if◌then◌else◌, nat_eq, suc, sym},
@@ -143,9 +143,6 @@ history_of n done va place sent held room most few messages below within none =
 
 -- ## Parts: A window represents some endpoint if and only if its values satisfy `AreConsistent`. The section Histories constructs the
 -- history of that endpoint.
-
-abbrev Joins : JoinerValues → List Segment → Type 0
-Joins j taken = HoldsReassemblyOf j.part j.octets taken
 
 pub HasSameStateVariables-values : {w v : Window} {e : EndpointState} → values_of w ≡ values_of v → HasSameStateVariables w e →
     HasSameStateVariables v e

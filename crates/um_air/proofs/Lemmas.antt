@@ -10,9 +10,9 @@ use Rattle.{
     specs.{
       Claims.{AckedAtMostDelivered, Claims, HasNoticesInOrder, LogLine, answer_log_lines, notice_log_lines, event_log_lines},
       Events.{BySide, Deliver, EventRefusal, Nothing, Who, event_step, queues_after_removal, refusal_if, sending_role, AirFull},
-      Events.{unbounded_capacity, refusal_with_bounded_queues, Open, OpenBare, Ask, Lose, Rival},
+      Events.{unbounded_capacity, refusal_with_bounded_queues, BothSides, Open, OpenBare, Ask, Lose, Rival, other},
       Queues.{IsOldestSentOrNone, Queues, empty_queues, queue_of, queue_length},
-      Worlds.{World, IsOldestSentOrRrForRej, initial_world},
+      Worlds.{World, IsOldestSentOrReplaced, as_sent, initial_world},
       lapdm_frame.{Content.{Frame, information}, Frames.{FrameFits, octets_of, IsFrameCoding}, declared.Channel.Channel},
       lapdm_frame.{Computed.frame_reading, Readings.IsOnlyReading, declared.Refusal.Refusal},
       lapdm_window.{Ends.Role, declared.{Notice.Notice, Sapi.Sapi}},
@@ -227,13 +227,14 @@ reads-well channel (Some octets) f all h =
     (h.fits, rw (← h.information_matches) (search (All-take IsOctet, All-drop IsOctet, all)))
 reads-well channel None f all h = absurd h
 
-pub read_back : (channel : Channel) (accepted : Option Octets) (read : Option Frame) (fs : List Frame) (os : List Octets) →
+pub read_back : (r : Role) (ends : BothSides) (channel : Channel) (accepted : Option Octets) (read : Option Frame) (fs : List Frame)
+    (os : List Octets) →
     AllZip (IsFrameCoding channel) fs os → ReadsFrame channel accepted read → IsOldestSentOrNone accepted os →
-    IsOldestSentOrRrForRej read fs
-read_back channel (Some octets) (Some f) (g ∷ gs) (o ∷ os) z h s = inl (same_frame channel o f g (rw s at h) z.0)
-read_back channel (Some octets) (Some f) fs [] z h s = absurd s
-read_back channel accepted None fs os z h s = tt
-read_back channel accepted read fs os z h s = absurd assumption
+    IsOldestSentOrReplaced r ends read fs
+read_back r ends channel (Some octets) (Some f) (g ∷ gs) (o ∷ os) z h s = as_sent (same_frame channel o f g (rw s at h) z.0)
+read_back r ends channel (Some octets) (Some f) fs [] z h s = absurd s
+read_back r ends channel accepted None fs os z h s = tt
+read_back r ends channel accepted read fs os z h s = absurd assumption
 
 pub may_read : {Sound : Type 0} {channel : Channel} {w : World} {ls : List LogLine} (h : IsReached Sound channel w ls)
     (octets : Queues Octets) → AreCoded channel w.queues octets → (sender : Role) (accepted : Option Octets) (read : Option Frame) →
@@ -244,8 +245,8 @@ may_read {channel = channel} {w = w} h octets coded sender accepted (Some f) sma
     let well = reads-well channel accepted f small reads in (
       (
         well.0,
-        λ sound. read_back channel accepted (Some f) (queue_of sender w.queues) (queue_of sender octets) (coded sender) reads
-            (oldest sound),
+        λ sound. read_back (other sender) w.ends channel accepted (Some f) (queue_of sender w.queues) (queue_of sender octets)
+            (coded sender) reads (oldest sound),
       ),
       well.1,
     )

@@ -26,7 +26,7 @@ use Rattle.um_c.specs.DataLinkCalls.{answer_from, link_values_from, data_link_va
 use Rattle.um_c.specs.DataLinkCalls.{IsWrittenFor, owed_number, answer_octets, c_timed_end, c_data_link, c_report, reports_of}
 use Rattle.um_c.specs.DataLinkCalls.{DataLinkAnswers, DataLinkHasUnacked, DataLinkChangesLink, DataLinkChanges, DataLinkReceivesBlock}
 use Rattle.um_c.specs.DataLinkCalls.{DataLinkFillsSlot}
-use Rattle.um_c.specs.DataLinkCalls.{DataLinkEncodesUnit, with_layer1}
+use Rattle.um_c.specs.DataLinkCalls.{DataLinkEncodesUnit, with_layer1, IsRead}
 use Rattle.um_c.specs.declared.datalinks.CReport.{CReport}
 use Rattle.std.specs.Prelude.{slice_get}
 use Rattle.std.proofs.lemmas.Option.{slice_get-map}
@@ -114,11 +114,6 @@ report_is sapi (a ∷ b ∷ c ∷ d ∷ ns) r h notices sapis count = absurd (om
 
 -- ## Calls: A call reads the caller's struct into a Rust data link and calls this. Its contract determines what the C call returns and
 -- writes, because both represent the same data link.
-
--- the Rust data link `m` was read from the struct `c`
-pub record IsRead (c : CDataLink) (m : DataLink) : Type 0 where
-  pub represents : (s : DataLinkState) → RepresentsDataLink c s → D.Represents m s
-  pub some : RepresentsSomeDataLink c
 
 -- a struct that represents no data link: the call returns 7 and writes nothing
 module _ (c : CDataLink) (no : RepresentsSomeDataLink c → ⊥) where

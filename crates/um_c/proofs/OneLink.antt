@@ -3,7 +3,7 @@ use Rattle.{
   std.{
     proofs.Common.{◌≡◌, ◌∙◌, refl, sym, ap, subst, ℕ, Bool, true, false, List, [], ◌∷◌, ◌-◌, Option, Some, None},
     proofs.Common.{arith, ◌++◌},
-    specs.{Prelude.{if◌then◌else◌, ◌||◌, not}, Option.{is_none, option_map, unwrap_or}},
+    specs.{Prelude.{if◌then◌else◌, ◌||◌, not, MatchOption}, Option.{is_none, option_map, unwrap_or}},
   },
   lapdm_frame.specs.{declared.{Channel.Channel, Refusal.Refusal}, Content.{Frame, fill_frame}, Frames.{octets_of, bit_of_bool, FrameFits}},
   lapdm_frame.specs.{Content.{Content, Ui}, Readings.{IsOnlyEncodedFrame, IsOnlyRefusalReason}},
@@ -11,11 +11,11 @@ use Rattle.{
   um_air.specs.lapdm_window.{declared.{Sapi.{Sapi, TheVariants.{Zero, Three}}, Notice.Notice}, Ends.{Role, command_cr, IsValidEndpoint}},
   lapdm_datalink.{
     specs.{
-      declared.{links.Link.Link, data_links.Slot.Slot},
+      declared.{links.{Link.Link, LinkSlot.LinkSlot}, data_links.Slot.Slot, outlook.Outlook.Outlook},
       Links.{LinkState, after_slot, after_received, slot_outcome, sends_nothing, SlotOutcome, is_due, slot_outcome_owing, received_notices},
       DataLinks.{DataLinkState, IsDataLink, with_link, with_clocks_moved, holds_up_sapi3, taken_by, after_arrival, sapi_for_frame},
       DataLinks.{arrival_notices, data_link_outcome, with_sapi3, is_ui, on_sapi0},
-      Parts.{LinkValues, ValuesRepresent, SomeLinkHasValues, DataLinkValues, AreOfOneDataLink, values_of, acts_in_slot},
+      Parts.{LinkValues, ValuesRepresent, DataLinkValues, values_of, acts_in_slot},
       Abstraction.notices_if,
     },
     proofs.{Lemmas.{replaced, same_after_received, same_slot, valid_with_flags, valid_clocks, sapi0_sends, sapi3_sends}, Kept.ui-same},
@@ -23,9 +23,10 @@ use Rattle.{
   um_c.{
     specs.{
       declared.datalinks.{CTimedEnd.CTimedEnd, CDataLink.CDataLink, CReport.CReport},
-      DataLinkCalls.{passed_to, FrameIsPassed, AreRead, DataLinkReceivesBlock, DataLinkFillsSlot, c_report, reports_of, reports_if_taken},
+      DataLinkCalls.{passed_to, FrameIsPassed, IsSeen, LinkTakesFrame, LinkUsesSlot, DataLinkReceivesBlock, DataLinkFillsSlot},
+      DataLinkCalls.{c_report, reports_of, reports_if_taken},
       DataLinkCalls.{with_layer1, slot_answer, slot_frame, link_values_if_valid, link_values_from, data_link_values_if_valid},
-      DataLinkCalls.{c_timed_end, counted, RepresentsLink, RepresentsDataLink, RepresentsSomeDataLink, IsLinkWritten, with_clocks_counted},
+      DataLinkCalls.{c_timed_end, counted, RepresentsLink, RepresentsDataLink, IsLinkWritten, with_clocks_counted},
       DataLinkCalls.{IsCanonicalLink, IsWrittenOver, IsWrittenFor, SlotIsFilled, acts_on_frame, is_empty_ui},
       Plain.is_nonzero,
       States.endpoint_values_from,
@@ -99,12 +100,6 @@ joined c s h = record {
 pub view_represents : (c : CTimedEnd) (x : LinkValues) (l : LinkState) → link_values_from c ≡ Some x → RepresentsLink c l →
     ValuesRepresent x l
 view_represents c x l is h = subst (λ (y : LinkValues). ValuesRepresent y l) (some_same (sym h.decoded ∙ is)) h.represents
-
-pub no_view : (c : CTimedEnd) (l : LinkState) → link_values_from c ≡ None → RepresentsLink c l → ⊥
-no_view c l none h = some_none (sym h.decoded ∙ none)
-  where
-    some_none : {x : LinkValues} → Some x ≡ None → ⊥
-    some_none e = absurd cc
 
 -- a struct that was written from a link represents what that represents
 pub link_written : (m : Link) (l : LinkState) (c : CTimedEnd) → c ≡ c_timed_end (values_of m) → L.Represents m l →
@@ -188,71 +183,25 @@ kept before after acts s h0 h3 w =
       };
     }
 
--- ## Two links of one data link
+-- ## What a view of a struct shows
 
-record HasFields (x : LinkValues) (l : LinkState) : Type 0 where
-  role : spec_role_of x.endpoint.role ≡ l.endpoint.role
-  sapi : x.endpoint.sapi ≡ l.endpoint.sapi
-  channel : x.endpoint.window.channel ≡ l.endpoint.channel
-  t200 : x.t200 ≡ l.t200
-  clock : x.clock ≡ l.clock
+channel_of_values : (x : LinkValues) (l : LinkState) → ValuesRepresent x l → x.endpoint.window.channel ≡ l.endpoint.channel
+channel_of_values x l h =
+    sym (ap (λ (y : LinkValues). y.endpoint.window.channel) h.values_match) ∙ h.represents.endpoint.variables.channel
 
-fields : (x : LinkValues) (l : LinkState) → ValuesRepresent x l → HasFields x l
-fields x l h = record {
-  role = sym (ap (λ (y : LinkValues). spec_role_of y.endpoint.role) h.values_match) ∙ h.represents.endpoint.address.role;
-  sapi = sym (ap (λ (y : LinkValues). y.endpoint.sapi) h.values_match) ∙ h.represents.endpoint.address.sapi;
-  channel = sym (ap (λ (y : LinkValues). y.endpoint.window.channel) h.values_match) ∙ h.represents.endpoint.variables.channel;
-  t200 = sym (ap (λ (y : LinkValues). y.t200) h.values_match) ∙ h.represents.t200;
-  clock = sym (ap (λ (y : LinkValues). y.clock) h.values_match) ∙ h.represents.clock;
-}
+-- links that one struct represents have one channel
+pub one_channel : (c : CTimedEnd) (l m : LinkState) → RepresentsLink c l → RepresentsLink c m →
+    l.endpoint.channel ≡ m.endpoint.channel
+one_channel c l m h g =
+    sym (channel_of_values h.values l h.represents)
+    ∙ ap (λ (x : LinkValues). x.endpoint.window.channel) (some_same (sym h.decoded ∙ g.decoded))
+    ∙ channel_of_values g.values m g.represents
 
-pub beside : (x y : LinkValues) (s : DataLinkState) → ValuesRepresent x s.link0 → ValuesRepresent y s.link3 → IsDataLink s →
-    AreOfOneDataLink x y
-beside x y s h g v =
-    let a = fields x s.link0 h in
-    let b = fields y s.link3 g in
-    record {
-      sapi3 = b.sapi ∙ v.sapi3;
-      role = b.role ∙ v.role ∙ sym a.role;
-      channel = b.channel ∙ v.channel ∙ sym a.channel;
-      timed0 = (λ z. v.t200 (sym a.t200 ∙ z), rw (a.clock, a.t200) v.clock);
-      timed3 = (λ z. v.t200_sapi3 (sym b.t200 ∙ z), rw (b.clock, b.t200) v.clock_sapi3);
-    }
-
-one_data_link : (x y : LinkValues) (s : DataLinkState) → ValuesRepresent x s.link0 → ValuesRepresent y s.link3 →
-    AreOfOneDataLink x y → IsDataLink s
-one_data_link x y s h g v =
-    let a = fields x s.link0 h in
-    let b = fields y s.link3 g in
-    record {
-      sapi3 = sym b.sapi ∙ v.sapi3;
-      role = sym b.role ∙ v.role ∙ a.role;
-      channel = sym b.channel ∙ v.channel ∙ a.channel;
-      t200 = λ z. v.timed0.0 (a.t200 ∙ z);
-      t200_sapi3 = λ z. v.timed3.0 (b.t200 ∙ z);
-      clock = rw (a.clock, a.t200) at v.timed0.1;
-      clock_sapi3 = rw (b.clock, b.t200) at v.timed3.1;
-    }
-
--- a struct with two possible links of one data link represents a data link
-pub some_both : (c : CDataLink) (x y : LinkValues) → link_values_from c.link0 ≡ Some x → link_values_from c.link3 ≡ Some y →
-    AreOfOneDataLink x y → SomeLinkHasValues x → SomeLinkHasValues y → RepresentsSomeDataLink c
-some_both c x y is0 is3 v h g =
-    let s : DataLinkState = record {
-      link0 = h.0;
-      link3 = g.0;
-      heard_sapi0 = is_nonzero c.heard0;
-      is_main_established = is_nonzero c.main;
-    } in (
-      s,
-      joined c s (record {
-        link0 = record { values = x; decoded = is0; represents = h.1 };
-        link3 = record { values = y; decoded = is3; represents = g.1 };
-        heard = refl;
-        main = refl;
-        valid = one_data_link x y s h.1 g.1 v;
-      }),
-    )
+-- what holds of what was read from a view holds of the struct
+pub read_from : {A N P : Type 0} {S T : A → Type 0} (r : Option A) → (N → P) → ((a : A) → S a → T a) → MatchOption r N S →
+    MatchOption r P T
+read_from None f g h = f h
+read_from (Some a) f g h = g a h
 
 -- ## Slots
 
@@ -299,41 +248,39 @@ valid_endpoint c l h = h.represents.represents.endpoint.valid
 -- the struct once the link of SAPI 0 or 3 has taken a frame, and is written unless that is a UI frame
 module _ (c after : CDataLink) (f : Frame) (s : DataLinkState) (notices : List Notice) (h : RepresentsDataLink c s)
     (fits : FrameFits s.link0.endpoint.channel f) where
-  pub passed_to0 : (d : CTimedEnd) → after ≡ record c { link0 = d } → RepresentsLink d (after_received f s.link0) →
-      IsLinkWritten (not (is_ui f.content)) c.link0 d → notices ≡ received_notices f s.link0 →
+  pub passed_to0 : (d : CTimedEnd) → after ≡ record c { link0 = d } → LinkTakesFrame f s.link0 c.link0 d notices →
       FrameIsPassed (Some Zero) f s c after notices
-  passed_to0 d is does written reports =
+  passed_to0 d is did =
       let g = both c s h in
       rw is (record {
         represents = joined _ (with_link Zero (after_received f s.link0) s) (record {
-          link0 = does;
+          link0 = did.represents;
           link3 = g.link3;
           heard = g.heard;
           main = g.main;
           valid = replaced Zero _ s g.valid (same_after_received f s.link0 (valid_endpoint c.link0 s.link0 g.link0) fits);
         });
-        link0 = written;
+        link0 = did.written;
         link3 = refl;
-        reports = ap (reports_of Zero) reports;
+        reports = ap (reports_of Zero) did.notices_are;
       })
 
-  pub passed_to3 : (d : CTimedEnd) → after ≡ record c { link3 = d } → RepresentsLink d (after_received f s.link3) →
-      IsLinkWritten (not (is_ui f.content)) c.link3 d → notices ≡ received_notices f s.link3 →
+  pub passed_to3 : (d : CTimedEnd) → after ≡ record c { link3 = d } → LinkTakesFrame f s.link3 c.link3 d notices →
       FrameIsPassed (Some Three) f s c after notices
-  passed_to3 d is does written reports =
+  passed_to3 d is did =
       let g = both c s h in
       rw is (record {
         represents = joined _ (with_link Three (after_received f s.link3) s) (record {
           link0 = g.link0;
-          link3 = does;
+          link3 = did.represents;
           heard = g.heard;
           main = g.main;
           valid = replaced Three _ s g.valid
               (same_after_received f s.link3 (valid_endpoint c.link3 s.link3 g.link3) (rw g.valid.channel fits));
         });
         link0 = refl;
-        link3 = written;
-        reports = ap (reports_of Three) reports;
+        link3 = did.written;
+        reports = ap (reports_of Three) did.notices_are;
       })
 
 -- the frame is passed to no link
@@ -392,13 +339,21 @@ taken sapi f s c mid after notices for_it p is = rw (sym for_it, is) (record {
       ∙ ap (λ (d : DataLinkState). d.is_main_established) (taken_is sapi f s));
 })
 
+-- a link that does not act uses no slot
+pub uses_none : (l : LinkState) (c : CTimedEnd) (slot : LinkSlot) → RepresentsLink c l → acts_in_slot l ≡ false →
+    slot ≡ record { block = None; gave_up = false } → LinkUsesSlot l slot c c
+uses_none l c slot h idles is =
+    let sends = idle l idles in record {
+      represents = rw sends h;
+      written = rw idles refl;
+      block = rw (sends, is) refl;
+      gave_up = rw (sends, is) refl;
+    }
+
 -- the struct of a data link, whose clocks were moved, after a slot
-module _ (s : DataLinkState) (before after : CDataLink) (h : RepresentsDataLink before s) (sent0 : Option (List ℕ)) (gave0 : Bool)
-    (rep0 : RepresentsLink after.link0 (slot_outcome s.link0).link)
-    (wrote0 : IsLinkWritten (acts_in_slot s.link0) before.link0 after.link0)
-    (block0 : sent0 ≡ option_map (octets_of s.link0.endpoint.channel) (slot_outcome s.link0).frame)
-    (up0 : notices_if gave0 ≡ (slot_outcome s.link0).notices)
-    (heard : after.heard0 ≡ before.heard0) (main : after.main ≡ before.main) where
+module _ (s : DataLinkState) (before after : CDataLink) (h : RepresentsDataLink before s) (slot0 : LinkSlot)
+    (used0 : LinkUsesSlot s.link0 slot0 before.link0 after.link0) (heard : after.heard0 ≡ before.heard0)
+    (main : after.main ≡ before.main) where
   some_frame : (a : Option Frame) (block : List ℕ) → Some block ≡ option_map (octets_of s.link0.endpoint.channel) a →
       is_none a ≡ false
   some_frame (Some f) block e = refl
@@ -408,89 +363,81 @@ module _ (s : DataLinkState) (before after : CDataLink) (h : RepresentsDataLink 
   no_frame (Some f) e = absurd cc
   no_frame None e = refl
 
-  pub filled_by0 : (block : List ℕ) → sent0 ≡ Some block → after.link3 ≡ before.link3 → (written : Option (List ℕ)) →
+  pub filled_by0 : (block : List ℕ) → slot0.block ≡ Some block → after.link3 ≡ before.link3 → (written : Option (List ℕ)) →
       written ≡ option_map (octets_of s.link0.endpoint.channel)
       (option_map (on_sapi0 s.link0.endpoint.sapi) (slot_outcome s.link0).frame) →
-      SlotIsFilled s (record { block = written; gave_up0 = gave0; gave_up3 = false }) before after
+      SlotIsFilled s (record { block = written; gave_up0 = slot0.gave_up; gave_up3 = false }) before after
   filled_by0 block some same written with_sapi0 =
       let g = both before s h in
       let o = slot_outcome s.link0 in
-      let is = sapi0_sends o o.frame s s.link0.endpoint.channel block (sym some ∙ block0) in
+      let is = sapi0_sends o o.frame s s.link0.endpoint.channel block (sym some ∙ used0.block) in
       record {
         represents = rw is (joined after (record s { link0 = o.link }) (record {
-          link0 = rep0;
+          link0 = used0.represents;
           link3 = rw same g.link3;
           heard = rw heard g.heard;
           main = rw main g.main;
           valid = replaced Zero o.link s g.valid (same_slot s.link0);
         }));
-        link0 = wrote0;
-        link3 = rw (some_frame o.frame block (sym some ∙ block0)) same;
+        link0 = used0.written;
+        link3 = rw (some_frame o.frame block (sym some ∙ used0.block)) same;
         heard0 = heard;
         main = main;
         block = rw is with_sapi0;
-        gave_up0 = rw is up0;
+        gave_up0 = rw is used0.gave_up;
         gave_up3 = rw is refl;
       }
 
-  pub filled_by3 : (sent3 : Option (List ℕ)) (gave3 : Bool) → sent0 ≡ None →
-      RepresentsLink after.link3 (slot_outcome s.link3).link →
-      IsLinkWritten (acts_in_slot s.link3) before.link3 after.link3 →
-      sent3 ≡ option_map (octets_of s.link3.endpoint.channel) (slot_outcome s.link3).frame →
-      notices_if gave3 ≡ (slot_outcome s.link3).notices →
-      SlotIsFilled s (record { block = sent3; gave_up0 = gave0; gave_up3 = gave3 }) before after
-  filled_by3 sent3 gave3 none rep3 wrote3 block3 up3 =
+  pub filled_by3 : (slot3 : LinkSlot) → slot0.block ≡ None → LinkUsesSlot s.link3 slot3 before.link3 after.link3 →
+      SlotIsFilled s (record { block = slot3.block; gave_up0 = slot0.gave_up; gave_up3 = slot3.gave_up }) before after
+  filled_by3 slot3 none used3 =
       let g = both before s h in
       let o = slot_outcome s.link0 in
       let p = slot_outcome s.link3 in
-      let is = sapi3_sends o o.frame s s.link0.endpoint.channel (sym none ∙ block0) in
+      let is = sapi3_sends o o.frame s s.link0.endpoint.channel (sym none ∙ used0.block) in
       record {
         represents = rw is (joined after (record s { link0 = o.link; link3 = p.link }) (record {
-          link0 = rep0;
-          link3 = rep3;
+          link0 = used0.represents;
+          link3 = used3.represents;
           heard = rw heard g.heard;
           main = rw main g.main;
           valid = replaced Three p.link (with_link Zero o.link s) (replaced Zero o.link s g.valid (same_slot s.link0)) (same_slot s.link3);
         }));
-        link0 = wrote0;
-        link3 = rw (no_frame o.frame (sym none ∙ block0)) wrote3;
+        link0 = used0.written;
+        link3 = rw (no_frame o.frame (sym none ∙ used0.block)) used3.written;
         heard0 = heard;
         main = main;
-        block = rw is (subst (λ (ch : Channel). sent3 ≡ option_map (octets_of ch) p.frame) g.valid.channel block3);
-        gave_up0 = rw is up0;
-        gave_up3 = rw is up3;
+        block = rw is (subst (λ (ch : Channel). slot3.block ≡ option_map (octets_of ch) p.frame) g.valid.channel used3.block);
+        gave_up0 = rw is used0.gave_up;
+        gave_up3 = rw is used3.gave_up;
       }
 
--- ## Calls that read one link over the other: `m` is that of SAPI 0
-module _ {c : CDataLink} {m : Link} {acts3 : Bool} (read : AreRead c m acts3) where
-  channel_of_link0 : (s : DataLinkState) → RepresentsDataLink c s → L.channel_of m ≡ s.link0.endpoint.channel
-  channel_of_link0 s h = (read.link0_is s h).endpoint.address.channel
-
-  pub receives_none : (octets : List ℕ) (channel : Channel) (reason : Refusal) (r : CReport) → channel ≡ L.channel_of m →
-      IsOnlyRefusalReason channel octets reason → DataLinkReceivesBlock octets 9 c c r r
-  receives_none octets channel reason r on refusal = record {
-    carried_out = λ s h f only. absurd ((rw (on ∙ channel_of_link0 s h) at refusal).no_frame f only.frame);
-    reported = λ s h f only. absurd ((rw (on ∙ channel_of_link0 s h) at refusal).no_frame f only.frame);
+-- ## Calls that have seen what the struct represents
+module _ {c : CDataLink} {o : Outlook} (seen : IsSeen c o) where
+  pub receives_none : (octets : List ℕ) (reason : Refusal) (r : CReport) → IsOnlyRefusalReason o.channel octets reason →
+      DataLinkReceivesBlock octets 9 c c r r
+  receives_none octets reason r refusal = record {
+    carried_out = λ s h f only. absurd ((rw (seen.outlook s h).channel at refusal).no_frame f only.frame);
+    reported = λ s h f only. absurd ((rw (seen.outlook s h).channel at refusal).no_frame f only.frame);
     invalid_frame = λ s h other refused. refl;
-    invalid_struct = λ none. absurd (none read.some);
+    invalid_struct = λ none. absurd (none seen.some);
     unchanged = λ other. (refl, refl);
   }
 
-  pub receives : (octets : List ℕ) (channel : Channel) (f : Frame) (after : CDataLink) (r report : CReport) →
-      channel ≡ L.channel_of m → IsOnlyEncodedFrame channel f octets →
+  pub receives : (octets : List ℕ) (f : Frame) (after : CDataLink) (r report : CReport) → IsOnlyEncodedFrame o.channel f octets →
       ((s : DataLinkState) → RepresentsDataLink c s →
       IsWrittenOver c (acts_on_frame (sapi_for_frame f s) f) (after_arrival f s) after) →
       ((s : DataLinkState) → RepresentsDataLink c s →
       report ≡ c_report (reports_if_taken (sapi_for_frame f s) (arrival_notices f s))) →
       DataLinkReceivesBlock octets 0 c after r report
-  receives octets channel f after r report on frame written reports =
+  receives octets f after r report frame written reports =
       let known : (s : DataLinkState) → RepresentsDataLink c s → IsOnlyEncodedFrame s.link0.endpoint.channel f octets =
-      λ s h. rw (on ∙ channel_of_link0 s h) at frame in
+      λ s h. rw (seen.outlook s h).channel at frame in
       record {
         carried_out = λ s h g only. rw ((known s h).unique g only.frame) (record { answer_is_0 = refl; written = written s h });
         reported = λ s h g only. rw ((known s h).unique g only.frame) (reports s h);
         invalid_frame = λ s h reason refusal. absurd (refusal.no_frame f (known s h).frame);
-        invalid_struct = λ none. absurd (none read.some);
+        invalid_struct = λ none. absurd (none seen.some);
         unchanged = λ other. absurd (other refl);
       }
 
@@ -513,22 +460,23 @@ module _ {c : CDataLink} {m : Link} {acts3 : Bool} (read : AreRead c m acts3) wh
   bits_after_slot o None s = (refl, refl)
   bits_after_slot o (Some f) s = (refl, refl)
 
-  pub fills_slot : (layer1 : List ℕ) (slot : Slot) (channel : Channel) (role : Role) (after : CDataLink)
-      (old block plain : List ℕ) (r report : CReport) (answer : ℕ) → channel ≡ L.channel_of m → role ≡ L.role_of m →
+  pub fills_slot : (layer1 : List ℕ) (slot : Slot) (after : CDataLink) (old block plain : List ℕ) (r report : CReport)
+      (answer : ℕ) →
       ((s : DataLinkState) → RepresentsDataLink c s → SlotIsFilled (with_clocks_moved s) slot
       (record (with_clocks_counted c) { heard0 = 0; main = bit_of_bool (is_nonzero c.main) }) after) →
-      plain ≡ unwrap_or slot.block (octets_of channel (fill_frame (command_cr role))) → block ≡ with_layer1 channel layer1 plain →
+      plain ≡ unwrap_or slot.block (octets_of o.channel (fill_frame (command_cr (spec_role_of o.role)))) →
+      block ≡ with_layer1 o.channel layer1 plain →
       report ≡ c_report (reports_of Zero (notices_if slot.gave_up0) ++ reports_of Three (notices_if slot.gave_up3)) →
       answer ≡ (if is_none slot.block then 10 else 0) → DataLinkFillsSlot layer1 answer c after old block r report
-  fills_slot layer1 slot channel role after old block plain r report answer on by fills plain_is block_is report_is answer_is =
-      let ch : (s : DataLinkState) → RepresentsDataLink c s → channel ≡ s.link0.endpoint.channel =
-      λ s h. on ∙ channel_of_link0 s h in
-      let ro : (s : DataLinkState) → RepresentsDataLink c s → role ≡ s.link0.endpoint.role =
-      λ s h. by ∙ (read.link0_is s h).endpoint.address.role in
+  fills_slot layer1 slot after old block plain r report answer fills plain_is block_is report_is answer_is =
+      let ch : (s : DataLinkState) → RepresentsDataLink c s → o.channel ≡ s.link0.endpoint.channel =
+      λ s h. (seen.outlook s h).channel in
+      let ro : (s : DataLinkState) → RepresentsDataLink c s → spec_role_of o.role ≡ s.link0.endpoint.role =
+      λ s h. (seen.outlook s h).role in
       record {
         written = λ s h. (let k = fills s h in
-            let o = slot_outcome (with_clocks_moved s).link0 in
-            let bits = bits_after_slot o o.frame (with_clocks_moved s) in
+            let sent = slot_outcome (with_clocks_moved s).link0 in
+            let bits = bits_after_slot sent sent.frame (with_clocks_moved s) in
             record {
               represents = k.represents;
               link0 = k.link0;
@@ -543,6 +491,6 @@ module _ {c : CDataLink} {m : Link} {acts3 : Bool} (read : AreRead c m acts3) wh
             ∙ slot_block-is s.link0.endpoint.channel s.link0.endpoint.role (data_link_outcome s).frame) i));
         reported = λ s h. report_is
             ∙ (λ i. c_report (reports_of Zero ((fills s h).gave_up0 i) ++ reports_of Three ((fills s h).gave_up3 i)));
-        invalid_struct = λ none. absurd (none read.some);
+        invalid_struct = λ none. absurd (none seen.some);
         unchanged = λ seven. absurd (not_seven (is_none slot.block) (sym answer_is ∙ seven));
       }

@@ -17,7 +17,11 @@ use Rattle.{
     proofs.lapdm_link.Lemmas.{counts_of, each_start, each_way, end_of, ends_do, is_end, order_of, with_frames, without_oldest_item},
     specs.{
       lapdm_link.{Carriers.FirstSatisfies, Claims.{AckedAtMostDelivered, Claims, HasNoticesInOrder, LogLine, is_same_role, is_same_sapi}},
-      lapdm_link.{Events.{other, rival_sabm, unbounded_capacity}, Queues.{Queues, with_items_appended}, Worlds.IsOldestSentOrRrForRej},
+      lapdm_link.{
+        Events.{other, rival_sabm, unbounded_capacity},
+        Queues.{Queues, with_items_appended},
+        Worlds.{IsOldestSentOrReplaced, as_sent, rr_for_rej},
+      },
       lapdm_link.Worlds.{World, answer, initial_world, rej_replaced_by_rr},
       lapdm_window.{
         Calls.{Call, IsCallAllowedForEndpoint, OpensWithoutInfo, Opens, call_outcome, refusal_of},
@@ -233,15 +237,15 @@ module _ {Sound : Type 0} {channel : Channel} {a : ProgramState} {ls : List LogL
       unheard (inr (reason, only)) none = no_frame reason only
 
   -- the frame that a block encodes is the oldest frame in transit, or an RR in place of a REJ
-  first : (f : Frame) (block : List ℕ) → IsFrameCoding channel f block → (fs : List Frame) (os : List (List ℕ)) →
+  first : (r : Role) (f : Frame) (block : List ℕ) → IsFrameCoding channel f block → (fs : List Frame) (os : List (List ℕ)) →
       AllZip (IsFrameCoding channel) fs os → FirstSatisfies (λ sent. EncodeSameFrame channel sent block) os →
-      IsOldestSentOrRrForRej (Some f) fs
-  first f block is (g ∷ gs) (o ∷ os) same sent = elim (sent g same.0) [
-    | inl as_sent ↦ inl (same_frame channel block f g is as_sent)
-    | inr rr ↦ inr (same_frame channel block f (record g { content = rej_replaced_by_rr g.content }) is rr)
+      IsOldestSentOrReplaced r w.ends (Some f) fs
+  first r f block is (g ∷ gs) (o ∷ os) same sent = elim (sent g same.0) [
+    | inl is_sent ↦ as_sent (same_frame channel block f g is is_sent)
+    | inr rr ↦ rr_for_rej (same_frame channel block f (record g { content = rej_replaced_by_rr g.content }) is rr)
   ]
-  first f block is fs [] same sent = absurd sent
-  first f block is fs os same sent = absurd assumption
+  first r f block is fs [] same sent = absurd sent
+  first r f block is fs os same sent = absurd assumption
 
   -- in this module, the oldest block in transit to a side leaves its queue, and an endpoint receives a block
   module _ {b : ProgramState} {r : Role} {s : Sapi} {old new : CEndpoint} {block : List ℕ} {answer : ℕ} {output output_old : CEffects}
@@ -259,9 +263,9 @@ module _ {Sound : Type 0} {channel : Channel} {a : ProgramState} {ls : List LogL
     by_link f only true on =
         let o = frame_outcome f (end_of r s w) in
         let c = carried answers_block l left refl h.states (loses h.reached (other r)) fewer f only in
-        let read : Sound → IsOldestSentOrRrForRej (Some f) (W.queue_of (other r) w.queues) =
-        λ sound. first f block only.frame (W.queue_of (other r) w.queues) (W.queue_of (other r) a.queues) (h.coded (other r))
-        (delivers sound) in
+        let read : Sound → IsOldestSentOrReplaced (other (other r)) w.ends (Some f) (W.queue_of (other r) w.queues) =
+        λ sound. first (other (other r)) f block only.frame (W.queue_of (other r) w.queues) (W.queue_of (other r) a.queues)
+        (h.coded (other r)) (delivers sound) in
         acts l (TakesOldestBlock r s block answer output) o left h.states fewer refl c (takes h.reached r s f on (only.frame.fits, read))
         (rw (c.answer_is_0, output-notices c) refl)
     by_link f only false off = passes_by answers_block l left refl h.states (loses h.reached (other r)) fewer f only off

@@ -21,9 +21,13 @@ use Rattle.um_air.specs.lapdm_window.Calls.{Call, OpensWithoutInfo, SendsUi, IsC
 use Rattle.lapdm_end.specs.declared.Role.{Role as Side}
 use Rattle.lapdm_end.specs.Parts.{EndpointValues}
 use Rattle.lapdm_datalink.specs.declared.links.Link.{Link}
+use Rattle.lapdm_datalink.specs.declared.links.LinkSlot.{LinkSlot}
+use Rattle.lapdm_datalink.specs.declared.data_links.DataLink.{DataLink}
+use Rattle.lapdm_datalink.specs.declared.outlook.Outlook.{Outlook}
+use Rattle.lapdm_datalink.specs.Outlooks.{IsOutlook}
 use Rattle.lapdm_datalink.specs.declared.data_links.Slot.{Slot}
 use Rattle.lapdm_datalink.specs.Abstraction.{notices_if}
-use Rattle.lapdm_datalink.specs.Links.{LinkState, for_call, after_call, after_received, slot_outcome}
+use Rattle.lapdm_datalink.specs.Links.{LinkState, for_call, after_call, after_received, received_notices, slot_outcome}
 use Rattle.lapdm_datalink.specs.Links.{for_establishment, after_establishment, unacked_messages}
 use Rattle.lapdm_datalink.specs.declared.data_links.Establishment.{Establishment}
 use Rattle.lapdm_datalink.specs.declared.data_links.Establishment.TheVariants.{Contention, Normal}
@@ -40,6 +44,7 @@ use Rattle.um_c.specs.States.{sapi_of, sapi_number, endpoint_values_from, c_endp
 use Rattle.um_c.specs.EndCalls.{call_refusal_number}
 use Rattle.lapdm_end.specs.Addresses as A
 use Rattle.lapdm_datalink.specs.Abstraction as L
+use Rattle.lapdm_datalink.specs.Sides as D
 
 -- ---- the structs
 
@@ -170,11 +175,33 @@ acts_in_slot_of s Three = is_none (slot_outcome s.link0).frame && acts_in_slot s
 abbrev pub slot_of : DataLinkState → DataLinkOutcome
 slot_of s = let o = slot_outcome s.link0 in with_sapi3 o o.frame s
 
--- the links in the struct were read: `link0` is that of SAPI 0, and `acts3` says whether that of SAPI 3 acts in the next slot if it has it
-pub record AreRead (c : CDataLink) (link0 : Link) (acts3 : Bool) : Type 0 where
+-- the Rust data link `m` was read from the struct `c`
+pub record IsRead (c : CDataLink) (m : DataLink) : Type 0 where
   pub some : RepresentsSomeDataLink c
-  pub link0_is : (s : DataLinkState) → RepresentsDataLink c s → L.Represents link0 s.link0
-  pub acts3_is : (s : DataLinkState) → RepresentsDataLink c s → acts3 ≡ acts_in_slot (with_clocks_moved s).link3
+  pub represents : (s : DataLinkState) → RepresentsDataLink c s → D.Represents m s
+
+-- the Rust link `m` was read from the struct `c`
+pub record IsLinkRead (c : CTimedEnd) (m : Link) : Type 0 where
+  pub some : (l : LinkState) × RepresentsLink c l
+  pub represents : (l : LinkState) → RepresentsLink c l → L.Represents m l
+
+-- the struct represents a data link, and this is the outlook of what it represents
+pub record IsSeen (c : CDataLink) (o : Outlook) : Type 0 where
+  pub some : RepresentsSomeDataLink c
+  pub outlook : (s : DataLinkState) → RepresentsDataLink c s → IsOutlook o s
+
+-- the link `l` took a frame and reported these notices; a UI frame changes no link
+pub record LinkTakesFrame (f : Frame) (l : LinkState) (before after : CTimedEnd) (notices : List Notice) : Type 0 where
+  pub represents : RepresentsLink after (after_received f l)
+  pub written : IsLinkWritten (not (is_ui f.content)) before after
+  pub notices_are : notices ≡ received_notices f l
+
+-- the link `l` did this in a slot
+pub record LinkUsesSlot (l : LinkState) (slot : LinkSlot) (before after : CTimedEnd) : Type 0 where
+  pub represents : RepresentsLink after (slot_outcome l).link
+  pub written : IsLinkWritten (acts_in_slot l) before after
+  pub block : slot.block ≡ option_map (octets_of l.endpoint.channel) (slot_outcome l).frame
+  pub gave_up : notices_if slot.gave_up ≡ (slot_outcome l).notices
 
 -- whether this is the content of a UI frame without information, such as the fill frame: no link reports it
 abbrev pub is_empty_ui : Content → Bool

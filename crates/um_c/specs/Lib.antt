@@ -8,6 +8,7 @@ pub mod Effects
 pub mod EndCalls
 pub mod SideCalls
 pub mod DataLinkCalls
+pub mod AnswerCalls
 pub mod Joined
 pub mod DataLinkRuns
 pub mod Opening
@@ -16,4 +17,5 @@ pub mod SlotCalls
 pub mod FacchReports
 pub mod TrafficPlaces
 pub mod TrafficCalls
+pub mod SenderCalls
 pub mod Version

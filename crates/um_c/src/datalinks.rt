@@ -1,37 +1,30 @@
 //! C functions for a data link: one side of a channel with its loop. The caller holds the state.
-ghost use Rattle.std.specs.Prelude.{ℕ, Bool, List, ◌≡◌, ◌≢◌, ◌↔◌, ◌≤◌, ◌<◌, ◌==◌, ◌&&◌, ◌||◌};
-ghost use Rattle.std.specs.Prelude.{◌-◌, not, length, replicate, ◌++◌, if◌then◌else◌, Option, Some};
-ghost use Rattle.std.specs.Prelude.{None, true, false, IsTrue, IsSome, IfSome, MatchOption};
+ghost use Rattle.std.specs.Prelude.{ℕ, Bool, ◌≡◌, ◌↔◌, ◌≤◌, ◌==◌, ◌&&◌, ◌||◌, ◌-◌, ◌++◌};
+ghost use Rattle.std.specs.Prelude.{not, length, replicate, if◌then◌else◌, Some, None, false, IsTrue, MatchOption};
+ghost use Rattle.std.specs.Option.{unwrap_or, is_none};
 ghost use Rattle.lapdm_frame.specs.declared.Channel.{Channel as ChannelOf};
 ghost use Rattle.lapdm_frame.specs.Content.{fill_frame, frame_of_view, content_of_body};
 ghost use Rattle.lapdm_frame.specs.Frames.{octets_of, bit_of_bool, FrameFits};
+ghost use Rattle.um_air.specs.lapdm_window.declared.Sapi.{Sapi as SapiOf};
 ghost use Rattle.um_air.specs.lapdm_window.declared.Sapi.TheVariants as P;
 ghost use Rattle.um_air.specs.lapdm_window.declared.Notice.TheVariants.{Closed};
 ghost use Rattle.um_air.specs.lapdm_window.declared.Reason.TheVariants.{Failed};
-ghost use Rattle.lapdm_datalink.specs.Abstraction.{notices_if};
-ghost use Rattle.std.specs.Option.{unwrap_or, is_none, option_map};
-ghost use Rattle.um_air.specs.segmenting.Buffers.{octets_in_buffer};
-ghost use Rattle.um_air.specs.lapdm_window.Ends.{command_cr};
-ghost use Rattle.um_air.specs.lapdm_window.Calls.{endpoint_call_of, IsCallAllowedFor, IsCallAllowedForEndpoint, Opens, OpensWithoutInfo};
-ghost use Rattle.um_air.specs.lapdm_window.Calls.{Sends, Closes};
+ghost use Rattle.um_air.specs.lapdm_window.Ends.{command_cr, Role as SpecRole};
+ghost use Rattle.um_air.specs.lapdm_link.Claims.{Claims, AckedAtMostDelivered, HasNoticesInOrder};
 ghost use Rattle.lapdm_end.specs.Addresses.{spec_role_of};
-ghost use Rattle.lapdm_datalink.specs.Links.{LinkState, afresh, IsLinkCall, slot_outcome, after_received, received_notices};
-ghost use Rattle.lapdm_datalink.specs.DataLinks.{DataLinkState, link_with_sapi, having_main, holds_up_sapi3, is_ui};
-ghost use Rattle.lapdm_datalink.specs.Abstraction as L;
-ghost use Rattle.lapdm_datalink.specs.Abstraction.{channel_of as link_channel, sapi_of as link_sapi};
+ghost use Rattle.lapdm_datalink.specs.Links.{LinkState};
+ghost use Rattle.lapdm_datalink.specs.DataLinks.{DataLinkState, holds_up_sapi3, is_ui, with_clocks_moved};
+ghost use Rattle.lapdm_datalink.specs.Abstraction.{notices_if};
 ghost use Rattle.lapdm_datalink.specs.declared.data_links.Establishment.{Establishment as KindOf};
 ghost use Rattle.lapdm_datalink.specs.declared.data_links.Establishment.TheVariants.{Contention};
-ghost use Rattle.lapdm_delivery.specs.Runs.{log_of_link};
 ghost use Rattle.lapdm_datalink.specs.Parts.{acts_in_slot, values_of_parts, IsWritable, data_link_values_of, data_link_values_of_parts};
-ghost use Rattle.lapdm_datalink.specs.Sides.{role_of as data_link_role, link_of, Represents};
+ghost use Rattle.lapdm_datalink.specs.Outlooks.{IsOutlook};
+ghost use Rattle.lapdm_delivery.specs.Runs.{log_of_link};
 ghost use Rattle.um_c.specs.declared.datalinks.CDataLink.{CDataLink as Struct};
 ghost use Rattle.um_c.specs.declared.datalinks.CTimedEnd.{CTimedEnd as LinkStruct};
 ghost use Rattle.um_c.specs.Plain.{channel_of, is_nonzero};
 ghost use Rattle.um_c.specs.States.{role_of, sapi_number};
-ghost use Rattle.um_c.specs.Effects.{c_notice, blank_notice};
-ghost use Rattle.um_air.specs.lapdm_link.Claims.{Claims, AckedAtMostDelivered, HasNoticesInOrder};
-ghost use Rattle.um_air.specs.lapdm_window.Ends.{Role as SpecRole};
-ghost use Rattle.um_air.specs.lapdm_window.declared.Sapi.{Sapi as SapiOf};
+ghost use Rattle.um_c.specs.Effects.{c_notice};
 ghost use Rattle.um_c.specs.DataLinkRuns.{PairState, PairStep, IsPairStart, IsPairRun, pair_log};
 ghost use Rattle.um_c.specs.DataLinkCalls.{
   answer_from,
@@ -47,41 +40,56 @@ ghost use Rattle.um_c.specs.DataLinkCalls.{
   reports_if_taken,
   WritesDataLinkIfValid,
   establishment_of,
-  DataLinkAnswersCall,
-  DataLinkEstablishes,
-  DataLinkHasUnacked,
-  DataLinkChangesLink,
-  DataLinkChanges,
   DataLinkReceivesBlock,
   RepresentsLink,
-  IsLinkWritten,
   IsCanonicalLink,
   IsWrittenOver,
   counted,
   with_clocks_counted,
-  AreRead,
+  IsRead,
+  IsSeen,
+  IsLinkRead,
+  LinkTakesFrame,
+  LinkUsesSlot,
   SlotIsFilled,
   FrameIsPassed,
   is_empty_ui,
   with_layer1,
   DataLinkFillsSlot,
-  DataLinkEncodesUnit,
 };
 
 use crate::effects::{CNotice, blank_notice, write_notices};
-use crate::ends::{CALL_NOT_SUPPORTED, INVALID_ENDPOINT, INVALID_FRAME, call_refusal_number};
+use crate::ends::{INVALID_ENDPOINT, INVALID_FRAME};
 use crate::frames::channel_of;
-use crate::states::{CEndpoint, endpoint_view_of, role_of, sapi_of, write_endpoint_view};
+use crate::states::{CEndpoint, endpoint_view_of, role_of, write_endpoint_view};
 use lapdm_datalink::{
-    DataLink, DataLinkView, Establishment, Link, LinkSlot, LinkView, Slot, any_on_sapi0,
-    are_of_one_data_link, holds_up_sapi3,
+    DataLink, DataLinkView, Establishment, Link, LinkSlot, LinkView, Outlook, Slot, any_on_sapi0,
+    holds_up_sapi3,
 };
-use lapdm_end::{Call, Effects, MessageBuffer, Notice, Role, Sapi};
-use lapdm_frame::{BLOCK_OCTETS, Body, Channel, FrameView, fill_on, read_on};
+use lapdm_end::{Effects, MessageBuffer, Notice, Role, Sapi};
+use lapdm_frame::{BLOCK_OCTETS, Body, Channel, FrameView, read_on};
 
-const NO_MESSAGE: u32 = 4;
+pub(crate) const SLOT_IS_FREE: u32 = 10;
 
-const SLOT_IS_FREE: u32 = 10;
+const MOBILE_FILL_ON_SDCCH: [u8; BLOCK_OCTETS] = [
+    0x01, 0x03, 0x01, 0x2b, 0x2b, 0x2b, 0x2b, 0x2b, 0x2b, 0x2b, 0x2b, 0x2b, 0x2b, 0x2b, 0x2b, 0x2b,
+    0x2b, 0x2b, 0x2b, 0x2b, 0x2b, 0x2b, 0x2b,
+];
+
+const NETWORK_FILL_ON_SDCCH: [u8; BLOCK_OCTETS] = [
+    0x03, 0x03, 0x01, 0x2b, 0x2b, 0x2b, 0x2b, 0x2b, 0x2b, 0x2b, 0x2b, 0x2b, 0x2b, 0x2b, 0x2b, 0x2b,
+    0x2b, 0x2b, 0x2b, 0x2b, 0x2b, 0x2b, 0x2b,
+];
+
+const MOBILE_FILL_ON_SACCH: [u8; BLOCK_OCTETS] = [
+    0x00, 0x00, 0x01, 0x03, 0x01, 0x2b, 0x2b, 0x2b, 0x2b, 0x2b, 0x2b, 0x2b, 0x2b, 0x2b, 0x2b, 0x2b,
+    0x2b, 0x2b, 0x2b, 0x2b, 0x2b, 0x2b, 0x2b,
+];
+
+const NETWORK_FILL_ON_SACCH: [u8; BLOCK_OCTETS] = [
+    0x00, 0x00, 0x03, 0x03, 0x01, 0x2b, 0x2b, 0x2b, 0x2b, 0x2b, 0x2b, 0x2b, 0x2b, 0x2b, 0x2b, 0x2b,
+    0x2b, 0x2b, 0x2b, 0x2b, 0x2b, 0x2b, 0x2b,
+];
 
 /// The state of one link of a data link.
 #[repr(C)]
@@ -188,32 +196,12 @@ fn data_link_view_of(data_link: &CDataLink) -> Option<DataLinkView<'_>>
     })
 }
 
-/// Creates a placeholder, which is then overwritten with the state in the struct. It has the role and channel of the struct, if they are
-/// valid, so that nothing else is created.
-fn placeholder_for(data_link: &CDataLink) -> DataLink {
-    let end = &data_link.link0.end;
-    let role = match role_of(end.role) {
-        Some(role) => role,
-        None => Role::Mobile,
-    };
-    let channel = match channel_of(end.channel) {
-        Some(channel) => channel,
-        None => Channel::Sdcch,
-    };
-    DataLink::new_on(role, channel, Establishment::Contention, 1, 1)
-}
-
-/// Reads the state into `held` in place, and returns true if it represents a data link; otherwise returns false. Copies of a data link took
-/// two fifths of a call's time.
-fn read_data_link(data_link: &CDataLink, held: &mut DataLink) -> bool
-    ensures represents { IsTrue result → (s : DataLinkState) → RepresentsDataLink data_link.now s → Represents held.new s }
-    ensures valid { IsTrue result ↔ RepresentsSomeDataLink data_link.now }
-    ensures invalid { result ≡ false → RepresentsSomeDataLink data_link.now → ⊥ }
+/// Returns the data link that the struct represents, or `None` if it represents none.
+pub(crate) fn data_link_in(data_link: &CDataLink) -> Option<DataLink>
+    ensures { MatchOption result (RepresentsSomeDataLink data_link.now → ⊥) (IsRead data_link.now) }
 {
-    match data_link_view_of(data_link) {
-        Some(parts) => held.restore(&parts),
-        None => false,
-    }
+    let parts = data_link_view_of(data_link)?;
+    DataLink::from_parts(&parts)
 }
 
 fn write_link(parts: &LinkView<'_>, c_struct: &mut CTimedEnd)
@@ -237,7 +225,7 @@ fn write_link(parts: &LinkView<'_>, c_struct: &mut CTimedEnd)
     }
 }
 
-fn write_data_link(held: &DataLink, data_link: &mut CDataLink)
+pub(crate) fn write_data_link(held: &DataLink, data_link: &mut CDataLink)
     ensures { data_link.new ≡ c_data_link (data_link_values_of held.now) }
 {
     let parts = held.parts();
@@ -315,176 +303,10 @@ pub extern "C" fn um_datalink_new_for(
 pub extern "C" fn um_datalink_valid(data_link: &CDataLink) -> bool
     ensures { IsTrue result ↔ RepresentsSomeDataLink data_link.now }
 {
-    let mut held = placeholder_for(data_link);
-    read_data_link(data_link, &mut held)
-}
-
-/// Returns whether the link of this SAPI supports the call: only a mobile establishes a link with contention resolution, with information
-/// in its SABM; either side establishes one of normal establishment and that of SAPI 3, without information.
-fn link_supports_call(held: &DataLink, sapi: Sapi, call: &Call<'_>) -> bool
-    ensures exists { IsTrue result
-        → IsCallAllowedFor (data_link_role held.now) (link_sapi (link_of sapi held.now)) (endpoint_call_of call.now) }
-    ensures allowed { IsTrue result → (s : DataLinkState) → Represents held.now s
-        → IsCallAllowedForEndpoint (link_with_sapi sapi s).endpoint (endpoint_call_of call.now) }
-    ensures never { result ≡ false → (s : DataLinkState) → Represents held.now s
-        → IsCallAllowedForEndpoint (link_with_sapi sapi s).endpoint (endpoint_call_of call.now) → ⊥ }
-{
-    match *call {
-        Call::Open(_) => match (held.endpoint_sapi(sapi), held.role()) {
-            (Sapi::Zero, Role::Mobile) => true,
-            (Sapi::Zero, Role::Network) => false,
-            (Sapi::Three, _) => false,
-        },
-        Call::OpenBare => match held.endpoint_sapi(sapi) {
-            Sapi::Zero => false,
-            Sapi::Three => true,
-        },
-        Call::Send(_) => true,
-        Call::Unit(_) => true,
-        Call::Close => true,
-        Call::Timer => true,
-        Call::Idle => true,
+    match data_link_view_of(data_link) {
+        Some(parts) => parts.is_data_link(),
+        None => false,
     }
-}
-
-/// Carries out a call of layer 3 to the link of this SAPI. Returns 0, or an error number.
-fn call_data_link(data_link: &mut CDataLink, sapi: u8, call: &Call<'_>) -> u32
-    requires { IsLinkCall (endpoint_call_of call.now) }
-    ensures { DataLinkAnswersCall sapi (endpoint_call_of call.now) result data_link.old data_link.new }
-{
-    let mut held = placeholder_for(data_link);
-    if !read_data_link(data_link, &mut held) {
-        return INVALID_ENDPOINT;
-    }
-    let Some(sapi) = sapi_of(sapi) else {
-        return CALL_NOT_SUPPORTED;
-    };
-    if !link_supports_call(&held, sapi, call) {
-        return CALL_NOT_SUPPORTED;
-    }
-    match held.call(sapi, call) {
-        Err(refusal) => call_refusal_number(refusal),
-        Ok(()) => {
-            write_data_link(&held, data_link);
-            0
-        }
-    }
-}
-
-/// Begins to establish the link of SAPI 0, at the mobile, with this information in its SABM. Returns 0, or an error number.
-#[unsafe(no_mangle)]
-pub extern "C" fn um_datalink_open(data_link: &mut CDataLink, info: &MessageBuffer) -> u32
-    ensures { DataLinkAnswersCall 0 (Opens (octets_in_buffer info.now)) result data_link.old data_link.new }
-{
-    call_data_link(data_link, 0, &Call::Open(info.octets()))
-}
-
-/// Begins to establish the link of this SAPI without information. A link that is closed or open starts afresh first; that of SAPI 0 is one
-/// of normal establishment from then on. Returns 0, or an error number.
-#[unsafe(no_mangle)]
-pub extern "C" fn um_datalink_establish(data_link: &mut CDataLink, sapi: u8) -> u32
-    ensures { DataLinkEstablishes sapi result data_link.old data_link.new }
-{
-    let mut held = placeholder_for(data_link);
-    if !read_data_link(data_link, &mut held) {
-        return INVALID_ENDPOINT;
-    }
-    let Some(sapi) = sapi_of(sapi) else {
-        return CALL_NOT_SUPPORTED;
-    };
-    match held.establish(sapi) {
-        Err(refusal) => call_refusal_number(refusal),
-        Ok(()) => {
-            write_data_link(&held, data_link);
-            0
-        }
-    }
-}
-
-/// Begins to establish the link of SAPI 3. If it is closed or open, it starts afresh first. Returns 0, or an error number.
-#[unsafe(no_mangle)]
-pub extern "C" fn um_datalink_open_bare(data_link: &mut CDataLink) -> u32
-    ensures { DataLinkAnswersCall 3 OpensWithoutInfo result data_link.old data_link.new }
-{
-    call_data_link(data_link, 3, &Call::OpenBare)
-}
-
-/// Sends a message over the link of this SAPI in I frames, which the other side acknowledges. Returns 0, or an error number.
-#[unsafe(no_mangle)]
-pub extern "C" fn um_datalink_send(
-    data_link: &mut CDataLink,
-    sapi: u8,
-    message: &MessageBuffer,
-) -> u32
-    ensures { DataLinkAnswersCall sapi (Sends (octets_in_buffer message.now)) result data_link.old data_link.new }
-{
-    call_data_link(data_link, sapi, &Call::Send(message.octets()))
-}
-
-/// Writes the message with this index of those that the link of this SAPI was asked to send and that are not completely acknowledged,
-/// oldest first. Returns 0, 4 if there is none, or an error number.
-#[unsafe(no_mangle)]
-pub extern "C" fn um_datalink_unacked(
-    data_link: &CDataLink,
-    sapi: u8,
-    index: u8,
-    message: &mut MessageBuffer,
-) -> u32
-    ensures { DataLinkHasUnacked sapi index result data_link.now message.old message.new }
-{
-    let mut held = placeholder_for(data_link);
-    if !read_data_link(data_link, &mut held) {
-        return INVALID_ENDPOINT;
-    }
-    let Some(sapi) = sapi_of(sapi) else {
-        return CALL_NOT_SUPPORTED;
-    };
-    match held.unacked(sapi).get(usize::from(index)) {
-        None => NO_MESSAGE,
-        Some(unacked) => {
-            message.write(unacked.octets());
-            0
-        }
-    }
-}
-
-/// Begins to release the link of this SAPI. Unacknowledged messages are discarded. Returns 0, or an error number.
-#[unsafe(no_mangle)]
-pub extern "C" fn um_datalink_close(data_link: &mut CDataLink, sapi: u8) -> u32
-    ensures { DataLinkAnswersCall sapi Closes result data_link.old data_link.new }
-{
-    call_data_link(data_link, sapi, &Call::Close)
-}
-
-/// Local end release: the link of this SAPI starts afresh, and nothing is reported. Returns 0, or an error number.
-#[unsafe(no_mangle)]
-pub extern "C" fn um_datalink_close_local(data_link: &mut CDataLink, sapi: u8) -> u32
-    ensures { DataLinkChangesLink sapi afresh result data_link.old data_link.new }
-{
-    let mut held = placeholder_for(data_link);
-    if !read_data_link(data_link, &mut held) {
-        return INVALID_ENDPOINT;
-    }
-    let Some(sapi) = sapi_of(sapi) else {
-        return CALL_NOT_SUPPORTED;
-    };
-    held.restart(sapi);
-    write_data_link(&held, data_link);
-    0
-}
-
-/// At a mobile on SACCH, says whether the link of SAPI 0 on the main channel is established. Returns 0, or 7.
-#[unsafe(no_mangle)]
-pub extern "C" fn um_datalink_main(data_link: &mut CDataLink, established: bool) -> u32
-    ensures { DataLinkChanges (having_main established) result data_link.old data_link.new }
-{
-    let mut held = placeholder_for(data_link);
-    if !read_data_link(data_link, &mut held) {
-        return INVALID_ENDPOINT;
-    }
-    held.set_main_established(established);
-    write_data_link(&held, data_link);
-    0
 }
 
 /// Processes a received block. Returns 0, 7 if the struct represents no data link, or 9 if the block encodes no frame.
@@ -496,11 +318,10 @@ pub extern "C" fn um_datalink_take(
 ) -> u32
     ensures { DataLinkReceivesBlock octets.now result data_link.old data_link.new report.old report.new }
 {
-    let mut held = placeholder_link();
-    let Some(_) = read_links(data_link, &mut held) else {
+    let Some(seen) = look_ahead(data_link) else {
         return INVALID_ENDPOINT;
     };
-    let Ok(frame) = read_on(octets, held.channel()) else {
+    let Ok(frame) = read_on(octets, seen.channel) else {
         return INVALID_FRAME;
     };
     // Most blocks are fill frames, which change no link and report nothing: for them no effects are filled with zeros.
@@ -510,50 +331,31 @@ pub extern "C" fn um_datalink_take(
         return 0;
     }
     let mut effects = Effects::new();
-    let sapi = held.sapi_for(&frame, data_link.main != 0);
-    pass_frame(sapi, &frame, &mut held, &mut effects, data_link);
+    let sapi = seen.sapi_for(&frame);
+    pass_frame(sapi, &frame, &mut effects, data_link);
     hear(&frame, data_link);
     write_taken(sapi, effects.notices.as_slice(), report);
     0
 }
 
-/// Creates a placeholder, which is then overwritten with one link in the struct after the other: to fill two and to write both links back
-/// took half the time of `um_datalink_next`.
-fn placeholder_link() -> Link {
-    Link::new_on(Role::Mobile, Sapi::Zero, Channel::Sdcch, 1)
+/// Tests both links in the struct, and returns what the next slot and the next frame need to know, or `None` if it represents no data link.
+/// No link is restored: in most slots none acts.
+fn look_ahead(data_link: &CDataLink) -> Option<Outlook>
+    ensures { MatchOption result (RepresentsSomeDataLink data_link.now → ⊥) (IsSeen data_link.now) }
+{
+    let parts = data_link_view_of(data_link)?;
+    if !parts.is_data_link() {
+        return None;
+    }
+    Some(parts.outlook())
 }
 
-/// Reads a link that the struct represents into `held`.
-fn read_link(c_struct: &CTimedEnd, held: &mut Link)
-    ensures { (l : LinkState) → RepresentsLink c_struct.now l → L.Represents held.new l }
+/// Returns the link that the struct represents, or `None` if it represents none.
+fn link_in(c_struct: &CTimedEnd) -> Option<Link>
+    ensures { MatchOption result ((l : LinkState) → RepresentsLink c_struct.now l → ⊥) (IsLinkRead c_struct.now) }
 {
-    match link_view_of(c_struct) {
-        None => {}
-        Some(parts) => {
-            held.restore_any(&parts);
-        }
-    }
-}
-
-/// Reads the link of SAPI 3 and then that of SAPI 0 into `held`: one link is read over the other, so that only one has to be filled with
-/// zeros. Returns whether the first acts in the next slot if it has it, or `None` if the struct represents no data link.
-fn read_links(data_link: &CDataLink, held: &mut Link) -> Option<bool>
-    ensures { MatchOption result (RepresentsSomeDataLink data_link.now → ⊥) (AreRead data_link.now held.new) }
-{
-    let link0 = link_view_of(&data_link.link0)?;
-    let link3 = link_view_of(&data_link.link3)?;
-    if !are_of_one_data_link(&link0, &link3) {
-        return None;
-    }
-    if !held.restore_any(&link3) {
-        return None;
-    }
-    held.count_slot_unless(data_link.heard0 != 0);
-    let acts3 = held.acts_in_slot();
-    if !held.restore_any(&link0) {
-        return None;
-    }
-    Some(acts3)
+    let parts = link_view_of(c_struct)?;
+    Link::from_parts(&parts)
 }
 
 /// Keeps in mind whether a received frame took the slot of an answer on SAPI 3.
@@ -568,44 +370,35 @@ fn hear(frame: &FrameView<'_>, data_link: &mut CDataLink)
     data_link.main = u8::from(data_link.main != 0);
 }
 
-/// Passes a frame to the link with this SAPI, if any, and writes this link if the frame may change it; `held` is that of SAPI 0.
+/// Passes a frame to the link with this SAPI, if any, and writes this link if the frame may change it.
 fn pass_frame(
     sapi: Option<Sapi>,
     frame: &FrameView<'_>,
-    held: &mut Link,
     effects: &mut Effects,
     data_link: &mut CDataLink,
 )
     requires some { RepresentsSomeDataLink data_link.old }
-    requires link0 { (s : DataLinkState) → RepresentsDataLink data_link.old s → L.Represents held.old s.link0 }
-    requires fits { FrameFits (link_channel held.old) (frame_of_view frame.now) }
+    requires fits { (s : DataLinkState) → RepresentsDataLink data_link.old s
+        → FrameFits s.link0.endpoint.channel (frame_of_view frame.now) }
     ensures { (s : DataLinkState) → RepresentsDataLink data_link.old s
         → FrameIsPassed sapi (frame_of_view frame.now) s data_link.old data_link.new effects.new.notices }
 {
     match sapi {
         None => {}
-        Some(Sapi::Zero) => pass_frame_to(&mut data_link.link0, frame, held, effects),
-        Some(Sapi::Three) => {
-            read_link(&data_link.link3, held);
-            pass_frame_to(&mut data_link.link3, frame, held, effects);
-        }
+        Some(Sapi::Zero) => pass_frame_to(&mut data_link.link0, frame, effects),
+        Some(Sapi::Three) => pass_frame_to(&mut data_link.link3, frame, effects),
     }
 }
 
-/// Passes a frame to the link in the struct, which is also in `held`, and writes it, but for a UI frame, which changes no link.
-fn pass_frame_to(
-    c_struct: &mut CTimedEnd,
-    frame: &FrameView<'_>,
-    held: &mut Link,
-    effects: &mut Effects,
-)
-    requires { FrameFits (link_channel held.old) (frame_of_view frame.now) }
-    ensures represents { (l : LinkState) → RepresentsLink c_struct.old l → L.Represents held.old l
-        → RepresentsLink c_struct.new (after_received (frame_of_view frame.now) l) }
-    ensures written { IsLinkWritten (not (is_ui (frame_of_view frame.now).content)) c_struct.old c_struct.new }
-    ensures notices { (l : LinkState) → L.Represents held.old l
-        → effects.new.notices ≡ received_notices (frame_of_view frame.now) l }
+/// Passes a frame to the link in the struct, and writes it, but for a UI frame, which changes no link.
+fn pass_frame_to(c_struct: &mut CTimedEnd, frame: &FrameView<'_>, effects: &mut Effects)
+    requires { (l : LinkState) → RepresentsLink c_struct.old l → FrameFits l.endpoint.channel (frame_of_view frame.now) }
+    ensures { (l : LinkState) → RepresentsLink c_struct.old l
+        → LinkTakesFrame (frame_of_view frame.now) l c_struct.old c_struct.new effects.new.notices }
 {
+    let Some(mut held) = link_in(c_struct) else {
+        return;
+    };
     held.receive(frame, effects);
     if is_ui(&frame.body) {
         return;
@@ -671,7 +464,11 @@ fn sapis_of(sapi: Sapi, count: usize) -> [u8; 3]
 }
 
 /// Returns the block with these layer 1 octets, which a block of SACCH alone has.
-fn with_layer1(channel: Channel, layer1: &[u8; 2], block: [u8; BLOCK_OCTETS]) -> [u8; BLOCK_OCTETS]
+pub(crate) fn with_layer1(
+    channel: Channel,
+    layer1: &[u8; 2],
+    block: [u8; BLOCK_OCTETS],
+) -> [u8; BLOCK_OCTETS]
     ensures { result ≡ with_layer1 channel layer1.now block }
 {
     match channel {
@@ -681,33 +478,6 @@ fn with_layer1(channel: Channel, layer1: &[u8; 2], block: [u8; BLOCK_OCTETS]) ->
             with[0] = layer1[0];
             with[1] = layer1[1];
             with
-        }
-    }
-}
-
-/// Encodes a UI frame, for a slot that is free. UI frames are not queued, so they delay nothing. Returns 0, or an error number.
-#[unsafe(no_mangle)]
-pub extern "C" fn um_datalink_unit(
-    data_link: &CDataLink,
-    sapi: u8,
-    message: &MessageBuffer,
-    layer1: &[u8; 2],
-    block: &mut [u8; BLOCK_OCTETS],
-) -> u32
-    ensures { DataLinkEncodesUnit sapi (octets_in_buffer message.now) layer1.now result data_link.now block.old block.new }
-{
-    let mut held = placeholder_for(data_link);
-    if !read_data_link(data_link, &mut held) {
-        return INVALID_ENDPOINT;
-    }
-    let Some(sapi) = sapi_of(sapi) else {
-        return CALL_NOT_SUPPORTED;
-    };
-    match held.unit(sapi, message.octets()) {
-        Err(refusal) => call_refusal_number(refusal),
-        Ok(written) => {
-            *block = with_layer1(held.channel(), layer1, written);
-            0
         }
     }
 }
@@ -722,17 +492,13 @@ pub extern "C" fn um_datalink_next(
 ) -> u32
     ensures { DataLinkFillsSlot layer1.now result data_link.old data_link.new block.old block.new report.old report.new }
 {
-    let mut held = placeholder_link();
-    let Some(acts3) = read_links(data_link, &mut held) else {
+    let Some(seen) = look_ahead(data_link) else {
         return INVALID_ENDPOINT;
     };
-    let role = held.role();
-    let channel = held.channel();
     count_slot(data_link);
-    held.count_slot_unless(false);
-    let slot = fill_slot(acts3, &mut held, data_link);
-    let written = slot_block(slot.block, role, channel);
-    *block = with_layer1(channel, layer1, written);
+    let slot = fill_slot(&seen, data_link);
+    let written = slot_block(slot.block, seen.role, seen.channel);
+    *block = with_layer1(seen.channel, layer1, written);
     write_given_up(&slot, report);
     slot_answer(slot.block)
 }
@@ -759,63 +525,46 @@ fn count_slot(data_link: &mut CDataLink)
     data_link.main = u8::from(data_link.main != 0);
 }
 
-/// Returns what the link in the struct, which is also in `held`, does in a slot, and writes it if it acts.
-fn use_slot(held: &mut Link, c_struct: &mut CTimedEnd) -> LinkSlot
-    ensures represents { (l : LinkState) → RepresentsLink c_struct.old l → L.Represents held.old l
-        → RepresentsLink c_struct.new (slot_outcome l).link }
-    ensures written { (l : LinkState) → L.Represents held.old l → IsLinkWritten (acts_in_slot l) c_struct.old c_struct.new }
-    ensures block { (l : LinkState) → L.Represents held.old l
-        → result.block ≡ option_map (octets_of l.endpoint.channel) (slot_outcome l).frame }
-    ensures gave_up { (l : LinkState) → L.Represents held.old l → notices_if result.gave_up ≡ (slot_outcome l).notices }
+/// Returns what the link in the struct does in a slot that it has, and writes it if it acts.
+fn use_slot(acts: bool, c_struct: &mut CTimedEnd) -> LinkSlot
+    ensures { (l : LinkState) → RepresentsLink c_struct.old l → acts ≡ acts_in_slot l
+        → LinkUsesSlot l result c_struct.old c_struct.new }
 {
-    if !held.acts_in_slot() {
-        return LinkSlot {
-            block: None,
-            gave_up: false,
-        };
+    if !acts {
+        return idle_slot();
     }
+    let Some(mut held) = link_in(c_struct) else {
+        return idle_slot();
+    };
     let slot = held.slot();
     write_link(&held.parts(), c_struct);
     slot
 }
 
-/// Returns what the link of SAPI 3 does in a slot that it has, and writes it if it acts.
-fn use_slot_of_sapi3(acts3: bool, held: &mut Link, c_struct: &mut CTimedEnd) -> LinkSlot
-    ensures represents { (l : LinkState) → RepresentsLink c_struct.old l → acts3 ≡ acts_in_slot l
-        → RepresentsLink c_struct.new (slot_outcome l).link }
-    ensures written { (l : LinkState) → RepresentsLink c_struct.old l → acts3 ≡ acts_in_slot l
-        → IsLinkWritten (acts_in_slot l) c_struct.old c_struct.new }
-    ensures block { (l : LinkState) → RepresentsLink c_struct.old l → acts3 ≡ acts_in_slot l
-        → result.block ≡ option_map (octets_of l.endpoint.channel) (slot_outcome l).frame }
-    ensures gave_up { (l : LinkState) → RepresentsLink c_struct.old l → acts3 ≡ acts_in_slot l
-        → notices_if result.gave_up ≡ (slot_outcome l).notices }
+fn idle_slot() -> LinkSlot
+    ensures { result ≡ record { block = None; gave_up = false } }
 {
-    if !acts3 {
-        return LinkSlot {
-            block: None,
-            gave_up: false,
-        };
+    LinkSlot {
+        block: None,
+        gave_up: false,
     }
-    read_link(c_struct, held);
-    use_slot(held, c_struct)
 }
 
-/// Returns what the data link, whose clocks were moved, does in a slot, and writes each link that acts; `held` is that of SAPI 0.
-fn fill_slot(acts3: bool, held: &mut Link, data_link: &mut CDataLink) -> Slot
-    ensures { (s : DataLinkState) → RepresentsDataLink data_link.old s → L.Represents held.old s.link0
-        → acts3 ≡ acts_in_slot s.link3 → SlotIsFilled s result data_link.old data_link.new }
+/// Returns what the data link, whose clocks were moved, does in a slot, and writes each link that acts: SAPI 0 goes first, and SAPI 3 has
+/// the slot if SAPI 0 sends nothing.
+fn fill_slot(seen: &Outlook, data_link: &mut CDataLink) -> Slot
+    ensures { (s : DataLinkState) → RepresentsDataLink data_link.old (with_clocks_moved s) → IsOutlook seen.now s
+        → SlotIsFilled (with_clocks_moved s) result data_link.old data_link.new }
 {
-    let endpoint_sapi = held.endpoint_sapi();
-    let channel = held.channel();
-    let slot0 = use_slot(held, &mut data_link.link0);
+    let slot0 = use_slot(seen.acts0, &mut data_link.link0);
     if let Some(_) = slot0.block {
         return Slot {
-            block: any_on_sapi0(endpoint_sapi, channel, slot0.block),
+            block: any_on_sapi0(seen.endpoint_sapi, seen.channel, slot0.block),
             gave_up0: slot0.gave_up,
             gave_up3: false,
         };
     }
-    let slot3 = use_slot_of_sapi3(acts3, held, &mut data_link.link3);
+    let slot3 = use_slot(seen.acts3, &mut data_link.link3);
     Slot {
         block: slot3.block,
         gave_up0: slot0.gave_up,
@@ -828,10 +577,19 @@ fn slot_block(block: Option<[u8; BLOCK_OCTETS]>, role: Role, channel: Channel) -
 {
     match block {
         Some(block) => block,
-        None => match role {
-            Role::Mobile => fill_on(false, channel),
-            Role::Network => fill_on(true, channel),
-        },
+        None => fill_block(role, channel),
+    }
+}
+
+/// Returns the fill frame of this side, which most slots send: it is not encoded anew.
+fn fill_block(role: Role, channel: Channel) -> [u8; BLOCK_OCTETS]
+    ensures { result ≡ octets_of channel (fill_frame (command_cr (spec_role_of role))) }
+{
+    match (role, channel) {
+        (Role::Mobile, Channel::Sdcch) => MOBILE_FILL_ON_SDCCH,
+        (Role::Network, Channel::Sdcch) => NETWORK_FILL_ON_SDCCH,
+        (Role::Mobile, Channel::Sacch) => MOBILE_FILL_ON_SACCH,
+        (Role::Network, Channel::Sacch) => NETWORK_FILL_ON_SACCH,
     }
 }
 

@@ -19,7 +19,7 @@ use crate::traffic::TrafficBlock;
 use crate::traffic_places::CTrafficPlace;
 use lapdm_end::MessageBuffer;
 use um_slot::{FrameTime, Slot};
-use um_traffic::Traffic;
+use um_traffic::{Traffic, TrafficSender};
 
 const CHECK_BLOCK_REPORT_SIZE: [u8; 268] = [0; size_of::<BlockReport>()];
 
@@ -68,3 +68,5 @@ const CHECK_TRAFFIC_SIZE: [u8; 1808] = [0; size_of::<Traffic>()];
 const CHECK_TRAFFIC_BLOCK_SIZE: [u8; 892] = [0; size_of::<TrafficBlock>()];
 
 const CHECK_FACCH_ERASURE_SIZE: [u8; 9] = [0; size_of::<FacchErasure>()];
+
+const CHECK_TRAFFIC_SENDER_SIZE: [u8; 1788] = [0; size_of::<TrafficSender>()];

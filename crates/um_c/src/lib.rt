@@ -6,9 +6,11 @@
 //! An answer is a number of 32 bits, below 256, so that a caller reads it right whether it takes an enum to have one octet or four.
 #![tactic(auto)]
 
+mod answers;
 mod blocks;
 mod bursts;
 mod ciphers;
+mod datalink_calls;
 mod datalinks;
 mod effects;
 mod ends;
@@ -30,6 +32,7 @@ mod states;
 mod times;
 mod traffic;
 mod traffic_places;
+mod traffic_senders;
 mod version;
 
 pub use datalinks::{

@@ -93,10 +93,11 @@ ones_are_right = subst IsXcchCodeword crc_of_zeros (xcch_crc_word (replicate 184
 
 no_codeword : IsXcchCodeword (replicate 224 0) → ⊥
 no_codeword word =
-    let same = one_xcch_crc (replicate 184 0) (replicate 40 0) (replicate 40 1) refl word ones_are_right in absurd (cc same)
+    let same = one_xcch_crc (replicate 184 0) (replicate 40 0) (replicate 40 1) refl word ones_are_right in
+    absurd (cc same)
 
-accepted_against_its_crc : (bursts : List (List ℤ)) (octets : List ℕ) (r : Received) → r.u ≡ replicate 228 0 → r.accepted ≡ Some octets →
-    IsMostLikelyWord bursts r → ⊥
+accepted_against_its_crc : (bursts : List (List ℤ)) (octets : List ℕ) (r : Received) → r.u ≡ replicate 228 0 →
+    r.accepted ≡ Some octets → IsMostLikelyWord bursts r → ⊥
 accepted_against_its_crc bursts octets r is some h =
     no_codeword (rw (is, some) at h.accepted).0
 

@@ -25,7 +25,8 @@ use um_show::Show;
 ///
 /// The rules that the clauses `run` and `due` name are functions. What they give is said by these laws and clauses:
 /// - of all commands, `law_more_octets_continue_response` of `um_driver`;
-/// - of lines, `law_parsed_line_is_its_meaning_or_fault` of `um_lines` and `law_read_lines_are_meanings_or_faults` of `um_formats`;
+/// - of lines, `law_parsed_line_is_its_meaning_or_fault` of `um_lines`, `law_read_lines_are_meanings_or_faults` and
+///   `law_lines_with_a_form_are_not_skipped` of `um_formats`;
 /// - of `replay`, `law_replay_reports_what_was_received` of `um_replay`, `law_computed_reports_are_those_of_reception` of `um_block`,
 ///   `law_decoded_words_are_most_likely`, and with `code` `law_replay_recovers_code_input`; of `code`, the clauses `sent`, `value` and
 ///   `only` of the calls of `um_block` that send;
@@ -34,7 +35,8 @@ use um_show::Show;
 ///   `law_repair_result_is_correct` of `um_repair`;
 /// - of `link`, `law_link_answers_are_air_steps` of `um_link_command`, `law_event_answer_is_air_step` of `um_air`, and
 ///   `law_every_session_delivers`; of `make`, `law_generated_answers_are_a_session` of `um_make`;
-/// - of `end`, `law_end_command_lines_are_terminal_steps` and `law_received_bursts_are_computed` of `um_end`.
+/// - of `end`, `law_end_command_lines_are_terminal_steps`, `law_end_command_line_has_one_answer` and `law_received_bursts_are_computed` of
+///   `um_end`.
 pub fn run<S: Source, K: Sink, R: Radio>(
     alloc: Global,
     words: &Words,

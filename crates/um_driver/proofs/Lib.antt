@@ -3,3 +3,4 @@ pub mod Outputs
 mod Reading
 pub mod Runs
 pub mod WholeInputs
+mod Worked

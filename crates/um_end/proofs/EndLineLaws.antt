@@ -13,7 +13,7 @@ use Rattle.{
     declared.lines.EndCommandLine.EndCommandLine,
   },
   um_formats.{
-    proofs.BurstLines.{AreSoft, hard, lost, soft},
+    proofs.BurstLines.{AreSoft, hard, lost, skipped_only, soft},
     specs.{BurstLines.{burst_line_of_meaning, burst_parse_result}, declared.burst_lines.BurstLine.BurstLine},
   },
   um_lines.{
@@ -22,7 +22,7 @@ use Rattle.{
       BurstForms.{BurstLineKind, block_burst_line_forms, burst_line_forms, is_burst_out_of_order, is_single_burst, single_burst_line_forms},
       Fields.LineField,
       Forms.{LineForms, LineForm, fields_for_word_count, first_field_fault, first_word_fault, form_of_words, meaning_of_words},
-      Forms.{never_misplaced, words_fit_form, fault_or_value},
+      Forms.{LineMeans, never_misplaced, words_fit_form, fault_or_value},
       LinkForms.{EndCommandLineKind, LinkLineKind, end_command_line_forms, is_end_command_line_out_of_order, link_line_forms},
       LinkForms.{mobile_call_line_forms, network_call_line_forms},
       Meanings.HasOneMeaningOrFault,
@@ -312,6 +312,10 @@ line-possible Network held line meaning means =
     & (λ count values here (m, rest, is, known, none). rw is (refl, known.2)) & (λ count values here none. (refl, tt))
     & (λ count values here none. (refl, tt)) & (λ count values here none. (refl, tt)) & tt) line meaning means
 
+pub call_of_line : (role : Role) (held : ℕ) (line : List ℕ) (event : Event) → EndCommandLineMeans role held line (Calls event) →
+    IsCallOfRole role event
+call_of_line role held line event means = (line-possible role held line (Calls event) means).0
+
 pub burst_of_line : (role : Role) (held : ℕ) (line : List ℕ) (soft : List ℤ) →
     end_command_line role held line ≡ Ok (TakesBurst soft) →
     length soft ≡ 148
@@ -325,6 +329,24 @@ pub line_is_possible : (role : Role) (held : ℕ) (line : List ℕ) (read : EndC
 line_is_possible role held line V.Skip means = tt
 line_is_possible role held line (V.Burst soft) means = (line-possible role held line (TakesBurst soft) means).1
 line_is_possible role held line (V.Ask event) means = (line-possible role held line (Calls (spec_event_of event)) means).0
+
+-- a line with a form is not read as a skipped line
+pub skipped_end_line : (role : Role) (held : ℕ) (line : List ℕ) → EndCommandLineMeans role held line Nothing →
+    LineMeans (end_command_line_forms (call_line_forms role)) (is_end_command_line_out_of_order held) line None
+skipped_end_line Mobile held =
+    skipped_only (end_command_line_forms mobile_call_line_forms) (is_end_command_line_out_of_order held)
+    meaning_of_end_command_line Nothing
+    ((λ _ _ _ (bits, _, is, _, none). rw (is, none) (λ q. cc)) & (λ _ _ _ (octets, _, is, _, none). rw (is, none) (λ q. cc))
+    & (λ _ _ _ none. rw none (λ q. cc))
+    & (λ _ _ _ _ q. cc) & (λ _ _ _ _ q. cc) & (λ _ _ _ _ q. cc) & (λ _ _ _ _ q. cc) & (λ _ _ _ _ q. cc) & (λ _ _ _ _ q. cc)
+    & (λ _ _ _ _ q. cc) & (λ _ _ _ _ q. cc) & (λ _ _ _ _ q. cc) & (λ _ _ _ _ q. cc) & (λ _ _ _ _ q. cc) & tt)
+skipped_end_line Network held =
+    skipped_only (end_command_line_forms network_call_line_forms) (is_end_command_line_out_of_order held)
+    meaning_of_end_command_line Nothing
+    ((λ _ _ _ (bits, _, is, _, none). rw (is, none) (λ q. cc)) & (λ _ _ _ (octets, _, is, _, none). rw (is, none) (λ q. cc))
+    & (λ _ _ _ none. rw none (λ q. cc))
+    & (λ _ _ _ _ q. cc) & (λ _ _ _ _ q. cc) & (λ _ _ _ _ q. cc) & (λ _ _ _ _ q. cc) & (λ _ _ _ _ q. cc) & (λ _ _ _ _ q. cc)
+    & (λ _ _ _ _ q. cc) & (λ _ _ _ _ q. cc) & (λ _ _ _ _ q. cc) & (λ _ _ _ _ q. cc) & tt)
 
 -- what holds of the result for a line that is not skipped
 pub end_parsed : (role : Role) (held : ℕ) (line : List ℕ) (result : Result EndCommandLine LineFault) →

@@ -285,7 +285,7 @@ Invariant-start role tsc known = record {
   each = All-nil Whole;
 }
 
-links_after : (role : Role) (links : SideState) (es : BothSides) → side_with_role role (with_side_replaced role links es) ≡ links
+pub links_after : (role : Role) (links : SideState) (es : BothSides) → side_with_role role (with_side_replaced role links es) ≡ links
 links_after role links es = grind arith
 
 -- the answer to a line with this meaning keeps the invariant, the role and the training sequence; it is a step of two terminals, or changes

@@ -6,7 +6,7 @@ use Rattle.{
     lapdm_frame.{Content.{Content, Frame, I, Sabm, Ui}, declared.Channel.TheVariants.Sdcch},
     lapdm_link.{
       Events.{Accepts, BySide, Deliver, Open},
-      Worlds.{ArrivingFrameFits, IsBenignExceptRrForRej, SentFramesFit, initial_session},
+      Worlds.{ArrivingFrameFits, IsBenignExceptReplaced, SentFramesFit, as_sent, dm_for_any, initial_session, rr_for_rej, without_ack},
     },
     lapdm_window.{
       Ends.{Mobile, Network, initial_endpoint},
@@ -49,9 +49,11 @@ content_of f = f.content
 no_sabm : Ui false [] ≡ Sabm true (1 ∷ []) → ⊥
 no_sabm same = absurd (cc same)
 
-not_sent_is_not_benign : IsBenignExceptRrForRej (Open (1 ∷ []) ∷ Deliver Mobile (Some short) ∷ []) (initial_session Sdcch) → ⊥
-not_sent_is_not_benign (opens, (inl same, rest)) = no_sabm (ap content_of same)
-not_sent_is_not_benign (opens, (inr same, rest)) = no_sabm (ap content_of same)
+not_sent_is_not_benign : IsBenignExceptReplaced (Open (1 ∷ []) ∷ Deliver Mobile (Some short) ∷ []) (initial_session Sdcch) → ⊥
+not_sent_is_not_benign (opens, (as_sent same, rest)) = no_sabm (ap content_of same)
+not_sent_is_not_benign (opens, (rr_for_rej same, rest)) = no_sabm (ap content_of same)
+not_sent_is_not_benign (opens, (dm_for_any sapi content, rest)) = absurd (cc content)
+not_sent_is_not_benign (opens, (without_ack sapi on same, rest)) = no_sabm (ap content_of same)
 
 other_sapi : IsSameEndpoint (initial_endpoint Mobile Zero Sdcch) (initial_endpoint Mobile Three Sdcch) → ⊥
 other_sapi same = absurd (cc same.sapi)

@@ -12,8 +12,8 @@ IsCallEvent (Lose sender) = ⊥
 IsCallEvent (Rival info) = ⊥
 IsCallEvent event = Unit {0}
 
--- the SAPI of the endpoint that the event calls. A terminal is asked for calls alone (`IsCallEvent`); what the other three events have in
--- their place is never used
+-- the SAPI of the endpoint that the event calls. A terminal is asked for calls alone (`IsCallEvent`, and for the lines of `end`
+-- `law_end_line_is_not_skipped`); what the other three events have in their place is never used
 abbrev pub sapi_of_call_event : Event → Sapi
 sapi_of_call_event (Open info) = Zero
 sapi_of_call_event (OpenBare role) = Three

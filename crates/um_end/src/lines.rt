@@ -2,14 +2,19 @@
 //!
 //! A line that begins with the name of an endpoint of this side is parsed as a script line, any other line as a burst line. This module
 //! also refuses lines of other forms, and calls inside a block.
-ghost use Rattle.std.specs.Prelude.{◌≡◌, ◌≤◌, ℕ, List, true, false, Some, length, IfOk};
+ghost use Rattle.std.specs.Prelude.{◌≡◌, ◌≤◌, ℕ, List, true, false, None, Some, length, IfOk};
 ghost use Rattle.std.specs.Result.{result_err};
 ghost use Rattle.um_lines.specs.Words.{words};
+ghost use Rattle.um_lines.specs.Forms.{LineMeans};
+ghost use Rattle.um_lines.specs.LinkForms.{end_command_line_forms, is_end_command_line_out_of_order};
 ghost use Rattle.um_lines.specs.Meanings.{HasOneMeaningOrFault};
 ghost use Rattle.um_link.specs.lapdm_window.Ends.{Role};
 ghost use Rattle.um_link.specs.Naming.{spec_role_of};
+ghost use Rattle.um_link.specs.um_air.Air.{Event as EventOf};
 ghost use Rattle.um_end.specs.EndLines.{end_command_line_fault, EndCommandLineMeans, meaning_of_parsed_line, TerminalCanCarryOutLine};
-ghost use Rattle.um_end.specs.EndLines.{names_endpoint_of_side};
+ghost use Rattle.um_end.specs.EndLines.{call_line_forms, names_endpoint_of_side};
+ghost use Rattle.um_end.specs.EndLines.{Calls as CallsEvent, Nothing as NoLine};
+ghost use Rattle.um_end.specs.Terminals.{IsCallOfRole};
 ghost use Rattle.um_end.specs.EndLines.{meaning_of_burst_line, meaning_of_parse_result, end_parse_result};
 ghost use Rattle.um_end.specs.EndLines.{call_line_fault_inside_block, burst_line_fault_in_end_command};
 
@@ -141,4 +146,13 @@ fn end_command_fault_of_burst_line(fault: LineFault) -> LineFault
 pub fn law_end_line_meaning_is_unique()
     ensures { (role : Role) (held : ℕ) (line : List ℕ) →
         HasOneMeaningOrFault (end_command_line_fault role held line) (EndCommandLineMeans role held line) }
+{}
+
+/// Law: a line of the `end` command that has a form is not read as a skipped line, and a call is one that this side supports: an arrival,
+/// a loss or the SABM of another mobile is none.
+pub fn law_end_line_is_not_skipped()
+    ensures skipped { (role : Role) (held : ℕ) (line : List ℕ) → EndCommandLineMeans role held line NoLine
+        → LineMeans (end_command_line_forms (call_line_forms role)) (is_end_command_line_out_of_order held) line None }
+    ensures calls { (role : Role) (held : ℕ) (line : List ℕ) (event : EventOf) → EndCommandLineMeans role held line (CallsEvent event)
+        → IsCallOfRole role event }
 {}

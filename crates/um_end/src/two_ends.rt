@@ -7,7 +7,7 @@ ghost use Rattle.um_link.specs.um_air.Air.{Step};
 ghost use Rattle.um_end.specs.Terminals.{SideState, ReceivesBursts, answer_to_block};
 ghost use Rattle.um_end.specs.TwoTerminals.{TerminalStep, idle_terminals, AreStepsFrom, DeliversOldestBlock, AnyStepAllowed, session_log};
 ghost use Rattle.um_end.specs.EndRuns.{EndCommandState, end_command_rules, initial_end_command_state};
-ghost use Rattle.um_end.specs.EndTurns.{AnswersLinesBySteps};
+ghost use Rattle.um_end.specs.EndTurns.{AnswersLineByStep, AnswersLinesBySteps};
 
 /// If the bursts of each block reach the other side in order and with at most light damage, or are lost as a whole, messages are delivered
 /// in order and before they are acknowledged (`Claims`), and no endpoint has more messages acknowledged than its peer has delivered.
@@ -29,6 +29,12 @@ pub fn law_end_command_lines_are_terminal_steps()
     ensures { (role : Role) (tsc : ℕ) (lines texts : List (List ℕ)) (after : EndCommandState) → tsc ≤ 7 →
         Runs end_command_rules (initial_end_command_state role tsc) lines texts after →
         AnswersLinesBySteps (initial_end_command_state role tsc) lines texts after }
+{}
+
+/// Law: two texts that answer the same line in the same state, as `law_end_command_lines_are_terminal_steps` says, are equal.
+pub fn law_end_command_line_has_one_answer()
+    ensures { (s : EndCommandState) (line x y : List ℕ) (after other : EndCommandState) → AnswersLineByStep s line x after →
+        AnswersLineByStep s line y other → x ≡ y }
 {}
 
 /// Law: what a terminal does with four bursts is what `answer_to_block` computes: they are received as a block, and a frame that the

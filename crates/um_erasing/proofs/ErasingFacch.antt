@@ -1,7 +1,7 @@
 -- The report on a block of FACCH is unique.
 use Rattle.{
   std.{
-    proofs.Common.{arith, List, None, Option, ap, map, set, subst, suc, sym, take, zero, ℕ, ℤ, ◌++◌, ◌+◌, ◌-◌},
+    proofs.Common.{List, None, Option, ap, map, set, subst, sym, take, ℕ, ℤ, ◌++◌, ◌+◌, ◌-◌},
     proofs.{Common.{◌<◌, ◌∙◌, ◌≡◌, ◌≤◌, length}, Math.Seq.{take-append_seam, take-set-lt}},
     specs.Prelude.IsSome,
   },
@@ -9,7 +9,7 @@ use Rattle.{
   um_erasing.{
     proofs.Lemmas.{chosen_first, chosen_found, one_choice},
     specs.{
-      Erasing.{IsErasingSearch, IsFoundOrFirst, greater_of, index_of_greatest},
+      Erasing.{IsErasingSearch, IsFoundOrFirst},
       ErasingFacch.IsErasingDecodedFacch,
       declared.{blocks.ErasedBlock.ErasedBlock, facch.ErasingDecodedFacch.ErasingDecodedFacch},
     },
@@ -22,16 +22,6 @@ use Rattle.{
 }
 
 -- ## The index of the greatest
-
-pub index_of_greatest-within : (last : ℕ) (numbers : List ℕ) → index_of_greatest last numbers ≤ last
-index_of_greatest-within zero numbers = omega arith
-index_of_greatest-within (suc n) numbers = let before = index_of_greatest-within n numbers in grind (arith, before)
-
-pub next_greatest : (index last : ℕ) (numbers : List ℕ) → 1 ≤ index → last ≡ index - 1 →
-    greater_of numbers (index_of_greatest last numbers) index ≡ index_of_greatest index numbers
-next_greatest zero last numbers some is = absurd (omega arith)
-next_greatest (suc n) last numbers some is =
-    let same : last ≡ n = omega (arith, is) in ap (λ k. greater_of numbers (index_of_greatest k numbers) (suc n)) same
 
 -- ## The bursts without one of them, in the first rows of eight
 

@@ -1,8 +1,8 @@
 -- The report is unique; without erasures it is that of the list decoder.
 use Rattle.{
-  std.proofs.Common.{arith, List, None, Option, Some, ap, map, refl, set, subst, suc, sym, zero, ℕ, ℤ, ◌+◌, ◌-◌, ◌<◌},
+  std.proofs.Common.{arith, List, None, Option, Some, ap, map, refl, set, subst, suc, sym, zero, ℕ, ℤ, ◌+◌, ◌-◌},
   std.proofs.Common.{◌∙◌},
-  std.{proofs.Common.{◌≡◌, ◌≢◌, ◌≤◌, get_or}, specs.Prelude.{IsSome, MatchOption}},
+  std.{proofs.Common.{◌≡◌, ◌≢◌, ◌≤◌}, specs.Prelude.{IsSome, MatchOption}},
   um_list_receive.specs.{declared.reports.ListDecodedBlock.ListDecodedBlock, ListDecoding.{IsBlockChoice, IsListDecodedBlock}},
   um_list_receive.proofs.Lemmas.{block_at_once, one_block_among},
   um_block.specs.{bit_blocks.SoftValues.likelihood, conv_code.Code.encoding, declared.received.Received.Received},
@@ -123,14 +123,6 @@ module _ (last : ℕ) (IsDecoded : List (List ℤ) → ListDecodedBlock → Type
         one_of erasures first' distrust' first'.report.accepted block block' erased erased'
         (subst (λ d. IsErasingChoice last IsDecoded bursts erasures distrust' d block erased) same
         (subst (λ w. IsErasingChoice last IsDecoded bursts erasures w first block erased) weighed h)) g
-
--- the index of the greatest is of a burst that there is, where the others have no distrust
-pub index_of_greatest-below : (last count : ℕ) (numbers : List ℕ) → 1 ≤ count →
-    ((k : ℕ) → count ≤ k → get_or numbers k 0 ≡ 0) → index_of_greatest last numbers < count
-index_of_greatest-below zero count numbers some none = omega arith
-index_of_greatest-below (suc n) count numbers some none =
-    let before = index_of_greatest-below n count numbers some none in
-    grind (arith, before, none (suc n))
 
 -- ## Of the four bursts of a block
 

@@ -20,17 +20,6 @@ All-before P xs ys h = rw (take_at xs ys (length xs) refl) at (All-take P (lengt
 All-behind : {A : Type 0} (P : A → Type 0) (xs ys : List A) → All P (xs ++ ys) → All P ys
 All-behind P xs ys h = rw (drop_at xs ys (length xs) refl) at (All-drop P (length xs) (xs ++ ys) h)
 
-no_feed : (u v t : List ℕ) → IsLine u → u ≡ v ++ 10 ∷ t → ⊥
-no_feed u v t h e = All-head IsNotLineFeed 10 t (All-behind IsNotLineFeed v (10 ∷ t) (rw e at h)) refl
-
-same_line : (u x v y : List ℕ) → IsLine u → IsLine v → u ++ 10 ∷ x ≡ v ++ 10 ∷ y → (u ≡ v) × (x ≡ y)
-same_line [] x [] y hu hv e = (refl, cc e)
-same_line [] x (p ∷ v) y hu hv e = absurd (All-head IsNotLineFeed p v hv (cc e))
-same_line (o ∷ u) x [] y hu hv e = absurd (All-head IsNotLineFeed o u hu (cc e))
-same_line (o ∷ u) x (p ∷ v) y hu hv e =
-    let rest = same_line u x v y (All-tail IsNotLineFeed o u hu) (All-tail IsNotLineFeed p v hv) (cc e) in
-    (cc e, rest.1)
-
 pub text-cons : (line : List ℕ) (lines : List (List ℕ)) (rest : List ℕ) →
     text_of_lines (line ∷ lines) ++ rest ≡ line ++ 10 ∷ (text_of_lines lines ++ rest)
 text-cons line lines rest = append_assoc line (10 ∷ text_of_lines lines) rest
@@ -39,17 +28,6 @@ pub text-append : (ls ms : List (List ℕ)) (rest : List ℕ) →
     text_of_lines (ls ++ ms) ++ rest ≡ text_of_lines ls ++ (text_of_lines ms ++ rest)
 text-append [] ms rest = refl
 text-append (l ∷ ls) ms rest = simp (append_assoc, text-append ls ms rest)
-
-pub one_division : (ls ls' : List (List ℕ)) (u v : List ℕ) → All IsLine ls → All IsLine ls' → IsLine u → IsLine v →
-    text_of_lines ls ++ u ≡ text_of_lines ls' ++ v → (ls ≡ ls') × (u ≡ v)
-one_division [] [] u v h h' hu hv e = (refl, e)
-one_division [] (l ∷ ls) u v h h' hu hv e = absurd (no_feed u l _ hu (e ∙ text-cons l ls v))
-one_division (l ∷ ls) [] u v h h' hu hv e = absurd (no_feed v l _ hv (sym e ∙ text-cons l ls u))
-one_division (l ∷ ls) (l' ∷ ls') u v h h' hu hv e =
-    let (first, rest) = same_line l (text_of_lines ls ++ u) l' (text_of_lines ls' ++ v) (All-head IsLine l ls h) (All-head IsLine l' ls' h')
-    (sym (text-cons l ls u) ∙ e ∙ text-cons l' ls' v) in
-    let (lines, last) = one_division ls ls' u v (All-tail IsLine l ls h) (All-tail IsLine l' ls' h') hu hv rest in
-    (cc (first, lines), last)
 
 pub text-push : (ls : List (List ℕ)) (l u : List ℕ) → text_of_lines (ls ++ l ∷ []) ++ u ≡ text_of_lines ls ++ (l ++ 10 ∷ u)
 text-push ls l u = rw (text-append, append_assoc)

@@ -1,7 +1,7 @@
 -- The lines of `repair`, and the result of a repair.
 use Rattle.{
   fire_repair.{proofs.RepairResults.one_answer, specs.{Answers.IsRepairResult, declared.repairs.RepairAnswer.RepairAnswer}},
-  std.proofs.{Common.{Err, Ok, Result}, Math.Logic.◌↔◌},
+  std.proofs.{Common.{Err, None, Ok, Option, Result, Some, ◌≢◌}, Math.Logic.◌↔◌},
   std.proofs.Common.{List, [], ap, arith, drop, length-append, length, refl, sym, ℕ, ◌++◌, ◌∙◌, ◌≡◌},
   std.proofs.lemmas.List.{append-nil, drop_all, drop_at, take_at},
   um_lines.{
@@ -10,7 +10,8 @@ use Rattle.{
       declared.fault.LineFault.LineFault,
       Forms.{LineMeans, never_misplaced},
       Meanings.HasOneMeaningOrFault,
-      RepairForms.repair_line_forms,
+      Fields.Value,
+      RepairForms.{RepairLineKind, repair_line_forms},
       bit_blocks.Bits.AllBits,
     },
     specs.bit_blocks.Octets.bits_of,
@@ -53,6 +54,19 @@ are_word_bits line meaning means =
           rw (is, is', none) (bits_of_octets octets check known.0 known'.0),
       tt,
     ) line meaning means
+
+abbrev IsWordIfAny : Option (RepairLineKind × List Value) → Type 0
+IsWordIfAny None = Unit {0}
+IsWordIfAny (Some meaning) = repair_line_of_meaning (Some meaning) ≢ Skip
+
+-- a line with the form of `repair` is not read as a skipped line
+pub skipped_line : (line : List ℕ) → RepairLineMeans line Skip → LineMeans repair_line_forms never_misplaced line None
+skipped_line line (None, means, is) = means
+skipped_line line (Some meaning, means, is) =
+    let word = line_by_forms repair_line_forms never_misplaced (λ said. said) IsWordIfAny tt (
+      λ _ _ _ (octets, _, is, _, (check, _, is', _, none)). rw (is, is', none) (λ q. cc),
+      tt,
+    ) line (Some meaning) (Some meaning, means, refl) in absurd (word (sym is))
 
 pub written_word : (x y zeros : List ℕ) → length x ≡ 184 → length zeros ≡ 40 → put_mid 184 40 (x ++ zeros) y ≡ x ++ y
 written_word x y zeros ex ez =

@@ -7,5 +7,5 @@ mod lines;
 mod parsing;
 
 pub use command::Repair;
-pub use laws::law_repair_result_is_correct;
+pub use laws::{law_repair_line_is_not_skipped, law_repair_result_is_correct};
 pub use parsing::{RepairLine, parse_repair_line};

@@ -1,3 +1,4 @@
 -- Lemmas of this crate.
 pub mod Lists
 pub mod Frames
+pub mod Carried

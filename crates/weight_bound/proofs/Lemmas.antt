@@ -331,10 +331,6 @@ bit_metric-zero p = grind arith
 bit_metric-one : (p : ℤ) → bit_metric p 1 ≡ pos 0 -ℤ p
 bit_metric-one p = grind arith
 
--- what a soft bit p adds to the path metric for a bit (a) and for the opposite bit (b): p and -p, in either order
-abbrev Opposite : ℤ → ℤ → ℤ → Type 0
-Opposite p a b = ((a ≡ p) × (b ≡ pos 0 -ℤ p)) ⊎ ((b ≡ p) × (a ≡ pos 0 -ℤ p))
-
 -- the path metric b of the other encoder input is smaller than a by 2 `min_abs` for each difference, minus 2 (`min_abs` + `max_abs`) for
 -- each wrong soft bit
 abbrev IsOutweighed : ℤ → ℤ → ℕ → ℕ → ℕ → ℕ → Type 0

@@ -11,7 +11,7 @@ ghost use Rattle.lapdm_window.specs.Parts.{AreConsistent};
 ghost use Rattle.lapdm_window.specs.Abstraction.{Represents};
 
 use super::Window;
-use segmenting::{Channel, LONGEST_MESSAGE, MessageBuffer, ReassemblyState};
+use segmenting::{Channel, Joiner, LONGEST_MESSAGE, MessageBuffer, ReassemblyState};
 
 /// The state of a window as plain data, with borrowed messages and octets.
 #[derive(Clone, Copy, Debug)]
@@ -61,6 +61,13 @@ impl LapdmWindowView<'_> {
             return false;
         }
         done != 0 || usize::from(self.va) == self.segment_index % 8
+    }
+
+    /// Returns whether some window has this state.
+    pub fn is_window(&self) -> bool
+        ensures { IsTrue result ↔ SomeWindowHasValues (values_of_parts self.now) }
+    {
+        self.are_consistent() && Joiner::can_hold(self.reassembly, self.part)
     }
 }
 

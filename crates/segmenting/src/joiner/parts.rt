@@ -24,6 +24,13 @@ impl Joiner {
         self.part
     }
 
+    /// Returns whether some joiner holds these octets, as this part of a message.
+    pub fn can_hold(octets: &[u8], part: ReassemblyState) -> bool
+        ensures { IsTrue result ↔ SomeJoinerHasValues (record { octets = octets.now; part = part }) }
+    {
+        octets.len() <= LONGEST_MESSAGE && is_possible_part(part, octets)
+    }
+
     /// Restores the state of a joiner: the octets that it holds, and the part of a message that they form. Returns false and changes
     /// nothing if no joiner can be in this state.
     pub fn restore(&mut self, octets: &[u8], part: ReassemblyState) -> bool

@@ -13,10 +13,12 @@ returns-clause-tsc c =
     let first = c.add_midambles.result in
     let later = c.add_midambles-2.result in
     let same : length first ≡ length later = omega arith in
-    let one : (tsc : ℕ) → tsc ≤ 7 → likelihood first (midamble tsc) ≡ total_correlation c.args.a.now c.args.b.now c.args.c.now c.args.d.now tsc =
+    let one : (tsc : ℕ) → tsc ≤ 7 →
+    likelihood first (midamble tsc) ≡ total_correlation c.args.a.now c.args.b.now c.args.c.now c.args.d.now tsc =
     λ tsc h. ap (λ sums. likelihood sums (midamble tsc)) c.add_midambles.ensures.value
     ∙ correlation-four c.args.a.now c.args.b.now c.args.c.now c.args.d.now tsc (omega arith) (omega arith) (omega arith) h in
-    let two : (tsc : ℕ) → tsc ≤ 7 → likelihood later (midamble tsc) ≡ total_correlation c.args.e.now c.args.f.now c.args.g.now c.args.h.now tsc =
+    let two : (tsc : ℕ) → tsc ≤ 7 →
+    likelihood later (midamble tsc) ≡ total_correlation c.args.e.now c.args.f.now c.args.g.now c.args.h.now tsc =
     λ tsc h. ap (λ sums. likelihood sums (midamble tsc)) c.add_midambles-2.ensures.value
     ∙ correlation-four c.args.e.now c.args.f.now c.args.g.now c.args.h.now tsc (omega arith) (omega arith) (omega arith) h in
     IsFirstMaximum-same _

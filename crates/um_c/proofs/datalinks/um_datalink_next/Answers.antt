@@ -1,4 +1,3 @@
-use Rattle.lapdm_end.specs.Addresses.{spec_role_of}
 use Rattle.lapdm_datalink.specs.DataLinks.{with_clocks_moved}
 use Rattle.um_c.proofs.DataLinkCalls.{fills_slot_by_7}
 use Rattle.um_c.proofs.OneLink.{fills_slot, clocks_counted}
@@ -7,13 +6,11 @@ use Rattle.um_c.proofs.datalinks.um_datalink_next.Goals as goal
 pub returns : goal.returns
 returns c =
     let before = c.args.data_link.now in
-    let read = c.in-Some.ensures in
-    fills_slot read c.args.layer1.now c.fill_slot-slot.result c.channel-channel.result (spec_role_of c.role-role.result)
-    c.fill_slot-slot.new.data_link c.args.block.now c.with_layer1.result c.slot_block-written.result c.args.report.now
-    c.write_given_up.new.report c.slot_answer.result c.channel-channel.ensures c.role-role.ensures
-    (λ s h. rw (← c.count_slot.ensures) (c.fill_slot-slot.ensures (with_clocks_moved s)
-    (rw c.count_slot.ensures (clocks_counted before s h))
-    (c.count_slot_unless.ensures.represents s.link0 (read.link0_is s h)) (read.acts3_is s h)))
+    let seen = c.in-Some.ensures in
+    fills_slot seen c.args.layer1.now c.fill_slot-slot.result c.fill_slot-slot.new.data_link c.args.block.now c.with_layer1.result
+    c.slot_block-written.result c.args.report.now c.write_given_up.new.report c.slot_answer.result
+    (λ s h. rw (← c.count_slot.ensures) (c.fill_slot-slot.ensures s (rw c.count_slot.ensures (clocks_counted before s h))
+    (seen.outlook s h)))
     c.slot_block-written.ensures c.with_layer1.ensures c.write_given_up.ensures c.slot_answer.ensures
 
 pub returns-in_default : goal.returns-in_default

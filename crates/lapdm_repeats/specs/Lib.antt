@@ -1,0 +1,3 @@
+-- An answer that is said twice.
+pub mod Repeats
+pub mod Said
