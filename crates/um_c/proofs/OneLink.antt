@@ -197,12 +197,6 @@ one_channel c l m h g =
     ∙ ap (λ (x : LinkValues). x.endpoint.window.channel) (some_same (sym h.decoded ∙ g.decoded))
     ∙ channel_of_values g.values m g.represents
 
--- what holds of what was read from a view holds of the struct
-pub read_from : {A N P : Type 0} {S T : A → Type 0} (r : Option A) → (N → P) → ((a : A) → S a → T a) → MatchOption r N S →
-    MatchOption r P T
-read_from None f g h = f h
-read_from (Some a) f g h = g a h
-
 -- ## Slots
 
 -- a link that does not act sends nothing

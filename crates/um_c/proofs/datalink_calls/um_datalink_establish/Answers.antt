@@ -17,4 +17,5 @@ returns-in-Err c =
 pub returns-in-Ok : goal.returns-in-Ok
 returns-in-Ok c =
     answers_ok c.args.sapi c.in-Some.sapi c.in-Some.ensures
-    (c.read_data_link.ensures.read c.if-not-read_data_link.false) _ _ _ c.establish.new.self _ c.write_data_link.ensures c.in-Ok.ensures.refusal (λ s h. tt) c.in-Ok.ensures.done
+    (c.read_data_link.ensures.read c.if-not-read_data_link.false) _ _ _ c.establish.new.self _ c.write_data_link.ensures
+    c.in-Ok.ensures.refusal (λ s h. tt) c.in-Ok.ensures.done
