@@ -3,7 +3,7 @@ use Rattle.{
   std.{
     proofs.Common.{◌≡◌, ◌∙◌, refl, sym, ap, subst, ℕ, Bool, true, false, List, [], ◌∷◌, ◌-◌, Option, Some, None},
     proofs.Common.{arith, ◌++◌},
-    specs.{Prelude.{if◌then◌else◌, ◌||◌, not, MatchOption}, Option.{is_none, option_map, unwrap_or}},
+    specs.{Prelude.{if◌then◌else◌, ◌||◌, not}, Option.{is_none, option_map, unwrap_or}},
   },
   lapdm_frame.specs.{declared.{Channel.Channel, Refusal.Refusal}, Content.{Frame, fill_frame}, Frames.{octets_of, bit_of_bool, FrameFits}},
   lapdm_frame.specs.{Content.{Content, Ui}, Readings.{IsOnlyEncodedFrame, IsOnlyRefusalReason}},
