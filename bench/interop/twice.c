@@ -3,7 +3,7 @@
  *
  *   twice AGAIN UP DOWN FIRST COUNT
  *
- * AGAIN: how often the mobile says its last RR again, in the slots after it, until it sends another frame. UP, DOWN: blocks lost, in a
+ * AGAIN: how often the mobile says an RR with F = 0 again, in the slots after it, until it sends another frame. UP, DOWN: blocks lost, in a
  * thousand. It prints a line: how many sessions were complete, the mean of their TDMA frames, and how often an RR, an RR again and an I
  * frame with P = 1 went. */
 #include "side.h"
@@ -137,13 +137,16 @@ static void begin(void)
 	is_released = is_over = false;
 	heard_at = now;
 	released_at = NEVER;
-	network = (struct side){ .player = &osmo_player, .role = UM_NETWORK, .on = UM_SDCCH, .polled = true, .t200 = SECOND, .report = told_network };
+	network = (struct side){
+		.player = &osmo_player, .role = UM_NETWORK, .on = UM_SDCCH, .polled = true, .t200 = SECOND, .report = told_network
+	};
 	network.player->begin(&network);
 	if (!um_datalink_new(&mobile, UM_MOBILE, UM_SDCCH, T200, T200) || um_datalink_open(&mobile, &info) != UM_END_DONE)
 		abort();
 }
 
-/* The rule: the block of the mobile's last frame, if it is an RR, again with F = 0 in a free slot. */
+/* The rule: the block of the mobile's last frame, if it is an RR with F = 0, again in the next slots that are free. With F = 1 it is not:
+ * an RR with F = 0 would acknowledge to libosmogsm what it polled for, and leave it waiting for F = 1. */
 struct rule { int again, left; uint8_t block[23]; };
 static struct { long complete, frames, rr, again, polls; } total;
 
@@ -163,9 +166,9 @@ static bool next_of_mobile(struct rule *rule, uint8_t block[23])
 	if (um_read_frame(block, UM_SDCCH, &f) != UM_FRAME || f.kind != UM_RR)
 		return true;
 	total.rr++;
-	rule->left = rule->again;
-	f.pf = 0;
-	return um_write_frame(&f, UM_SDCCH, rule->block);
+	rule->left = f.pf ? 0 : rule->again;
+	memcpy(rule->block, block, 23);
+	return true;
 }
 
 static bool is_lost(int role, long slot, const int loss[2])

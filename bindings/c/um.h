@@ -809,7 +809,7 @@ typedef struct um_said {
 	uint8_t block[23]; /* a block with an RR with F = 0 */
 } um_said;
 
-/* After um_datalink_next, which returned `next` and wrote `block`: an RR goes once more, with F = 0, into the next slot if that is free. It
+/* After um_datalink_next, which returned `next` and wrote `block`: an RR with F = 0 goes once more into the next slot, if that is free. It
  * returns UM_END_DONE if `block` has a frame now, UM_END_FREE if it has the fill frame. UM_END_NONE: there is no such channel, or `next` is
  * neither of these two; nothing is written then. */
 UM_ENUM(um_answer) um_say_again(um_said *said, uint8_t channel, uint32_t next, uint8_t block[23]) UM_CALL;

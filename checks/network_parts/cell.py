@@ -46,7 +46,7 @@ class Station:
 
 class Cell:
     def __init__(self, options):
-        self.options, self.fn, self.zero, self.trace = options, 0, time.monotonic(), open("trace.log", "w", buffering=1)
+        self.options, self.fn, self.trace = options, 0, open("trace.log", "w", buffering=1)
         self.wrong, self.outcomes, self.counts, self.begun = [], collections.Counter(), collections.Counter(), 0
         self.texts, self.verdicts, self.due, self.select = set(), {}, [], selectors.DefaultSelector()
         self.combinations = options.layout.split()
@@ -56,6 +56,7 @@ class Cell:
         self.air = Air(options.block, options.burst, options.bit, options.noise)
         self.last_busy, self.latest, self.station = 0, 0, None
         self.mobiles = [Watched(self, index) for index in range(options.mobiles)]
+        self.zero = time.monotonic()
 
     def log(self, who, text):
         print(self.fn, who, text, file=self.trace)

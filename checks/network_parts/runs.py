@@ -37,7 +37,7 @@ OPTIONS = (
     ("sms", 0, "octets of a short message that each caller sends beside the call"),
     ("handovers", 0, "handovers of each caller, to the other cell and back"),
     ("fail", 0.0, "share of assignments and handovers whose new channel is dead"),
-    ("twice", 0, "1: a mobile says its last RR once more in the next free slot"),
+    ("twice", 0, "1: a mobile says an RR with F = 0 once more in the next slot, if it is free"),
     ("fade", 0, "frames of a traffic channel that are lost together; 0: the four between those of SACCH"),
     ("show", 0, "1: print each event"),
 )

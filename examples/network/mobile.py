@@ -43,7 +43,7 @@ def describe(frame):
 class Mobile:
     """A mobile with an IMSI of 15 digits. `words` is the number of words that its list decoder tries for a block, `t200` how many slots
     it waits for an answer on SAPI 0 and SAPI 3 of SDCCH, `rate` which rate of speech it asks for, "full" or "half". `say` is called with
-    what happens, a line each. If `twice` is true, the last RR goes once more into the next free slot of SDCCH or FACCH."""
+    what happens, a line each. If `twice` is true, an RR with F = 0 goes once more into the next slot of SDCCH or FACCH, if it is free."""
 
     def __init__(self, imsi, say, words=64, t200=(2, 2), rate="full", twice=False):
         self.imsi, self.say, self.words, self.t200, self.rate, self.twice = digits("9" + imsi), say, words, t200, rate, twice
@@ -266,8 +266,7 @@ class Mobile:
             return block or (None if self.channel.is_speech else sent.block)
         frame = um.read_frame(sent.block)
         self.sends(self.channel.name, frame)
-        is_spare = self.twice and frame.kind == "rr"
-        self.spare = sent.block[:1] + bytes([sent.block[1] & 0xEF]) + sent.block[2:] if is_spare else None  # with F = 0
+        self.spare = sent.block if self.twice and frame.kind == "rr" and not frame.pf else None
         return sent.block
 
     def sends(self, name, frame):

@@ -9,9 +9,9 @@ use Rattle.lapdm_repeats.specs.declared.said.Said.{Said}
 abbrev pub nothing_said : Said
 nothing_said = record { waits = 0; block = replicate 23 0 }
 
--- what waits after a frame with this content was sent: of an RR the same with F = 0, since it answers no poll the second time
+-- what waits after a frame with this content was sent: an RR with F = 0; one with F = 1 answers a poll, and a second one answers none
 abbrev pub said_with : (channel : Channel) (f : Frame) (content : Content) → Said
-said_with channel f (Rr nr pf) = record { waits = 1; block = octets_of channel (record f { content = Rr nr false }) }
+said_with channel f (Rr nr false) = record { waits = 1; block = octets_of channel (record f { content = Rr nr false }) }
 said_with channel f other = nothing_said
 
 abbrev pub said_after : (channel : Channel) (f : Frame) → Said

@@ -27,7 +27,7 @@ impl Said {
         }
     }
 
-    /// Returns what waits after this block was sent: an RR with F = 0 if the block has an RR, and nothing otherwise.
+    /// Returns what waits after this block was sent: the frame of the block if that is an RR with F = 0, and nothing otherwise.
     pub fn after(channel: Channel, block: &[u8; BLOCK_OCTETS]) -> Said
         ensures frame { (f : Frame) → IsFrameCoding channel f block.now → result ≡ said_after channel f }
         ensures no_frame { ((f : Frame) → ¬ IsFrameCoding channel f block.now) → result ≡ nothing_said }
@@ -35,7 +35,7 @@ impl Said {
         let Ok(frame) = read_on(block, channel) else {
             return Said::nothing();
         };
-        let Body::Rr { nr, .. } = frame.body else {
+        let Body::Rr { nr, pf: false } = frame.body else {
             return Said::nothing();
         };
         let again = FrameView {

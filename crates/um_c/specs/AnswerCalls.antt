@@ -14,7 +14,7 @@ pub record SaysNothing (said_old said : Said) (block_old block : List ℕ) (answ
   pub block_is : block ≡ block_old
   pub answer_is : answer ≡ 7
 
--- a block was sent: if it has an RR, the same with F = 0 waits
+-- a block was sent: it waits if it has an RR with F = 0
 pub record KeepsAnswer (channel : Channel) (said : Said) (block_old block : List ℕ) (answer : ℕ) : Type 0 where
   pub said_is : (f : Frame) → IsFrameCoding channel f block_old → said ≡ said_after channel f
   pub no_frame : ((f : Frame) → ¬ IsFrameCoding channel f block_old) → said ≡ nothing_said

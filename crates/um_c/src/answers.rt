@@ -8,8 +8,8 @@ use crate::frames::channel_of;
 use lapdm_frame::BLOCK_OCTETS;
 use lapdm_repeats::Said;
 
-/// Goes on after `um_datalink_next` returned `next` and wrote `block`: an RR waits, and goes once more, with F = 0, into the next slot
-/// if that is free. Returns 0 if the block has a frame then, 10 if it has the fill frame, and 7 if there is no such channel or `next`.
+/// Goes on after `um_datalink_next` returned `next` and wrote `block`: an RR with F = 0 waits, and goes once more into the next slot if
+/// that is free. Returns 0 if the block has a frame then, 10 if it has the fill frame, and 7 if there is no such channel or `next`.
 #[unsafe(no_mangle)]
 pub extern "C" fn um_say_again(
     said: &mut Said,

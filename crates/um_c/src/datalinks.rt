@@ -1,6 +1,6 @@
 //! C functions for a data link: one side of a channel with its loop. The caller holds the state.
 ghost use Rattle.std.specs.Prelude.{ℕ, Bool, ◌≡◌, ◌↔◌, ◌≤◌, ◌==◌, ◌&&◌, ◌||◌, ◌-◌, ◌++◌};
-ghost use Rattle.std.specs.Prelude.{not, length, replicate, if◌then◌else◌, Some, None, false, IsTrue, MatchOption};
+ghost use Rattle.std.specs.Prelude.{List, not, length, replicate, if◌then◌else◌, Some, None, false, IsTrue, MatchOption};
 ghost use Rattle.std.specs.Option.{unwrap_or, is_none};
 ghost use Rattle.lapdm_frame.specs.declared.Channel.{Channel as ChannelOf};
 ghost use Rattle.lapdm_frame.specs.Content.{fill_frame, frame_of_view, content_of_body};

@@ -52,7 +52,7 @@ kept_back bursts r is none h = (rw (is, none) at h.accepted) right_block
 other_data : (bursts : List (List ℤ)) (r : Received) → r.u ≡ zeros 184 ++ ones 40 ++ zeros 4 → r.accepted ≡ Some [] →
     IsMostLikelyWord bursts r → ⊥
 other_data bursts r is some h =
-    let data : [] ≡ zeros 23 = (rw (is, some) at h.accepted).1 in not_silent (zeros 23) refl data
+    let empty : [] ≡ zeros 23 = (rw (is, some) at h.accepted).1 in not_silent (zeros 23) refl empty
 
 -- ## Access bursts: The check bits of 8 zeros are ones, to which the BSIC is added.
 
