@@ -1,7 +1,9 @@
 /* Calls of a data link from C: nanoseconds per call, the minimum over all rounds.
  * Rounds are short and many, so that some of them run undisturbed.
  *
- *   datalinks [CALLS [ROUNDS]] */
+ *   datalinks [CALLS [ROUNDS [WORK]]]
+ *
+ * With WORK (0 a free slot, 1 a fill frame, 2 an exchange) no other work is done: so its instructions can be counted. */
 #include "um.h"
 #include <stdio.h>
 #include <stdlib.h>
@@ -87,6 +89,7 @@ int main(int argc, char **argv)
 	enum { WORKS = sizeof works / sizeof *works };
 	long calls = argc > 1 ? atol(argv[1]) : 3000;
 	int rounds = argc > 2 ? atoi(argv[2]) : 300;
+	int only = argc > 3 ? atoi(argv[3]) : -1;
 	double least[WORKS];
 
 	begin();
@@ -94,12 +97,15 @@ int main(int argc, char **argv)
 		least[i] = 1e300;
 	for (int round = 0; round < rounds; round++)
 		for (int i = 0; i < WORKS; i++) {
+			if (only >= 0 && i != only)
+				continue;
 			double start = now();
 			works[i].work(calls);
 			double taken = now() - start;
 			least[i] = taken < least[i] ? taken : least[i];
 		}
 	for (int i = 0; i < WORKS; i++)
-		printf("%-32s %8.0f ns\n", works[i].name, least[i] / (double)calls);
+		if (only < 0 || i == only)
+			printf("%-32s %8.0f ns\n", works[i].name, least[i] / (double)calls);
 	return 0;
 }

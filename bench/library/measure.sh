@@ -10,13 +10,20 @@ cc -std=gnu99 -O2 -Ibindings/c bench/library/datalinks.c crates/um_c/out/libum_c
 "$work/datalinks"
 cc -std=gnu99 -O2 -Ibindings/c bench/library/slots.c crates/um_c/out/libum_c.a -o "$work/slots" || exit 1
 "$work/slots"
-# instructions CALL BLOCKS: of slots.c, with all that it does besides
+# instructions PROGRAM ARG..: of a run of the program, with all that it does besides
 instructions() {
-  valgrind --tool=callgrind --callgrind-out-file=/dev/null "$work/slots" "$1" "$2" 2>&1 | sed -n 's/.*refs: *//p' | tr -d ,
+  valgrind --tool=callgrind --callgrind-out-file=/dev/null "$work/$1" "${@:2}" 2>&1 | sed -n 's/.*refs: *//p' | tr -d ,
 }
+# glibc without `rep stosb` and `rep movsb`, of which callgrind counts each octet
+vectors=glibc.cpu.x86_rep_stosb_threshold=100000000:glibc.cpu.x86_rep_movsb_threshold=100000000
 if command -v valgrind >"$work/where"; then
   for call in 0 1 2; do
-    echo "call $call of slots.c: $((($(instructions $call 1500) - $(instructions $call 500)) / 1000)) instructions a block"
+    echo "call $call of slots.c: $((($(instructions slots $call 1500) - $(instructions slots $call 500)) / 1000)) instructions a block"
+  done
+  for call in 0 1; do
+    more=$(GLIBC_TUNABLES=$vectors instructions datalinks 1500 1 $call)
+    less=$(GLIBC_TUNABLES=$vectors instructions datalinks 500 1 $call)
+    echo "call $call of datalinks.c: $(((more - less) / 1000)) instructions"
   done
 fi
 cc -std=gnu99 -O2 -Ibindings/c bench/library/bench.c crates/um_c/out/libum_c.a -o "$work/bench" -losmocoding -losmocore || exit 1

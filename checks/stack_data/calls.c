@@ -40,6 +40,7 @@ static um_traffic_sender traffic_sender;
 static um_end end;
 static um_side side;
 static um_datalink link;
+static um_said said;
 static volatile uint32_t answer;
 
 /* X(name, call): each export of um.h; checks/stack compares the list with the header */
@@ -124,7 +125,8 @@ static volatile uint32_t answer;
 	X(um_datalink_close_local, um_datalink_close_local(&link, 0)) \
 	X(um_datalink_main, um_datalink_main(&link, true)) \
 	X(um_datalink_take, um_datalink_take(&link, block, &told)) \
-	X(um_datalink_next, um_datalink_next(&link, layer1, octets, &told))
+	X(um_datalink_next, um_datalink_next(&link, layer1, octets, &told)) \
+	X(um_say_again, um_say_again(&said, UM_SDCCH, UM_END_DONE, octets))
 
 #define BODY(name, call) static void try_##name(void) { answer += (uint32_t)(call); }
 CALLS(BODY)

@@ -3,7 +3,7 @@ use Rattle.{
   std.{
     proofs.Common.{◌≡◌, ◌∙◌, refl, sym, ap, subst, ℕ, Bool, true, false, List, [], ◌∷◌, ◌-◌, Option, Some, None},
     proofs.Common.{arith, ◌++◌},
-    specs.{Prelude.{if◌then◌else◌, ◌||◌, not, MatchOption}, Option.{is_none, option_map, unwrap_or}},
+    specs.{Prelude.{if◌then◌else◌, ◌||◌, not}, Option.{is_none, option_map, unwrap_or}},
   },
   lapdm_frame.specs.{declared.{Channel.Channel, Refusal.Refusal}, Content.{Frame, fill_frame}, Frames.{octets_of, bit_of_bool, FrameFits}},
   lapdm_frame.specs.{Content.{Content, Ui}, Readings.{IsOnlyEncodedFrame, IsOnlyRefusalReason}},
@@ -196,12 +196,6 @@ one_channel c l m h g =
     sym (channel_of_values h.values l h.represents)
     ∙ ap (λ (x : LinkValues). x.endpoint.window.channel) (some_same (sym h.decoded ∙ g.decoded))
     ∙ channel_of_values g.values m g.represents
-
--- what holds of what was read from a view holds of the struct
-pub read_from : {A N P : Type 0} {S T : A → Type 0} (r : Option A) → (N → P) → ((a : A) → S a → T a) → MatchOption r N S →
-    MatchOption r P T
-read_from None f g h = f h
-read_from (Some a) f g h = g a h
 
 -- ## Slots
 

@@ -10,14 +10,25 @@ ghost use Rattle.lapdm_datalink.specs.Sides.{role_of as data_link_role, link_of,
 ghost use Rattle.um_c.specs.DataLinkCalls.{DataLinkAnswersCall, DataLinkEstablishes, DataLinkHasUnacked, DataLinkChangesLink};
 ghost use Rattle.um_c.specs.DataLinkCalls.{DataLinkChanges, DataLinkEncodesUnit};
 
-use crate::datalinks::{CDataLink, data_link_in, with_layer1, write_data_link};
+use crate::datalinks::{CDataLink, read_data_link, with_layer1, write_data_link};
 use crate::ends::{CALL_NOT_SUPPORTED, INVALID_ENDPOINT, call_refusal_number};
 use crate::states::sapi_of;
-use lapdm_datalink::DataLink;
+use lapdm_datalink::{DataLink, Establishment};
 use lapdm_end::{Call, MessageBuffer, Role, Sapi};
-use lapdm_frame::BLOCK_OCTETS;
+use lapdm_frame::{BLOCK_OCTETS, Channel};
 
 const NO_MESSAGE: u32 = 4;
+
+/// Returns a new data link, to restore another in its place.
+fn room_for_data_link() -> DataLink {
+    DataLink::new_on(
+        Role::Mobile,
+        Channel::Sdcch,
+        Establishment::Contention,
+        1,
+        1,
+    )
+}
 
 /// Returns whether the link of this SAPI supports the call: only a mobile establishes a link with contention resolution, with information
 /// in its SABM; either side establishes one of normal establishment and that of SAPI 3, without information.
@@ -52,9 +63,10 @@ fn call_data_link(data_link: &mut CDataLink, sapi: u8, call: &Call<'_>) -> u32
     requires { IsLinkCall (endpoint_call_of call.now) }
     ensures { DataLinkAnswersCall sapi (endpoint_call_of call.now) result data_link.old data_link.new }
 {
-    let Some(mut held) = data_link_in(data_link) else {
+    let mut held = room_for_data_link();
+    if !read_data_link(data_link, &mut held) {
         return INVALID_ENDPOINT;
-    };
+    }
     let Some(sapi) = sapi_of(sapi) else {
         return CALL_NOT_SUPPORTED;
     };
@@ -84,9 +96,10 @@ pub extern "C" fn um_datalink_open(data_link: &mut CDataLink, info: &MessageBuff
 pub extern "C" fn um_datalink_establish(data_link: &mut CDataLink, sapi: u8) -> u32
     ensures { DataLinkEstablishes sapi result data_link.old data_link.new }
 {
-    let Some(mut held) = data_link_in(data_link) else {
+    let mut held = room_for_data_link();
+    if !read_data_link(data_link, &mut held) {
         return INVALID_ENDPOINT;
-    };
+    }
     let Some(sapi) = sapi_of(sapi) else {
         return CALL_NOT_SUPPORTED;
     };
@@ -130,9 +143,10 @@ pub extern "C" fn um_datalink_unacked(
 ) -> u32
     ensures { DataLinkHasUnacked sapi index result data_link.now message.old message.new }
 {
-    let Some(held) = data_link_in(data_link) else {
+    let mut held = room_for_data_link();
+    if !read_data_link(data_link, &mut held) {
         return INVALID_ENDPOINT;
-    };
+    }
     let Some(sapi) = sapi_of(sapi) else {
         return CALL_NOT_SUPPORTED;
     };
@@ -158,9 +172,10 @@ pub extern "C" fn um_datalink_close(data_link: &mut CDataLink, sapi: u8) -> u32
 pub extern "C" fn um_datalink_close_local(data_link: &mut CDataLink, sapi: u8) -> u32
     ensures { DataLinkChangesLink sapi afresh result data_link.old data_link.new }
 {
-    let Some(mut held) = data_link_in(data_link) else {
+    let mut held = room_for_data_link();
+    if !read_data_link(data_link, &mut held) {
         return INVALID_ENDPOINT;
-    };
+    }
     let Some(sapi) = sapi_of(sapi) else {
         return CALL_NOT_SUPPORTED;
     };
@@ -174,9 +189,10 @@ pub extern "C" fn um_datalink_close_local(data_link: &mut CDataLink, sapi: u8) -
 pub extern "C" fn um_datalink_main(data_link: &mut CDataLink, established: bool) -> u32
     ensures { DataLinkChanges (having_main established) result data_link.old data_link.new }
 {
-    let Some(mut held) = data_link_in(data_link) else {
+    let mut held = room_for_data_link();
+    if !read_data_link(data_link, &mut held) {
         return INVALID_ENDPOINT;
-    };
+    }
     held.set_main_established(established);
     write_data_link(&held, data_link);
     0
@@ -193,9 +209,10 @@ pub extern "C" fn um_datalink_unit(
 ) -> u32
     ensures { DataLinkEncodesUnit sapi (octets_in_buffer message.now) layer1.now result data_link.now block.old block.new }
 {
-    let Some(held) = data_link_in(data_link) else {
+    let mut held = room_for_data_link();
+    if !read_data_link(data_link, &mut held) {
         return INVALID_ENDPOINT;
-    };
+    }
     let Some(sapi) = sapi_of(sapi) else {
         return CALL_NOT_SUPPORTED;
     };

@@ -1,6 +1,6 @@
 //! C functions for a data link: one side of a channel with its loop. The caller holds the state.
 ghost use Rattle.std.specs.Prelude.{ℕ, Bool, ◌≡◌, ◌↔◌, ◌≤◌, ◌==◌, ◌&&◌, ◌||◌, ◌-◌, ◌++◌};
-ghost use Rattle.std.specs.Prelude.{List, not, length, replicate, if◌then◌else◌, Some, None, false, IsTrue, MatchOption};
+ghost use Rattle.std.specs.Prelude.{List, not, length, replicate, if◌then◌else◌, Some, None, true, false, IsTrue, MatchOption};
 ghost use Rattle.std.specs.Option.{unwrap_or, is_none};
 ghost use Rattle.lapdm_frame.specs.declared.Channel.{Channel as ChannelOf};
 ghost use Rattle.lapdm_frame.specs.Content.{fill_frame, frame_of_view, content_of_body};
@@ -196,12 +196,16 @@ fn data_link_view_of(data_link: &CDataLink) -> Option<DataLinkView<'_>>
     })
 }
 
-/// Returns the data link that the struct represents, or `None` if it represents none.
-pub(crate) fn data_link_in(data_link: &CDataLink) -> Option<DataLink>
-    ensures { MatchOption result (RepresentsSomeDataLink data_link.now → ⊥) (IsRead data_link.now) }
+/// Reads the data link that the struct represents into `held`, and returns whether it represents one. It is restored in place: a function
+/// fills all its room with zeros first, so a data link that is handed on by value is filled and copied again.
+pub(crate) fn read_data_link(data_link: &CDataLink, held: &mut DataLink) -> bool
+    ensures read { IsTrue result → IsRead data_link.now held.new }
+    ensures none { result ≡ false → RepresentsSomeDataLink data_link.now → ⊥ }
 {
-    let parts = data_link_view_of(data_link)?;
-    DataLink::from_parts(&parts)
+    match data_link_view_of(data_link) {
+        Some(parts) => held.restore(&parts),
+        None => false,
+    }
 }
 
 fn write_link(parts: &LinkView<'_>, c_struct: &mut CTimedEnd)
@@ -350,12 +354,15 @@ fn look_ahead(data_link: &CDataLink) -> Option<Outlook>
     Some(parts.outlook())
 }
 
-/// Returns the link that the struct represents, or `None` if it represents none.
-fn link_in(c_struct: &CTimedEnd) -> Option<Link>
-    ensures { MatchOption result ((l : LinkState) → RepresentsLink c_struct.now l → ⊥) (IsLinkRead c_struct.now) }
+/// Reads the link that the struct represents into `held`, in place, and returns whether it represents one.
+fn read_link(c_struct: &CTimedEnd, held: &mut Link) -> bool
+    ensures read { IsTrue result → IsLinkRead c_struct.now held.new }
+    ensures none { result ≡ false → (l : LinkState) → RepresentsLink c_struct.now l → ⊥ }
 {
-    let parts = link_view_of(c_struct)?;
-    Link::from_parts(&parts)
+    match link_view_of(c_struct) {
+        Some(parts) => held.restore_any(&parts),
+        None => false,
+    }
 }
 
 /// Keeps in mind whether a received frame took the slot of an answer on SAPI 3.
@@ -396,9 +403,10 @@ fn pass_frame_to(c_struct: &mut CTimedEnd, frame: &FrameView<'_>, effects: &mut 
     ensures { (l : LinkState) → RepresentsLink c_struct.old l
         → LinkTakesFrame (frame_of_view frame.now) l c_struct.old c_struct.new effects.new.notices }
 {
-    let Some(mut held) = link_in(c_struct) else {
+    let mut held = Link::new_on(Role::Mobile, Sapi::Zero, Channel::Sdcch, 1);
+    if !read_link(c_struct, &mut held) {
         return;
-    };
+    }
     held.receive(frame, effects);
     if is_ui(&frame.body) {
         return;
@@ -526,6 +534,7 @@ fn count_slot(data_link: &mut CDataLink)
 }
 
 /// Returns what the link in the struct does in a slot that it has, and writes it if it acts.
+#[inline(always)]
 fn use_slot(acts: bool, c_struct: &mut CTimedEnd) -> LinkSlot
     ensures { (l : LinkState) → RepresentsLink c_struct.old l → acts ≡ acts_in_slot l
         → LinkUsesSlot l result c_struct.old c_struct.new }
@@ -533,9 +542,19 @@ fn use_slot(acts: bool, c_struct: &mut CTimedEnd) -> LinkSlot
     if !acts {
         return idle_slot();
     }
-    let Some(mut held) = link_in(c_struct) else {
+    act_in_slot(c_struct)
+}
+
+// Not inlined, since it fills room for a link, and most slots are free.
+#[inline(never)]
+fn act_in_slot(c_struct: &mut CTimedEnd) -> LinkSlot
+    ensures { (l : LinkState) → RepresentsLink c_struct.old l → acts_in_slot l ≡ true
+        → LinkUsesSlot l result c_struct.old c_struct.new }
+{
+    let mut held = Link::new_on(Role::Mobile, Sapi::Zero, Channel::Sdcch, 1);
+    if !read_link(c_struct, &mut held) {
         return idle_slot();
-    };
+    }
     let slot = held.slot();
     write_link(&held.parts(), c_struct);
     slot

@@ -8,7 +8,7 @@ use Rattle.um_c.proofs.datalink_calls.um_datalink_unacked.Goals as goal
 pub returns-in-None : goal.returns-in-None
 returns-in-None c =
     let held = c.unacked.result.now in
-    unacked_none c.args.sapi c.in-Some-sapi_of.sapi c.in-Some-sapi_of.ensures c.in-Some.ensures c.args.index
+    unacked_none c.args.sapi c.in-Some.sapi c.in-Some.ensures (c.read_data_link.ensures.read c.if-not-read_data_link.false) c.args.index
     held c.unacked.ensures c.args.message.now
     (ap (slice_get held) (sym c.from.ensures)
     ∙ slice_get_past held c.from.result (not_below c.from.result (length held) c.in-None.ensures.lookup.0))
@@ -17,7 +17,7 @@ pub returns-in-Some-get : goal.returns-in-Some-get
 returns-in-Some-get c =
     let held = c.unacked.result.now in
     let at = c.in-Some-get.ensures.lookup in
-    unacked_written c.args.sapi c.in-Some-sapi_of.sapi c.in-Some-sapi_of.ensures c.in-Some.ensures c.args.index
+    unacked_written c.args.sapi c.in-Some.sapi c.in-Some.ensures (c.read_data_link.ensures.read c.if-not-read_data_link.false) c.args.index
     held c.unacked.ensures c.args.message.now c.in-Some-get.unacked.now c.write.new.self
     (ap (slice_get held) (sym c.from.ensures)
     ∙ slice_get_read held (length held) c.from.result c.in-Some-get.unacked.now refl
