@@ -11,7 +11,7 @@
  *   from -127 (certainly 1) to 127 (certainly 0); 0 means unknown (libosmocore's sbit_t). -128 is refused.
  *   A block is 23 octets, each sent least significant bit first.
  *   No call allocates memory, keeps state between calls, blocks or prints. Every call is thread-safe, but two threads must not use
- *   the same um_end, um_side, um_slot or um_datalink at the same time.
+ *   the same um_end, um_side, um_slot, um_traffic, um_traffic_sender or um_datalink at the same time.
  *   um_traffic_take, um_traffic_miss, um_traffic_end, um_receive_facch_f_erasing and um_receive_facch_h_erasing take at most 36 KB of
  *   stack, um_receive_block_erasing, um_slot_take, um_slot_miss and um_slot_end 32 KB, um_receive_block_among 18 KB, every other call at
  *   most 10 KB.

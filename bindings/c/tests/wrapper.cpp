@@ -571,7 +571,7 @@ static void establishments()
 	check(sides[1].send(zero, {'P'}) == um::answer::ok && sides[0].take(sides[1].next().block), "the network sends");
 	const auto first = last.next(sides[0]);
 	const auto second = last.next(sides[0]);
-	check(begins(first.block, {0x01, 0x21, 0x01}) && first.block == second.block && !second.is_free, "said twice");
+	check(begins(first.block, {0x03, 0x21, 0x01}) && first.block == second.block && !second.is_free, "said twice");
 	const auto acked = sides[1].take(second.block);
 	check(last.next(sides[0]).is_free && acked && acked.notices().size() == 1, "not three times; the second acknowledges");
 

@@ -163,7 +163,7 @@ const saysTwice = (um) => {
   const last = um.lastAnswer();
   const [first, second, third] = [0, 1, 2].map(() => last.next(mobile));
   assert.deepEqual([first.free, second.free, third.free], [false, false, true]);
-  assert.deepEqual([...first.block.subarray(0, 3)], [0x01, 0x21, 0x01]);
+  assert.deepEqual([...first.block.subarray(0, 3)], [0x03, 0x21, 0x01]);
   assert.deepEqual(second.block, first.block);
   assert.deepEqual([...third.block.subarray(0, 3)], [0x01, 0x03, 0x01]);
   assert.deepEqual(network.take(second.block).map(({ kind }) => kind), ["acked"]);

@@ -35,7 +35,7 @@ class Path:
 
 class LastAnswers(Case):
     def test_an_answer_is_said_twice(self):
-        """An RR with N(R) = 1 and F = 0 has the control octet 21, and the mobile's response the address octet 01."""
+        """An RR with N(R) = 1 and F = 0 has the control octet 21, and the mobile's response the address octet 03."""
         for channel, at in ((um.SDCCH, 0), (um.SACCH, 2)):
             mobile, network = links = pair(channel=channel)
             mobile.establish(0)
@@ -45,7 +45,7 @@ class LastAnswers(Case):
             last = um.LastAnswer()
             first, second, third = (last.next(mobile, bytes((slot, 0))) for slot in range(3))
             self.assertEqual([False, False, True], [first.free, second.free, third.free])
-            self.assertEqual(bytes.fromhex("012101"), first.block[at : at + 3])
+            self.assertEqual(bytes.fromhex("032101"), first.block[at : at + 3])
             self.assertEqual(bytes((1, 0))[:at] + first.block[at:], second.block)
             self.assertEqual(bytes.fromhex("010301"), third.block[at : at + 3])
             # the first is lost; the second acknowledges, and once more it changes nothing
@@ -63,7 +63,7 @@ class LastAnswers(Case):
         # an answer that another frame follows is not said again
         network.send(0, b"page")
         mobile.take(network.next().block)
-        self.assertEqual(bytes.fromhex("012101"), last.next(mobile).block[:3])
+        self.assertEqual(bytes.fromhex("032101"), last.next(mobile).block[:3])
         mobile.send(0, b"more")
         self.assertEqual(bytes.fromhex("0120"), last.next(mobile).block[:2])
         self.assertTrue(last.next(mobile).free)

@@ -188,7 +188,7 @@ fn an_answer_is_said_twice() -> Tried {
     let _ = links[0].take(&page)?;
     let sent = [(); 3].map(|()| last.next(&mut links[0], [0, 0]));
     assert_eq!(sent.map(|one| one.is_free), [false, false, true]);
-    assert_eq!((&sent[0].block[..3], sent[1].block), (&[0x01, 0x21, 0x01][..], sent[0].block));
+    assert_eq!((&sent[0].block[..3], sent[1].block), (&[0x03, 0x21, 0x01][..], sent[0].block));
     assert_eq!(links[1].take(&sent[1].block)?.notices().count(), 1);
     let before = links[1];
     assert_eq!((links[1].take(&sent[1].block)?.notices().count(), links[1]), (0, before));

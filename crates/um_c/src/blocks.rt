@@ -3,6 +3,7 @@ ghost use Rattle.std.specs.Prelude.{◌≡◌, ◌≢◌, ◌≤◌, ◌↔◌, 
 ghost use Rattle.std.specs.Prelude.{replicate, MatchOption};
 ghost use Rattle.um_block.specs.bit_blocks.Bits.{AllBits};
 ghost use Rattle.um_block.specs.bit_blocks.SoftValues.{AllSoftBits};
+ghost use Rattle.um_block.specs.Computed.{sent_block};
 ghost use Rattle.um_block.specs.Sent.{IsSentBlock};
 ghost use Rattle.um_block.specs.conv_code.Code.{IsEncoderInput};
 ghost use Rattle.um_block.specs.conv_code.Likelihood.{RanksAfter};
@@ -56,8 +57,21 @@ pub extern "C" fn um_send_block(
     if tsc > 7 {
         return false;
     }
-    *bursts = send_block(octets, tsc);
+    write_block(octets, tsc, bursts);
     true
+}
+
+/// Writes the four bursts of a block. Both calls that need them go through here: `send_block` is compiled into its only caller, and writes
+/// the bursts in place.
+#[inline(never)]
+pub(crate) fn write_block(octets: &[u8; BLOCK_OCTETS], tsc: u8, bursts: &mut [[u8; BURST_BITS]; 4])
+    requires { tsc ≤ 7 }
+    ensures sent { IsSentBlock octets.now tsc bursts.new }
+    ensures value { bursts.new ≡ sent_block octets.now tsc }
+    ensures only { (other : List (List ℕ)) → IsSentBlock octets.now tsc other → other ≡ bursts.new }
+    ensures bits { All AllBits bursts.new }
+{
+    *bursts = send_block(octets, tsc);
 }
 
 /// Decodes the soft values of four bursts. Returns false, and writes nothing, if a soft value is -128.

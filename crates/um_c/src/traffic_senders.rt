@@ -5,8 +5,9 @@ ghost use Rattle.um_block.specs.Computed.{sent_block};
 ghost use Rattle.um_traffic.specs.Senders.{given, new_sender, send, sender_settings_of};
 ghost use Rattle.um_c.specs.SenderCalls.{sending_number};
 
+use crate::blocks::write_block;
 use crate::soft::are_bit_rows;
-use um_block::{BLOCK_OCTETS, BURST_BITS, send_block};
+use um_block::{BLOCK_OCTETS, BURST_BITS};
 use um_traffic::{FACCH_BLOCK, Sending, TrafficSender};
 
 /// The kind of a block that is not FACCH.
@@ -47,7 +48,9 @@ pub extern "C" fn um_traffic_sender_facch(
     if sender.tsc > 7 || sender.waiting.kind == FACCH_BLOCK {
         return false;
     }
-    sender.give(FACCH_BLOCK, &send_block(octets, sender.tsc));
+    let mut block = [[0; BURST_BITS]; 4];
+    write_block(octets, sender.tsc, &mut block);
+    sender.give(FACCH_BLOCK, &block);
     true
 }
 
