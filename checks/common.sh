@@ -142,14 +142,17 @@ find_program() {
   [ -x "$program" ]
 }
 
-# plan CHECK: the most seconds that it may take, its suite (all; whole: not in a quick run; name: only if named), `alone` or `together`, and
-# its name. A check's head may say them in a line `# Runs: whole, alone, 2700 s: REASON`
+# plan CHECK: the seconds that it takes (checks/runner/seconds), the most that it may take, its suite (all; whole: not in a quick run; name:
+# only if named), how it runs (timed and builds: one of these after another), and its name. Its head may say so in a line
+# `# Runs: whole, timed, 2700 s: REASON`
 plan() {
-  local line suite=all how=together limit=1800
+  local line seconds suite=all how=together limit=1800
   line=$(sed -n '2,12s/^# Runs: \([^:]*\).*/, \1,/p' "checks/$1")
   [[ $line != *', whole,'* ]] || suite=whole
   [[ $line != *', by name,'* ]] || suite=name
-  [[ $line != *', alone,'* ]] || how=alone
+  [[ $line != *', timed,'* ]] || how=timed
+  [[ $line != *', builds,'* ]] || how=builds
   [[ ! $line =~ ', '([0-9]+)' s,' ]] || limit=${BASH_REMATCH[1]}
-  echo "$limit $suite $how $1"
+  seconds=$(sed -n "s/^$1 //p" checks/runner/seconds)
+  echo "${seconds:-60} $limit $suite $how $1"
 }

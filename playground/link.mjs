@@ -6,8 +6,12 @@ import { $, announce, complain, copyText, h, hex, octetsOf, onWhole, plural, sav
 import { Session } from "./session.mjs";
 import { Slots } from "./slots.mjs";
 
-const NAMES = { mob: "the mobile", net: "the network", mob3: "the mobile (SAPI 3)", net3: "the network (SAPI 3)", rival: "another mobile" };
-const CALLS = { open: "open", send: "send", unit: "send unacknowledged", close: "release", tick: "T200 expires", idle: "fill frame" };
+const NAMES = { mob: "the mobile", net: "the network", mob3: "the mobile (SAPI 3)", net3: "the network (SAPI 3)", rival: "another mobile",
+  both: "both" };
+const CALLS = { open: "open", send: "send", unit: "send unacknowledged", close: "release", tick: "T200 expires", idle: "fill frame",
+  establish: "open without information", channel: "a new channel", return: "back on the old channel" };
+const BARE = { mob: "Open without information", net: "Open" };
+const MOVES = { "both channel": "Both change the channel", "mob channel": "The mobile alone does", "mob return": "The mobile returns" };
 const TO = { up: "to the network", down: "to the mobile" };
 const START = { true: { t200: 4, delay: 1 }, false: { t200: 10, delay: 3 } }; // with data links or without
 const URL_MOST = 12000; // characters; longer sessions are saved as a file
@@ -21,6 +25,7 @@ const noticeWords = ({ kind, message, number, reason }) => {
   if (kind === "acked") return `message ${number} acknowledged`;
   if (kind === "closed") return `closed: ${reason === "contention" ? "contention, another mobile has the link" : reason}`;
   if (kind === "oversize") return "a message was too long and is discarded";
+  if (kind === "again") return `sends ${short(message)} again`;
   return `got ${kind === "unit" ? "unacknowledged " : ""}${short(message)}`;
 };
 
@@ -38,6 +43,7 @@ export class LinkView {
     this.lookAt = lookAt;
     for (const side of ["mob", "net"]) this.#buildEnd(side);
     for (const way of ["up", "down"]) this.#buildWay(way);
+    $("l-moves").append(...Object.entries(MOVES).map(([line, words]) => this.#button(line.replace(" ", "-"), words, () => line)));
     this.#listen();
   }
 
@@ -69,7 +75,8 @@ export class LinkView {
     return h("section", { class: "link-end", "aria-label": capital(NAMES[who]) },
       h("h4", {}, who.endsWith("3") ? "SAPI 3, short messages" : "SAPI 0, signalling"),
       h("p", { id: `l-${who}-state`, class: "mono" }),
-      fields(...opens(), this.#button(`${who}-tick`, "T200 expires", () => `${who} tick`),
+      fields(...opens(), ...(who.endsWith("3") ? [] : [this.#button(`${who}-establish`, BARE[who], () => `${who} establish`)]),
+        this.#button(`${who}-tick`, "T200 expires", () => `${who} tick`),
         this.#button(`${who}-close`, "Release", () => `${who} close`)),
       fields(...this.#input(text, "message", who.endsWith("3") ? "sms" : "hello", 16),
         this.#button(`${who}-send`, "Send", () => `${who} send ${this.#digits(text)}`),
@@ -152,6 +159,7 @@ export class LinkView {
     $("l-loop").value = loop ? "1" : "0";
     for (const name of ["mob-tick", "mob3-tick", "net-tick", "net3-tick", "mob-idle"]) $(`l-${name}`).hidden = loop;
     $("l-net-idle").closest("section").hidden = loop;
+    for (const name of ["mob-establish", "net-establish", "moves"]) $(`l-${name}`).hidden = !loop;
     write($("l-lines-title"), loop ? "The session as lines" : "The session as lines of um link");
     write($("l-answers-title"), loop ? "Answers" : "Answers, as the program prints them");
   }
@@ -213,8 +221,8 @@ export class LinkView {
     const changes = new Map();
     const note = (end, words, kind) => notes.push({ side: end.replace("3", ""), words, kind });
     if (block && !lost && !report.accepted) note(event.to, "CRC fails: the block is discarded", "bad");
-    if (!block && !refused && call !== "slot") note(who, callWords(event), "call");
-    if (refused && NAMES[who]) note(who, `${callWords(event)}: refused, ${why}`, "bad");
+    if (!block && !refused && call !== "slot") for (const end of who === "both" ? ["mob", "net"] : [who]) note(end, callWords(event), "call");
+    if (refused && NAMES[who] && who !== "both") note(who, `${callWords(event)}: refused, ${why}`, "bad");
     for (const { who: end, notice } of notices) {
       note(end, noticeWords(notice) + sapi3(end), notice.kind === "closed" && notice.reason !== "released" ? "bad" : "good");
     }

@@ -55,8 +55,7 @@ export class Session {
   }
 
   /** Runs one line; answers what came of it. */
-  run(line) {
-    const asked = readLine(line);
+  run(line, asked = readLine(line)) {
     const event = { line, ...asked, notices: [], sent: [], answers: [] };
     try {
       if (asked.who === "up" || asked.who === "down") this.arrive(event);

@@ -242,6 +242,12 @@ static bool gave_up(int role, const struct link_state *k)
 	return (k->closed[role] && k->why[role] != BY_RELEASE) || k->errors[role] & 1u << 1 || (k->closed[role] && !k->asked_close);
 }
 
+/* Whether a side reports a release that the other side, which has the link open, knows nothing of. */
+static bool released_alone(int role, const struct link_state *k)
+{
+	return k->closed[role] && k->why[role] == BY_RELEASE && k->opened[!role] && !k->closed[!role];
+}
+
 /* Why a session did not end well, by what a side reported; 1 is the error of libosmogsm for a timer that expired N200 times. */
 static void find_cause(void)
 {
@@ -259,6 +265,8 @@ static void find_cause(void)
 				what = !k->opened[r] ? "gives up its SABM" : k->asked_close && r == plan->closer ? "gives up its DISC" : "gives up its I frame";
 			else if (!is_um(r) && k->errors[r] & 1u << 7)
 				what = "reports a sequence error and drops a message";
+			else if (!is_um(r) && released_alone(r, k))
+				what = "takes the UA to its repeated SABM for the answer to its DISC";
 			if (what) {
 				snprintf(result.cause, sizeof result.cause, "%s %s", name, what);
 				return;

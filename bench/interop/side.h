@@ -17,6 +17,8 @@ struct player {
 	bool (*send)(struct side *, int link, const um_message *);
 	bool (*unit)(struct side *, int link, const um_message *);
 	bool (*close)(struct side *, int link);
+	/* a mobile returns to its old channel: it opens SAPI 0 again, and libosmogsm sends this message then */
+	bool (*resume)(struct side *, const um_message *);
 	void (*take)(struct side *, const uint8_t block[23]);
 	bool (*next)(struct side *, uint8_t block[23]); /* the block to send; false: nothing is queued, and it is a fill frame */
 	void (*timers)(struct side *);
@@ -30,6 +32,7 @@ struct side {
 	const struct player *player;
 	uint8_t role, on;  /* um_role, um_channel */
 	bool alone;        /* SAPI 0 is not of the session: it is established */
+	bool normal;       /* SAPI 0 is opened without information */
 	bool polled;       /* libosmogsm hands out a frame when the air has room, as in osmo-bts; else as soon as it has one */
 	long t200;         /* TDMA frames */
 	/* octets of OPENED, GOT and UNIT, else none; the number of ACKED, of CLOSED (enum closed) or of ERROR (its cause) */

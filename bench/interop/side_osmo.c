@@ -148,6 +148,11 @@ static bool close_link(struct side *s, int link)
 	return asked(s, link, RSL_MT_REL_REQ, &normal);
 }
 
+static bool resume(struct side *s, const um_message *m)
+{
+	return asked(s, LINK0, RSL_MT_RECON_REQ, m);
+}
+
 static void take(struct side *s, const uint8_t block[23])
 {
 	struct osmo_phsap_prim prim;
@@ -198,4 +203,4 @@ static void end(struct side *s)
 	free(s->own);
 }
 
-const struct player osmo_player = { "libosmogsm", begin, open_link, send, unit, close_link, take, next, timers, end };
+const struct player osmo_player = { "libosmogsm", begin, open_link, send, unit, close_link, resume, take, next, timers, end };

@@ -82,7 +82,8 @@ static void begin(struct side *s)
 	long slots = (s->t200 + block_of(s) - 1) / block_of(s);
 	uint8_t t200 = (uint8_t)(slots > 253 ? 253 : slots);
 	l->last = now;
-	if (!um_datalink_new(&l->link, s->role, s->on, t200, t200 + 2) || um_datalink_main(&l->link, true) != UM_END_DONE)
+	if (!um_datalink_new_for(&l->link, s->role, s->on, s->normal ? UM_NORMAL : UM_BY_CONTENTION, t200, t200 + 2) ||
+	    um_datalink_main(&l->link, true) != UM_END_DONE)
 		abort();
 	if (s->alone && s->role == UM_MOBILE && s->on == UM_SDCCH)
 		establish(&l->link);
@@ -90,8 +91,7 @@ static void begin(struct side *s)
 
 static bool open_link(struct side *s, int link, const um_message *info)
 {
-	(void)link;
-	return (info->count ? um_datalink_open(link_of(s), info) : um_datalink_open_bare(link_of(s))) == UM_END_DONE;
+	return (info->count ? um_datalink_open(link_of(s), info) : um_datalink_establish(link_of(s), SAPIS[link])) == UM_END_DONE;
 }
 
 static bool send(struct side *s, int link, const um_message *m)
@@ -111,6 +111,12 @@ static bool unit(struct side *s, int link, const um_message *m)
 static bool close_link(struct side *s, int link)
 {
 	return um_datalink_close(link_of(s), SAPIS[link]) == UM_END_DONE;
+}
+
+static bool resume(struct side *s, const um_message *m)
+{
+	(void)m;
+	return um_datalink_establish(link_of(s), 0) == UM_END_DONE;
 }
 
 static void take(struct side *s, const uint8_t block[23])
@@ -150,7 +156,7 @@ static void timers(struct side *s)
 	l->last = now;
 }
 
-const struct player um_player = { "um", begin, open_link, send, unit, close_link, take, next, timers, end };
+const struct player um_player = { "um", begin, open_link, send, unit, close_link, resume, take, next, timers, end };
 
 /* -- endpoints, one queue, T200 from the call -- */
 
@@ -245,5 +251,5 @@ static void plain_timers(struct side *s)
 }
 
 const struct player plain_player = {
-	"um, T200 from the call", plain_begin, plain_open, plain_send, plain_unit, plain_close, plain_take, plain_next, plain_timers, end
+	"um, T200 from the call", plain_begin, plain_open, plain_send, plain_unit, plain_close, NULL, plain_take, plain_next, plain_timers, end
 };

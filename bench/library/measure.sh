@@ -25,6 +25,11 @@ if command -v valgrind >"$work/where"; then
     less=$(GLIBC_TUNABLES=$vectors instructions datalinks 500 1 $call)
     echo "call $call of datalinks.c: $(((more - less) / 1000)) instructions"
   done
+  cc -static -std=gnu99 -O2 -Ibindings/c bench/library/counted.c crates/um_c/out/libum_c.a -o "$work/counted" || exit 1
+  sed -n 's/ [0-9,]* instructions$//p' bench/library/measured.txt | while read -r call; do
+    echo "$call: $(GLIBC_TUNABLES=$vectors valgrind --tool=callgrind --callgrind-out-file=/dev/null --toggle-collect="$call" \
+      "$work/counted" 2>&1 | sed -n 's/.*Collected *: *//p') instructions"
+  done
 fi
 cc -std=gnu99 -O2 -Ibindings/c bench/library/bench.c crates/um_c/out/libum_c.a -o "$work/bench" -losmocoding -losmocore || exit 1
 "$work/bench" "$@"

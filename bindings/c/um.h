@@ -436,7 +436,7 @@ UM_ENUM(um_heard) um_traffic_end(um_traffic *traffic, um_traffic_block *block) U
  * last waits for the next such frame; FACCH goes before speech. A burst carries halves of two blocks, and none where neither has one there:
  * nothing is to be sent then. SACCH is the caller's.
  *
- *   if (um_datalink_next(..) has a block) um_traffic_sender_facch(&sender, octets);
+ *   if (um_datalink_next(&link, ..) == UM_END_DONE) um_traffic_sender_facch(&sender, octets);
  *   else if (there is speech) um_traffic_sender_speech(&sender, block);
  *   if (um_traffic_sender_burst(&sender, frame, burst) == UM_SENDING_BURST) transmit(burst); */
 typedef struct um_traffic_sent {
@@ -466,7 +466,7 @@ enum UM_OCTET um_sending {
 /* Initialises a sender that has no block. False: no such traffic channel or direction, or tsc is above 7. */
 bool um_traffic_sender_new(um_traffic_sender *sender, uint8_t channel, uint8_t direction, uint8_t tsc) UM_NONNULL;
 
-/* Gives a block of FACCH, in place of speech that waits. False: a block of FACCH waits, or the state is not valid. */
+/* Gives a block of FACCH, in place of speech that waits. False: a block of FACCH waits, or tsc of the sender is above 7. */
 bool um_traffic_sender_facch(um_traffic_sender *sender, const uint8_t octets[23]) UM_CALL;
 
 /* Gives a block of speech, in place of one that waits. False: a block of FACCH waits, which steals its place, or an octet is neither 0 nor
@@ -519,6 +519,16 @@ UM_ENUM(um_reading) um_read_frame(const uint8_t octets[23], uint8_t channel, um_
 /* Encodes a frame into its canonical block: layer 1 octets 00, fill octets 2b. In a field of one bit any value but 0 means 1. Fields
  * that the kind does not have are ignored. False: the fields describe no frame that fits the channel. */
 bool um_write_frame(const um_frame *frame, uint8_t channel, uint8_t octets[23]) UM_CALL;
+
+/* Format B4: the network's UI frames of SAPI 0 on SACCH, with system information, have 19 octets and no length octet. The octets do not
+ * tell the format: call um_read_b4 first for each block of SACCH from a network, and um_datalink_take or um_read_frame if it is false. */
+
+/* Reads the 19 octets of a frame of format B4 in a block; the layer 1 octets and P may have any value. False: the address octet is not 03, or
+ * the control octet is neither 03 nor 13. */
+bool um_read_b4(const uint8_t octets[23], uint8_t info[19]) UM_CALL;
+
+/* Writes a block with a frame of format B4, with P = 0. System information begins with its L2 pseudo length: 49 for 5, 2d for 6. */
+void um_write_b4(const uint8_t layer1[2], const uint8_t info[19], uint8_t octets[23]) UM_NONNULL;
 
 /* Endpoints: one end of a LAPDm link in acknowledged mode (3GPP TS 44.006, 5), the mobile's or the network's.
  *
@@ -802,6 +812,17 @@ UM_ENUM(um_answer) um_datalink_take(um_datalink *link, const uint8_t block[23], 
 /* Writes the block for this slot. UM_END_DONE: a frame of SAPI 0 or 3. UM_END_FREE: nothing is to be sent, and the block is the fill
  * frame. The report has the links that were given up (UM_ENDED, UM_FAILED). */
 UM_ENUM(um_answer) um_datalink_next(um_datalink *link, const uint8_t layer1[2], uint8_t block[23], um_report *report) UM_CALL;
+
+/* What a block shows of the other side, if that breaks the rules. */
+enum UM_OCTET um_fault {
+	UM_NO_FAULT, /* nothing; also if the octets are not a frame, or the struct is no data link */
+	UM_FAULT_NR, /* an N(R) on the open link that is outside V(A) to V(S) */
+	UM_FAULT_UA, /* a UA on the open link */
+	UM_FAULT_DM  /* a DM with F = 1 on the open link that answers no repeat with P = 1 */
+};
+
+/* The um_fault of a block that arrived. Call it before um_datalink_take, which takes the block in any case: nothing follows from a fault. */
+UM_ENUM(um_fault) um_datalink_fault(const um_datalink *link, const uint8_t block[23]) UM_CALL;
 
 /* An answer said twice: an RR that is lost costs the other side a T200, and one that comes twice changes nothing there. */
 typedef struct um_said {

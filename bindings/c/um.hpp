@@ -334,6 +334,27 @@ inline checked<block> write_frame(const um_frame &fields, channel on = channel::
 	return octets;
 }
 
+// The information of a frame of format B4 in a block of SACCH from a network.
+inline checked<std::array<std::uint8_t, 19>> read_b4(block_view octets)
+{
+	std::array<std::uint8_t, 19> info{};
+	if (!octets.data())
+		return invalid::count;
+	if (!um_read_b4(octets.data(), info.data()))
+		return invalid::frame;
+	return info;
+}
+
+// The block of SACCH from a network with these two layer 1 octets and a frame of format B4 with this information.
+inline checked<block> write_b4(view<std::uint8_t, 2> layer1, view<std::uint8_t, 19> info)
+{
+	block octets;
+	if (!layer1.data() || !info.data())
+		return invalid::count;
+	um_write_b4(layer1.data(), info.data(), octets.data());
+	return octets;
+}
+
 } // namespace um
 
 #include "um_ends.hpp"

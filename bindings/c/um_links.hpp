@@ -102,6 +102,12 @@ public:
 		return report;
 	}
 
+	// what the block shows of the other side if that breaks the rules; call it before take, which takes the block in any case
+	um::fault fault(block_view octets) const
+	{
+		return octets.data() ? um::fault(um_datalink_fault(&plain, octets.data())) : um::fault::none;
+	}
+
 	sent_block next(std::array<std::uint8_t, 2> layer1 = {})
 	{
 		sent_block sent;

@@ -67,6 +67,13 @@ static inline const char *um_reason_name(unsigned reason)
 	return UM_NAME(names, reason);
 }
 
+/* A um_fault. */
+static inline const char *um_fault_name(unsigned fault)
+{
+	static const char *const names[] = { "none", "nr", "ua", "dm" };
+	return UM_NAME(names, fault);
+}
+
 /* A um_answer: why a call of an endpoint was refused. */
 static inline const char *um_answer_name(unsigned answer)
 {

@@ -19,6 +19,7 @@ enum class state : std::uint8_t { idle, opening, open, closing, closed };
 enum class kind : std::uint8_t { i, rr, rnr, rej, sabm, dm, ui, disc, ua };
 enum class notice_kind : std::uint8_t { none, opened, got, unit, acked, oversize, closed };
 enum class reason : std::uint8_t { contention, failed, refused, released };
+enum class fault : std::uint8_t { none, nr, ua, dm };
 enum class answer : std::uint8_t { ok, notidle, notopen, notrunning, empty, toolong, full, noend, nocall, noframe, free, count = 255 };
 enum class reading : std::uint8_t { frame, lpd, ea, control, el, length, empty, more, nochannel, count = 255 };
 enum class repaired : std::uint8_t { holds, repaired, norepair, nobits };
@@ -44,6 +45,7 @@ inline std::string_view name(state value) { return um_state_name(number(value));
 inline std::string_view name(kind value) { return um_kind_name(number(value)); }
 inline std::string_view name(notice_kind value) { return um_notice_name(number(value)); }
 inline std::string_view name(reason value) { return um_reason_name(number(value)); }
+inline std::string_view name(fault value) { return um_fault_name(number(value)); }
 inline std::string_view name(answer value) { return value == answer::count ? "count" : um_answer_name(number(value)); }
 inline std::string_view name(reading value) { return value == reading::count ? "count" : um_reading_name(number(value)); }
 inline std::string_view name(repaired value) { return um_repaired_name(number(value)); }

@@ -1,7 +1,7 @@
 // datalink.mjs - one side of a channel with its loop.
 import { integer, membersOf, octetsOf, place, putOctets } from "./arguments.mjs";
 import { END, End, headOf, restoredHead, sapiOf } from "./ends.mjs";
-import { CHANNELS, ESTABLISHMENTS, REFUSALS, Refused, ROLES, STATES } from "./words.mjs";
+import { CHANNELS, ESTABLISHMENTS, FAULTS, REFUSALS, Refused, ROLES, STATES } from "./words.mjs";
 
 // um_datalink: two um_timed_end, each a um_end with padding, 28 octets more and padding; two octets; and padding
 const TIMED = 2616;
@@ -99,6 +99,13 @@ export class DataLink {
     putOctets(m.octets, m.second, "block", block, 23);
     this.#call("um_datalink_take", m.SECOND, m.OUTPUT);
     return m.linkNotices();
+  }
+  fault(block) {
+    const m = this.#machine;
+    putOctets(m.octets, m.second, "block", block, 23);
+    m.octets.set(this.#state, m.input);
+    const found = m.call("um_datalink_fault", m.INPUT, m.SECOND);
+    return found === 0 ? null : FAULTS[found - 1];
   }
   next(layer1 = [0, 0]) {
     const m = this.#machine;

@@ -19,6 +19,8 @@ export type State = "idle" | "opening" | "open" | "closing" | "closed";
 /** Why 23 octets are not a frame. */
 export type Unread = "lpd" | "ea" | "control" | "el" | "length" | "empty" | "more";
 /** Why a link was closed. */
+/** What a block shows of the other side: an N(R) outside V(A) to V(S), a UA, or a DM with F = 1 that answers no repeat with P = 1. */
+export type Fault = "nr" | "ua" | "dm";
 export type Reason = "contention" | "failed" | "refused" | "released";
 /** Why an endpoint refuses a call. */
 export type Refusal = "notidle" | "notopen" | "notrunning" | "empty" | "toolong" | "full" | "noend" | "nocall" | "noframe";

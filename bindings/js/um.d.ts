@@ -1,7 +1,7 @@
 import type {
   Numbers, Octets, Bits, SoftBits, Kind, Channel, Role, State, Unread, Reason, Refusal, SlotRefusal, Combination, Direction,
   LogicalChannel, Bit, Sapi, Report, BlockReport, Erasure, SlotBlock, Sch, Place, Margin, Repair, Frame, FrameFields, Notice,
-  LinkNotice, Sent, Effects, Variables, Establishment, TrafficChannel, TrafficKind, TrafficRefusal, TrafficPlace, TrafficBlock,
+  LinkNotice, Sent, Effects, Variables, Establishment, Fault, TrafficChannel, TrafficKind, TrafficRefusal, TrafficPlace, TrafficBlock,
 } from "./types.js";
 
 export * from "./types.js";
@@ -12,6 +12,7 @@ export const KINDS: readonly Kind[];
 export const CHANNELS: readonly Channel[];
 export const ROLES: readonly Role[];
 export const ESTABLISHMENTS: readonly Establishment[];
+export const FAULTS: readonly Fault[];
 export const STATES: readonly State[];
 export const NOTICES: readonly Notice["kind"][];
 export const REASONS: readonly Reason[];
@@ -110,6 +111,12 @@ export class Um {
   readFrame(octets: Octets, channel?: Channel): Frame | { unread: Unread };
   /** Encodes a frame into the 23 octets of its block, with layer 1 octets 00 on SACCH and fill octets 2b. */
   writeFrame(frame: FrameFields | Frame, channel?: Channel): Uint8Array;
+  /** The 19 octets of a UI frame of format B4, such as system information, in a block of SACCH from a network. Null: the address or the
+   * control octet is of another frame. */
+  readB4(octets: Octets): Uint8Array | null;
+  /** The block of SACCH from a network with two layer 1 octets (00) and a UI frame of format B4 with 19 octets. System information begins
+   * with its L2 pseudo length. */
+  writeB4(info: Octets, layer1?: Octets): Uint8Array;
 
   /** Splits a frame number into T1 (frame / 1326), T2 (frame % 26) and T3 (frame % 51). */
   timeOfFrame(frame: number): { t1: number; t2: number; t3: number };
@@ -403,6 +410,8 @@ export class DataLink {
   main(established: boolean): void;
   /** Processes a received block of 23 octets. */
   take(block: Octets): LinkNotice[];
+  /** The fault that a received block shows on an open link, if any. Ask before `take`, which takes the block in any case. */
+  fault(block: Octets): Fault | null;
   /** The block for this slot. On SACCH it begins with the two octets of `layer1`. */
   next(layer1?: Octets): Sent;
   /** Whether nothing waits for a slot and no frame awaits an answer, so that each next slot is free until a call or a block changes it. */

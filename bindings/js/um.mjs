@@ -20,7 +20,7 @@ import { frameOfTime, nextBlock, placeFrame, readBsic, readRa, readSch, timeOfFr
 import { CHANNELS, KINDS, Refused, ROLES, SAPIS, UNREAD, VERSION } from "./words.mjs";
 
 export { softFromBits, softFromLlr, softFromSbits, softFromTrx } from "./arguments.mjs";
-export { CHANNELS, ESTABLISHMENTS, KINDS, NOTICES, REASONS, REFUSALS, Refused, ROLES, STATES, UNREAD } from "./words.mjs";
+export { CHANNELS, ESTABLISHMENTS, FAULTS, KINDS, NOTICES, REASONS, REFUSALS, Refused, ROLES, STATES, UNREAD } from "./words.mjs";
 export { COMBINATIONS, DIRECTIONS, LOGICAL_CHANNELS, SLOT_REFUSALS } from "./words.mjs";
 export { TRAFFIC_CHANNELS, TRAFFIC_KINDS, TRAFFIC_REFUSALS, VERSION } from "./words.mjs";
 export { End, Side } from "./ends.mjs";
@@ -152,6 +152,21 @@ export class Um {
     m.octets.set(fields, m.input);
     m.octets.set(octets, m.input + 8);
     m.told("um_write_frame", m.INPUT, at, m.OUTPUT);
+    return m.copy(m.output, BLOCK_OCTETS);
+  }
+
+  readB4(octets) {
+    const m = this.#machine;
+    putOctets(m.octets, m.input, "octets", octets, BLOCK_OCTETS);
+    return m.call("um_read_b4", m.INPUT, m.OUTPUT) ? m.copy(m.output, 19) : null;
+  }
+
+  writeB4(info, layer1 = [0, 0]) {
+    const m = this.#machine;
+    const two = octetsOf("layer1", layer1, 2);
+    putOctets(m.octets, m.input, "info", info, 19);
+    m.octets.set(two, m.second);
+    m.call("um_write_b4", m.SECOND, m.INPUT, m.OUTPUT);
     return m.copy(m.output, BLOCK_OCTETS);
   }
 

@@ -13,6 +13,7 @@ export const TRAFFIC_KINDS = Object.freeze(["sacch", "facch", "stolen", "speech"
 export const DIRECTIONS = Object.freeze(["downlink", "uplink"]);
 export const ROLES = Object.freeze(["mobile", "network"]);
 export const ESTABLISHMENTS = Object.freeze(["contention", "normal"]);
+export const FAULTS = Object.freeze(["nr", "ua", "dm"]);
 export const STATES = Object.freeze(["idle", "opening", "open", "closing", "closed"]);
 export const UNREAD = Object.freeze(["lpd", "ea", "control", "el", "length", "empty", "more"]);
 export const NOTICES = Object.freeze(["opened", "got", "unit", "acked", "oversize", "closed"]);

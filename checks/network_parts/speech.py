@@ -1,9 +1,11 @@
 """Speech of a traffic channel, coded and decoded by libosmocoding, which osmo-bts needs anyway. A frame says who speaks, and when."""
 import ctypes
 
+import um
+
 coding = ctypes.CDLL("libosmocoding.so.0")
-NOTHING = 9  # an octet that libosmocoding does not write
-SPAN = {"full_rate": 8, "half_rate_0": 6, "half_rate_1": 6}  # bursts that a decoder takes
+SPAN = {"full_rate": 8, "half_rate_0": 6, "half_rate_1": 6}  # bursts that a decoder takes, and that carry a block of FACCH
+STEP = {"full_rate": 4, "half_rate_0": 2, "half_rate_1": 2}  # bursts from the end of a frame of speech to that of the next
 FACCH = 23  # octets
 
 
@@ -19,21 +21,20 @@ def said_in(octets):
     return speaker, fn, octets[1:] == frame_of("full_rate" if len(octets) == 33 else "half_rate_0", speaker, fn)[1:]
 
 
-def halves_of(rate, octets):
-    """The bits of a frame of speech by burst and by the parity of their coded bits: for examples/network/channels.py."""
-    out = ctypes.create_string_buffer(bytes([NOTHING]) * 928)
+def block_of(rate, octets, tsc):
+    """A frame of speech, at half rate twice, as four joined bursts: for examples/network/channels.py."""
+    out = ctypes.create_string_buffer(928)
     encode = (lambda: coding.gsm0503_tch_fr_encode(out, octets, len(octets), 1)) if rate == "full_rate" else (
         lambda: coding.gsm0503_tch_hr_encode(out, octets, len(octets)))
     if encode():
         raise ValueError(f"libosmocoding does not code {octets.hex()}")
-    halves = {}
-    for burst in range(8):
-        row = out.raw[116 * burst : 116 * burst + 116]
-        for odd in (0, 1):
-            bits = (row[:57] + row[59:])[odd::2]
-            if NOTHING not in bits:
-                halves[burst, odd] = bits
-    return halves
+    rows = [out.raw[at : at + 116] for at in range(0, 928, 116)]
+    bursts = []
+    for b, burst in enumerate(um.send_block(bytes(23), tsc)):
+        bits = bytearray(rows[b] if rate == "full_rate" else rows[b % 2])
+        bits[1::2] = rows[b + 4 if rate == "full_rate" else b % 2 + 2][1::2]
+        bursts.append(burst[:3] + bits[:58] + burst[61:87] + bits[58:] + burst[145:])
+    return bursts
 
 
 def decoded(rate, bursts, is_odd=False):

@@ -72,7 +72,7 @@ class Watched(Mobile):
             return
         self.sent_traffic.append(burst)
         self.heard_traffic.append(soft or bytes(148))
-        if not self.channel.is_speech or place.burst % self.channel.step != self.channel.step - 1:
+        if not self.channel.is_speech or (place.burst + 1) % speech.STEP[rate]:
             return
         heard = list(self.heard_traffic)[-speech.SPAN[rate] :]
         octets = speech.decoded(rate, heard, place.ends is None) if len(heard) == speech.SPAN[rate] else b""
@@ -87,7 +87,7 @@ class Watched(Mobile):
         if octets:
             self.compare(name, octets, block)
             # a block of FACCH has half of each training sequence, so that lost bursts leave too little of it
-            is_told = name != "FACCH" or block.heard == self.channel.size
+            is_told = name != "FACCH" or block.heard == speech.SPAN[self.channel.rate]
             self.expect(not is_told or block.report.tsc == TSCS[self.station.number], f"{name}: {octets.hex()}, tsc {block.report.tsc}")
             if name == "BCCH" or name == "CCCH" and octets[2] == 0x3F:
                 known = octets in self.station.rsl.common or not any(octets)  # zeros until the controller gave a block
@@ -97,8 +97,9 @@ class Watched(Mobile):
     def compare(self, name, octets, block):
         """Tests that the base station sent this block: one of FACCH by libosmocoding."""
         if name == "FACCH":
-            bursts = list(self.sent_traffic)[-self.channel.size :]
-            if None in bursts or len(bursts) < self.channel.size:
+            size = speech.SPAN[self.channel.rate]
+            bursts = list(self.sent_traffic)[-size:]
+            if None in bursts or len(bursts) < size:
                 self.cell.counts["blocks accepted of which not all bursts were sent"] += 1
             else:
                 sent = speech.decoded(self.channel.rate, [burst.translate(SOFT) for burst in bursts])
@@ -148,7 +149,7 @@ class Watched(Mobile):
         self.visits.append(self.visit)
         self.sent_traffic, self.heard_traffic, self.sent_kind = collections.deque(maxlen=8), collections.deque(maxlen=8), {}
         if channel.main == um.Channel.FACCH and self.cell.options.speech:
-            channel.speech = lambda fn: speech.halves_of(channel.rate, speech.frame_of(channel.rate, self.index, fn))
+            channel.speech = lambda fn, tsc: speech.block_of(channel.rate, speech.frame_of(channel.rate, self.index, fn), tsc)
 
     def _assigned(self, description):
         super()._assigned(description)

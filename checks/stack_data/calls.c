@@ -13,7 +13,7 @@ static unsigned char stack[SIZE];
 static ucontext_t here, there;
 
 /* what the calls read and write */
-static uint8_t octets[23], block[23], layer1[2], bits[4][148], stolen[8][148], stream[114], access_bits[88], sync_bits[148], word[228], info[25], bsic[6], sapi, tsc, wrong[4], ra;
+static uint8_t octets[23], block[23], b4[19], layer1[2], bits[4][148], stolen[8][148], stream[114], access_bits[88], sync_bits[148], word[228], info[25], bsic[6], sapi, tsc, wrong[4], ra;
 static int8_t soft[4][148], halves[8][148], joined[4][148];
 static uint32_t rank, frame_number;
 static int32_t flags;
@@ -94,6 +94,8 @@ static volatile uint32_t answer;
 	X(um_soft_cipher, um_soft_cipher(soft[0], stream)) \
 	X(um_read_frame, um_read_frame(block, UM_SDCCH, &frame)) \
 	X(um_write_frame, um_write_frame(&frame, UM_SDCCH, octets)) \
+	X(um_read_b4, um_read_b4(octets, b4)) \
+	X(um_write_b4, (um_write_b4(layer1, b4, octets), 0)) \
 	X(um_end_new, um_end_new(&end, UM_MOBILE, 0, UM_SDCCH)) \
 	X(um_end_open, um_end_open(&end, &message, &effects)) \
 	X(um_end_open_bare, um_end_open_bare(&side.link3, &effects)) \
@@ -126,6 +128,7 @@ static volatile uint32_t answer;
 	X(um_datalink_main, um_datalink_main(&link, true)) \
 	X(um_datalink_take, um_datalink_take(&link, block, &told)) \
 	X(um_datalink_next, um_datalink_next(&link, layer1, octets, &told)) \
+	X(um_datalink_fault, um_datalink_fault(&link, block)) \
 	X(um_say_again, um_say_again(&said, UM_SDCCH, UM_END_DONE, octets))
 
 #define BODY(name, call) static void try_##name(void) { answer += (uint32_t)(call); }

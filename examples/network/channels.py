@@ -5,9 +5,6 @@ Each has `hear`, which takes a burst and returns the blocks that are then comple
 import um
 from um import Channel
 
-SPEECH_STEP = {"full_rate": 4, "half_rate_0": 2, "half_rate_1": 2}  # traffic bursts from the begin of a frame of speech to that of the next
-FACCH_BURSTS = {"full_rate": 8, "half_rate_0": 6, "half_rate_1": 6}
-
 
 class UnknownChannel(ValueError):
     """A channel number that is not of an SDCCH or a traffic channel."""
@@ -83,20 +80,19 @@ class Sdcch:
 
 class Traffic(Sdcch):
     """A traffic channel: FACCH in halves of bursts that it steals from speech, and SACCH. `speech`, if there is one, is asked for each
-    frame of speech with the frame number, and says the bits of its halves of bursts: pairs of a burst, from 0, and whether the half is that
-    of the odd coded bits, with 57 bits. Without it nothing is sent between blocks of FACCH. `is_speech`: what the channel is for."""
+    block of speech with the frame number and the training sequence, and says the four joined bursts that `um.TrafficSender` takes. Without
+    it nothing is sent between blocks of FACCH. `is_speech`: what the channel is for."""
 
     main = Channel.FACCH
 
     def __init__(self, rate, combination, subchannel, tn, words):
         super().__init__(combination, subchannel, tn, um.Traffic(rate, "downlink", tn, words))
         self.rate, self.name = rate, "FACCH/F" if rate == "full_rate" else "FACCH/H"
-        self.step, self.size = SPEECH_STEP[rate], FACCH_BURSTS[rate]
-        self.waiting, self.stolen, self.is_speech, self.speech = [None] * 8, False, False, None
+        self.sender, self.is_speech, self.speech = None, False, None
 
     def leave(self):
         super().leave()
-        self.waiting, self.stolen = [None] * 8, False
+        self.sender = None
 
     def is_main(self, fn):
         return um.place_traffic(self.rate, "uplink", fn) is not None
@@ -108,27 +104,11 @@ class Traffic(Sdcch):
         place = um.place_traffic(self.rate, "uplink", fn)
         if place is None:
             return super().speak(fn, tsc, next_block)
-        if place.burst % self.step == 0:
-            self.waiting = self.waiting[self.step :] + [None] * self.step
-            block = next_block(self.main) if place.begins is not None else None
+        self.sender = self.sender or um.TrafficSender(self.rate, "uplink", tsc)
+        if place.begins is not None:
+            block = next_block(self.main)
             if block:
-                self._steal(um.send_block(block, tsc))
-            elif self.speech and self.is_speech and not self.stolen:
-                self._put(self.speech(fn), tsc)
-            self.stolen = bool(block) and self.rate != "full_rate"  # FACCH at half rate steals two frames of speech
-        return self.waiting[place.burst % self.step]
-
-    def _steal(self, block):
-        whole = [burst or bytes(148) for burst in self.waiting[: self.size]]
-        self.waiting[: self.size] = um.steal_facch(block, whole)
-
-    def _put(self, halves, tsc):
-        """Writes a frame of speech into halves of bursts; their stealing flags are 0."""
-        for (burst, odd), bits in halves.items():
-            row = bytearray(self.waiting[burst] or um.send_block(bytes(23), tsc)[0])
-            if self.waiting[burst] is None:
-                row[3:61], row[87:145] = bytes(58), bytes(58)
-            places = [*range(3, 60), *range(88, 145)][odd::2]
-            for at, bit in zip(places, bits):
-                row[at] = bit
-            self.waiting[burst] = bytes(row)
+                self.sender.facch(block)
+            elif self.speech and self.is_speech:
+                self.sender.speech(self.speech(fn, tsc))
+        return self.sender.burst(fn)

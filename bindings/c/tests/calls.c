@@ -17,7 +17,7 @@ static void check(bool holds, const char *what)
 	}
 }
 
-typedef uint8_t block_bursts[4][148], access_burst[88], sync_burst[148], block_octets[23];
+typedef uint8_t block_bursts[4][148], access_burst[88], sync_burst[148], block_octets[23], b4_octets[19];
 
 /* A value with sixteen marked octets on either side. */
 #define ROOM(type) struct { uint8_t before[16]; type value; uint8_t after[16]; }
@@ -243,6 +243,41 @@ static void frames(void)
 	check(!um_write_frame(&i_frame, 2, octets.value) && UNTOUCHED(octets), "there is no channel 2");
 }
 
+/* System information 6 by 3GPP TS 44.018, 9.1.40: L2 pseudo length 11, cell identity, location area, cell options, NCC permitted, rest octets;
+ * in a block of SACCH with layer 1 octets 05 03. */
+static const uint8_t si6_block[23] = {
+	0x05, 0x03, 0x03, 0x03,
+	0x2d, 0x06, 0x1e, 0x00, 0x01, 0x62, 0xf2, 0x10, 0x00, 0x01, 0x05, 0xff, 0x8b, 0x2b, 0x2b, 0x2b, 0x2b, 0x2b, 0x2b,
+};
+
+static void format_b4(void)
+{
+	ROOM(b4_octets) info;
+	ROOM(block_octets) octets;
+	uint8_t block[23];
+
+	MARK(info);
+	check(um_read_b4(si6_block, info.value) && AROUND(info) && !memcmp(info.value, si6_block + 4, 19), "system information 6 is read whole");
+	MARK(octets);
+	um_write_b4(si6_block, si6_block + 4, octets.value);
+	check(AROUND(octets) && !memcmp(octets.value, si6_block, 23), "and written");
+
+	memcpy(block, si6_block, 23);
+	block[3] = 0x13;
+	check(um_read_b4(block, info.value), "with P = 1");
+	MARK(info);
+	static const struct { uint8_t place, octet; } others[] = { { 2, 0x01 }, { 2, 0x0f }, { 2, 0x83 }, { 2, 0x02 }, { 3, 0x01 }, { 3, 0x3f }, { 3, 0x23 } };
+	for (size_t i = 0; i < sizeof others / sizeof *others; i++) {
+		memcpy(block, si6_block, 23);
+		block[others[i].place] = others[i].octet;
+		check(!um_read_b4(block, info.value) && UNTOUCHED(info), "another frame is none of format B4");
+	}
+
+	um_frame si5 = { .kind = UM_UI, .cr = 1, .count = 18, .info = { 0x06, 0x1d } };
+	check(um_write_frame(&si5, UM_SACCH, block) && um_read_b4(block, info.value) && info.value[0] == 0x49 && info.value[2] == 0x1d,
+		"a length octet of 18 octets is the L2 pseudo length of system information 5");
+}
+
 static void read_bits(const char *digits, uint8_t *bits, int count)
 {
 	for (int i = 0; i < count; i++)
@@ -302,6 +337,7 @@ int main(int argc, char **argv)
 	repairs();
 	bursts();
 	frames();
+	format_b4();
 	if (!failed)
 		printf("library: each call from C behaves as the header states; %d vectors\n", count);
 	return failed;

@@ -157,6 +157,69 @@ static void test_loss(void)
 	check(reports(&p.reports[0], 0, UM_ACKED, 0) && is_free(&p, 0) && p.sides[0].link0.end.repeats == 0, "acked");
 }
 
+/* The mobile takes a frame that the network did not send. */
+static bool takes(pair *p, const char *octets, um_report *r)
+{
+	uint8_t block[23];
+	memset(block, 0x2b, sizeof block);
+	memcpy(block, octets, 3);
+	return um_datalink_take(&p->sides[0], block, r) == UM_END_DONE;
+}
+
+/* A DM with F = 1 ends the open link if it answers a repeat with P = 1, and one with F = 0 always. */
+static void test_dm(void)
+{
+	pair p;
+	um_message m = message_of(9, 1);
+	um_report r;
+	open_both(&p, UM_SDCCH);
+	check(takes(&p, "\x01\x1f\x01", &r) && r.notice_count == 0 && p.sides[0].link0.end.state == UM_OPEN, "nothing awaits an answer");
+	check(um_datalink_send(&p.sides[0], 0, &m) == UM_END_DONE, "a call of layer 3");
+	fill(&p, 1);
+	check(sends(&p, 0, "\x01\x00\x05\x09", 4) && takes(&p, "\x01\x1f\x01", &r) && r.notice_count == 0, "P = 0");
+	fill(&p, 1);
+	fill(&p, 1);
+	check(sends(&p, 0, "\x01\x10\x05\x09", 4) && takes(&p, "\x01\x1f\x01", &r), "P = 1");
+	check(reports(&r, 0, UM_ENDED, 0) && r.notices[0].reason == UM_FAILED, "the answer to the repeat");
+	open_both(&p, UM_SDCCH);
+	check(takes(&p, "\x01\x0f\x01", &r) && reports(&r, 0, UM_ENDED, 0) && r.notices[0].reason == UM_FAILED, "F = 0");
+}
+
+static bool shows(const pair *p, const char *octets, size_t count, unsigned fault)
+{
+	uint8_t block[23];
+	memset(block, 0x2b, sizeof block);
+	memcpy(block, octets, count);
+	return um_datalink_fault(&p->sides[0], block) == fault;
+}
+
+/* What the network may not send: V(A) = V(S) = 0, and then V(S) = 1. */
+static void test_faults(void)
+{
+	pair p;
+	um_message m = message_of(9, 1);
+	start(&p, UM_SDCCH);
+	check(um_datalink_open(&p.sides[0], &m) == UM_END_DONE && shows(&p, "\x01\x73\x05\x08", 4, UM_NO_FAULT), "a UA is awaited");
+	open_both(&p, UM_SDCCH);
+	check(shows(&p, "\x01\x73\x01", 3, UM_FAULT_UA) && shows(&p, "\x01\x63\x01", 3, UM_FAULT_UA), "a UA, F = 1 and 0");
+	check(shows(&p, "\x01\x1f\x01", 3, UM_FAULT_DM) && shows(&p, "\x01\x0f\x01", 3, UM_NO_FAULT), "a DM, F = 1 and 0");
+	check(shows(&p, "\x01\x01\x01", 3, UM_NO_FAULT) && shows(&p, "\x01\x21\x01", 3, UM_FAULT_NR), "RR 0 and 1");
+	check(shows(&p, "\x03\x00\x05\x07", 4, UM_NO_FAULT) && shows(&p, "\x03\xe0\x05\x07", 4, UM_FAULT_NR), "an I frame, N(R) = 0 and 7");
+	check(shows(&p, "\x0d\x73\x01", 3, UM_NO_FAULT) && shows(&p, "\x03\x73\x01", 3, UM_NO_FAULT), "SAPI 3 is idle; a UA is no command");
+	check(um_datalink_send(&p.sides[0], 0, &m) == UM_END_DONE, "a call of layer 3");
+	fill(&p, 1);
+	check(shows(&p, "\x01\x21\x01", 3, UM_NO_FAULT) && shows(&p, "\x01\x41\x01", 3, UM_FAULT_NR), "RR 1 and 2");
+	check(shows(&p, "\x01\x25\x01", 3, UM_NO_FAULT) && shows(&p, "\x01\x45\x01", 3, UM_FAULT_NR), "RNR 1 and 2");
+	check(shows(&p, "\x01\x29\x01", 3, UM_NO_FAULT) && shows(&p, "\x01\xe9\x01", 3, UM_FAULT_NR), "REJ 1 and 7");
+	check(shows(&p, "\x01\x1f\x01", 3, UM_FAULT_DM), "a DM, F = 1, P = 0");
+	fill(&p, 1);
+	fill(&p, 1);
+	check(shows(&p, "\x01\x1f\x01", 3, UM_NO_FAULT), "a DM, F = 1, P = 1");
+	check(shows(&p, "\x00\x1f\x01", 3, UM_NO_FAULT), "no frame");
+	p.sides[0].link0.t200 = 0;
+	check(shows(&p, "\x01\x73\x01", 3, UM_NO_FAULT), "no data link");
+}
+
 /* Six lost SABMs, every second slot, and the mobile gives up in the slot after T200. */
 static void test_give_up(void)
 {
@@ -586,6 +649,8 @@ int main(void)
 {
 	test_message();
 	test_loss();
+	test_dm();
+	test_faults();
 	test_give_up();
 	test_sapi3();
 	test_order_of_links();

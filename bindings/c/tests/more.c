@@ -39,6 +39,7 @@ static void names(void)
 	words(um_state_name, "idle opening open closing closed");
 	words(um_notice_name, "none opened got unit acked oversize closed");
 	words(um_reason_name, "contention failed refused released");
+	words(um_fault_name, "none nr ua dm");
 	words(um_answer_name, "ok notidle notopen notrunning empty toolong full noend nocall noframe free");
 	words(um_reading_name, "frame lpd ea control el length empty more nochannel");
 	words(um_repaired_name, "holds repaired norepair nobits");

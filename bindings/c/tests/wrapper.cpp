@@ -113,6 +113,10 @@ static void refusals()
 	check(um::write_frame(fields).why() == um::invalid::frame, "an I frame without information");
 	const auto unread = um::read_frame(um::block{});
 	check(!unread && um::name(unread.why()) == "ea" && um::text(unread.why()).find("EA is 0") != std::string_view::npos, "not a frame");
+	std::array<std::uint8_t, 19> si6{0x2d, 0x06, 0x1e}; // system information 6, whose L2 pseudo length is 11
+	const um::block b4 = *um::write_b4(std::array<std::uint8_t, 2>{5, 3}, si6);
+	check(b4[0] == 5 && b4[1] == 3 && b4[2] == 3 && b4[3] == 3 && b4[4] == 0x2d && *um::read_b4(b4) == si6, "a frame of format B4");
+	check(um::read_b4(um::block{}).why() == um::invalid::frame, "no frame of format B4");
 }
 
 // all ways to pass soft bits: the same report
@@ -180,6 +184,7 @@ static void counts()
 	check(um::send_access(none, bsic).why() == count && um::send_access(info, none).why() == count &&
 		um::receive_access(soft, bsic).why() == count && um::receive_access(std::array<std::int8_t, 88>{}, none).why() == count, "access bursts");
 	check(um::read_frame(octets).why() == um::reading::count, "a frame");
+	check(um::read_b4(octets).why() == um::invalid::count, "a frame of format B4");
 	um::slot slot(um::combination::sdcch8);
 	um::end end(um::role::mobile);
 	um::side side(um::role::mobile);
@@ -574,6 +579,16 @@ static void establishments()
 	check(begins(first.block, {0x03, 0x21, 0x01}) && first.block == second.block && !second.is_free, "said twice");
 	const auto acked = sides[1].take(second.block);
 	check(last.next(sides[0]).is_free && acked && acked.notices().size() == 1, "not three times; the second acknowledges");
+
+	// RR 3, a UA and a DM with F = 1 that nothing on the open link asked for, and the fill frame
+	const auto shows = [&](std::initializer_list<std::uint8_t> head) {
+		um::block received;
+		received.fill(0x2b);
+		std::copy(head.begin(), head.end(), received.begin());
+		return name(sides[0].fault(received));
+	};
+	check(shows({0x01, 0x61, 0x01}) == "nr" && shows({0x01, 0x73, 0x01}) == "ua" && shows({0x01, 0x1f, 0x01}) == "dm", "faults");
+	check(shows({0x03, 0x03, 0x01}) == "none" && sides[0].fault(std::vector<std::uint8_t>(22)) == um::fault::none, "no fault");
 
 	// a mobile comes back to the channel that it opened by contention
 	sides = ends{um::datalink(um::role::mobile), um::datalink(um::role::network)};

@@ -1,7 +1,7 @@
 // Scenes of an assignment, a handover and a return, by hand: what each side reports, and the octets of the frames that open a link, from
 // 3GPP TS 44.006. The mobile's command and the network's response have C/R = 0.
 import assert from "node:assert/strict";
-import { ESTABLISHMENTS, Refused } from "../um.mjs";
+import { ESTABLISHMENTS, FAULTS, Refused } from "../um.mjs";
 
 const pair = (um, establishment = "normal", channel = "sdcch") =>
   ["mobile", "network"].map((role) => um.dataLink(role, { channel, t200: 4, t200Sapi3: 6, establishment }));
@@ -171,6 +171,16 @@ const saysTwice = (um) => {
   assert.deepEqual([network.take(second.block), network.toBytes()], [[], before]);
 };
 
+// RR 0 and 1, a UA, and a DM with F = 1 and 0, before any I frame: what the open link did not ask for
+const showsFaults = (um) => {
+  const links = pair(um);
+  links[0].establish(0);
+  pathOf(links)(4);
+  const shown = [0x01, 0x21, 0x73, 0x1f, 0x0f].map((control) => links[0].fault([0x01, control, 0x01, ...new Array(20).fill(0x2b)]));
+  assert.deepEqual(shown, [null, ...FAULTS, null]);
+  assert.equal(links[0].fault(new Uint8Array(23)), null);
+};
+
 const refuses = (um) => {
   const [mobile, network] = pair(um);
   const why = (call, reason, words) =>
@@ -189,7 +199,6 @@ const refuses = (um) => {
 };
 
 export const tryEstablishments = (um) => {
-  for (const scene of [assigned, assignedByTheNetwork, bothOpen, returned, openedAgain, handedOver, oneComesTwice, saysTwice, refuses]) {
-    scene(um);
-  }
+  const opened = [assigned, assignedByTheNetwork, bothOpen, returned, openedAgain, handedOver];
+  for (const scene of [...opened, oneComesTwice, saysTwice, showsFaults, refuses]) scene(um);
 };

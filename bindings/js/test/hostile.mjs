@@ -76,6 +76,8 @@ const CALLS = {
   sendSync: [[25, 0, 1]],
   receiveSync: [[148, -127, 127]],
   readFrame: [OCTETS],
+  readB4: [OCTETS],
+  writeB4: [[19, 0, 255], [2, 0, 255]],
 };
 const shown = (_, part) => (ArrayBuffer.isView(part) ? Array.from(part) : typeof part === "bigint" ? `${part}n` : part);
 const text = (value) => JSON.stringify(value, shown);

@@ -4,6 +4,15 @@ import { Refused, softFromBits } from "../um.mjs";
 
 const FILL = [3, 3, 1, ...new Array(20).fill(0x2b)];
 
+// system information 6 of a real cell, whose L2 pseudo length is 11, in a block of SACCH
+const formatB4 = (um) => {
+  const si6 = [0x2d, 0x06, 0x1e, 0x2b, 0xd9, 0x62, 0xf2, 0x20, 0x01, 0x3e, 0x95, 0x78, 0x7b, ...new Array(6).fill(0x2b)];
+  assert.deepEqual([...um.writeB4(si6, [5, 3])], [5, 3, 3, 3, ...si6]);
+  assert.deepEqual([...um.readB4(um.writeB4(si6))], si6);
+  assert.equal(um.readB4([5, 3, 3, 1, ...si6]), null);
+  assert.throws(() => um.writeB4(si6.slice(1)), /info has 18 values; expected 19 octets/);
+};
+
 const tdma = (um) => {
   for (const frame of [0, 1326, 2715647]) {
     const [t1, t2, t3] = [Math.floor(frame / 1326), frame % 26, frame % 51];
@@ -150,6 +159,7 @@ const traffic = (um) => {
 };
 
 export const trySlots = (um) => {
+  formatB4(um);
   tdma(um);
   slots(um);
   nearlyLost(um);

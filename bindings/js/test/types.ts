@@ -30,8 +30,9 @@ const use = async (): Promise<void> => {
   const sender = um.trafficSender("half_rate_1", { direction: "uplink", tsc: 5 });
   facts.push(sender.facch(block?.accepted ?? []), sender.speech(bursts), sender.burst(3)?.length === 148, sender.channel === "full_rate");
   facts.push(um.trafficSenderFromBytes(sender.copy().toBytes()).burst(4) === null, um.trafficFromBytes([]).end().length === 0);
-  facts.push(um.dataLink("mobile").idle);
+  facts.push(um.dataLink("mobile").idle, um.readB4(um.writeB4([], [5, 1]))?.length === 19);
   const assigned = um.dataLink("network", { establishment: "normal" });
+  facts.push(assigned.fault(assigned.next().block) === "nr");
   assigned.establish(0);
   facts.push(assigned.establishment === "normal", assigned.unacked(0).every((message) => message.length > 0));
   // @ts-expect-error no such kind of establishment

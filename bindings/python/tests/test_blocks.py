@@ -122,3 +122,13 @@ class Frames(Case):
                     um.read_frame(octets)
                 self.assertEqual(reading, caught.exception.reason)
                 self.assertEqual(reading, pickle.loads(pickle.dumps(caught.exception)).reason)
+
+    def test_format_b4(self):
+        """System information 6 of a real cell, whose L2 pseudo length is 11."""
+        si6 = bytes.fromhex("2d061e2bd962f220013e95787b2b2b2b2b2b2b")
+        block = bytes.fromhex("05030303") + si6
+        self.assertEqual((si6, block), (um.read_b4(block), um.write_b4(si6, b"\5\3")))
+        self.assertEqual(bytes(2) + block[2:], um.write_b4(si6))
+        self.assertEqual(si6, um.read_b4(block[:3] + b"\x13" + si6))
+        self.assertEqual([None, None], [um.read_b4(block[:3] + b"\1" + si6), um.read_b4(block[:2] + b"\1\3" + si6)])
+        self.refused(ValueError, ["info: 18 octets; expected 19"], um.write_b4, si6[1:])

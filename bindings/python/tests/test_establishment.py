@@ -69,6 +69,21 @@ class LastAnswers(Case):
         self.assertTrue(last.next(mobile).free)
 
 
+class Faults(Case):
+    def test_what_an_open_link_did_not_ask_for(self):
+        """A response of the network on SAPI 0 has the address octet 01. Before any I frame, N(R) is 0."""
+        mobile, _ = links = pair()
+        mobile.establish(0)
+        frames = {"010101": None, "012101": "nr", "016501": "nr", "017301": "ua", "011f01": "dm", "010f01": None, "030301": None}
+        blocks = {bytes.fromhex(head + "2b" * 20): fault for head, fault in frames.items()}
+        self.assertEqual([None] * len(blocks), [mobile.fault(block) for block in blocks])
+        Path(links).run(4)
+        before = mobile.to_bytes()
+        self.assertEqual(list(blocks.values()), [mobile.fault(block) for block in blocks])
+        self.assertEqual((before, None, ("nr", "ua", "dm")), (mobile.to_bytes(), mobile.fault(bytes(23)), um.FAULTS))
+        self.assertRaises(ValueError, mobile.fault, bytes(22))
+
+
 class Establishments(Case):
     def test_assignment_by_the_mobile(self):
         mobile, network = links = pair()

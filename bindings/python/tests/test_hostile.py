@@ -20,6 +20,8 @@ CALLS = {
     "send_sync": [(25, "B", 0, 1)],
     "receive_sync": [(148, "b", -127, 127)],
     "read_frame": [(23, "B", 0, 255), (0, 1)],
+    "read_b4": [(23, "B", 0, 255)],
+    "write_b4": [(19, "B", 0, 255)],
 }
 ODD = (None, -1, 0.5, math.nan, math.inf, 256, 2**40, "7", "x" * 23, b"", object(), {}, set(), [[]], [None] * 23, 1j, type, iter(()))
 

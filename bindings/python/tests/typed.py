@@ -52,7 +52,17 @@ def receiver(soft: Soft) -> bytes:
     place = um.place_frame("bcch_ccch", "downlink", 0, 7)
     if block and place and block.channel == um.SACCH:
         return bytes(um.read_frame(block.report.accepted or bytes(23), block.channel).info)
-    return um.write_ra(um.read_ra([0] * 8))
+    return um.write_b4(um.read_b4(bytes(23)) or bytes(19)) if place else um.write_ra(um.read_ra([0] * 8))
+
+
+def assigned(old: um.DataLink) -> bool:
+    new = um.DataLink("mobile", um.SDCCH, t200=11, establishment="normal")
+    new.establish(0)
+    sent = new.next()
+    told = [said(notice) for sapi, notice in sent.notices if sapi == 0]
+    for message in old.unacked(0) if new.state(0) == "open" else [sent.block[1:3]]:
+        new.send(3, message)
+    return new.idle and new.establishment == "normal" and um.DataLink.from_bytes(old.to_bytes()).idle and told == [] and new.fault(bytes(23)) != "nr"
 
 
 def wrong(octets: "numpy.typing.NDArray[numpy.uint8]") -> None:
@@ -63,6 +73,8 @@ def wrong(octets: "numpy.typing.NDArray[numpy.uint8]") -> None:
     um.receive_block(octets)  # type: ignore[arg-type]
     um.send_block({1, 2}, 7)  # type: ignore[arg-type]
     um.Side("mobile").send(1, b"a")  # type: ignore[arg-type]
+    um.DataLink("mobile", establishment="handover")  # type: ignore[arg-type]
+    um.DataLink("mobile").establish(1)  # type: ignore[arg-type]
     um.Slot("sdcch")  # type: ignore[arg-type]
     um.soft_from_llr("x")  # type: ignore[arg-type]
     um.Refused("send", "not open")  # type: ignore[arg-type]

@@ -37,12 +37,12 @@ from .blocks import (
     Margin, Repair, Report, margin_block, receive_access, receive_block, receive_block_among, receive_sync, repair, send_access,
     send_block, send_sync,
 )
-from .datalink import ESTABLISHMENTS, DataLink, LastAnswer, LinkNotice, Sent
+from .datalink import ESTABLISHMENTS, FAULTS, DataLink, LastAnswer, LinkNotice, Sent
 from .effects import (
     NOTICES, REASONS, REFUSALS, SLOT_REFUSALS, TRAFFIC_REFUSALS, Acked, Closed, Effects, Notice, Oversize, Received, Refused,
 )
 from .ends import ROLES, STATES, End, Side
-from .frames import KINDS, SACCH, SDCCH, UNREAD, Channel, Frame, NoFrame, read_frame, write_frame
+from .frames import KINDS, SACCH, SDCCH, UNREAD, Channel, Frame, NoFrame, read_b4, read_frame, write_b4, write_frame
 from .many import (
     margin_blocks, read_frames, receive_accesses, receive_blocks, receive_blocks_among, receive_syncs, repair_words, send_blocks,
 )
@@ -58,14 +58,14 @@ from .traffic import (
 )
 
 __all__ = [
-    "Acked", "COMBINATIONS", "Channel", "Closed", "DIRECTIONS", "DataLink", "ESTABLISHMENTS", "Effects", "End", "Erasure", "FRAMES",
+    "Acked", "COMBINATIONS", "Channel", "Closed", "DIRECTIONS", "DataLink", "ESTABLISHMENTS", "Effects", "End", "Erasure", "FAULTS", "FRAMES",
     "Frame", "KINDS", "LastAnswer", "LinkNotice", "Margin", "NOTICES", "NoFrame", "Notice", "Oversize", "Place", "REASONS", "REFUSALS",
     "ROLES", "Received", "Refused", "Repair", "Report", "SACCH", "SDCCH", "SLOT_REFUSALS", "STATES", "Sch", "Sent", "Side", "Slot",
     "SlotBlock", "TRAFFIC_CHANNELS", "TRAFFIC_KINDS", "TRAFFIC_REFUSALS", "Time", "Traffic", "TrafficBlock", "TrafficPlace",
     "TrafficSender", "UNREAD", "__version__", "cipher_bits", "detect_training", "frame_of_time", "join_facch", "margin_block",
-    "margin_blocks", "next_block", "next_facch", "place_frame", "place_traffic", "read_bsic", "read_frame", "read_frames", "read_ra",
+    "margin_blocks", "next_block", "next_facch", "place_frame", "place_traffic", "read_b4", "read_bsic", "read_frame", "read_frames", "read_ra",
     "read_sch", "receive_access", "receive_accesses", "receive_block", "receive_block_among", "receive_block_erasing", "receive_blocks",
     "receive_blocks_among", "receive_facch_erasing", "receive_sync", "receive_syncs", "repair", "repair_words", "send_access",
     "send_block", "send_blocks", "send_sync", "soft_cipher", "soft_from_bits", "soft_from_llr", "soft_from_sbits", "soft_from_trx",
-    "steal_facch", "stealing_flags", "time_of_frame", "version", "write_bsic", "write_frame", "write_ra", "write_sch",
+    "steal_facch", "stealing_flags", "time_of_frame", "version", "write_b4", "write_bsic", "write_frame", "write_ra", "write_sch",
 ]

@@ -32,6 +32,8 @@ _CALLS: Dict[str, Tuple[Any, Tuple[Any, ...]]] = {
     "um_receive_sync": (_BOOL, (_POINTER, _POINTER)),
     "um_read_frame": (_U8, (_POINTER, _U8, _POINTER)),
     "um_write_frame": (_BOOL, (_POINTER, _U8, _POINTER)),
+    "um_read_b4": (_BOOL, (_POINTER, _POINTER)),
+    "um_write_b4": (None, (_POINTER, _POINTER, _POINTER)),
     "um_end_new": (_BOOL, (_POINTER, _U8, _U8, _U8)),
     "um_end_open": (_U8, (_POINTER, _POINTER, _POINTER)),
     "um_end_open_bare": (_U8, (_POINTER, _POINTER)),
@@ -101,6 +103,7 @@ _CALLS: Dict[str, Tuple[Any, Tuple[Any, ...]]] = {
     "um_datalink_main": (_U8, (_POINTER, _BOOL)),
     "um_datalink_take": (_U8, (_POINTER, _POINTER, _POINTER)),
     "um_datalink_next": (_U8, (_POINTER, _POINTER, _POINTER, _POINTER)),
+    "um_datalink_fault": (_U8, (_POINTER, _POINTER)),
     "um_say_again": (_U8, (_POINTER, _U8, _U32, _POINTER)),
 }
 

@@ -17,8 +17,10 @@ if TYPE_CHECKING:
     from .ends import Role, Sapi, State
 
     Establishment = Literal["contention", "normal"]
+    Fault = Literal["nr", "ua", "dm"]
 
 ESTABLISHMENTS: "Tuple[Establishment, ...]" = ("contention", "normal")
+FAULTS: "Tuple[Fault, ...]" = ("nr", "ua", "dm")
 
 # um_datalink of um.h: two um_timed_end, each a um_end with padding and 28 octets more, and two octets; and um_report
 _END, _END_FIELDS, _TIMED, _SIZE = 2584, 2581, 2616, 5240
@@ -134,6 +136,12 @@ class DataLink(Saved):
         report = ctypes.create_string_buffer(_REPORT)
         self._call("take", octets_of("block", block, 23), report)
         return _notices_of(report.raw)
+
+    def fault(self, block: "Octets") -> "Optional[Fault]":
+        """What a received block shows of the other side, if that breaks the rules on an open link, one of FAULTS: an N(R) outside V(A) to
+        V(S), a UA, or a DM with F = 1 that answers no repeat with P = 1. Ask before `take`, which takes the block in any case."""
+        found = lib.um_datalink_fault(self._state, octets_of("block", block, 23))
+        return FAULTS[found - 1] if found else None
 
     def next(self, layer1: "Octets" = b"\0\0") -> Sent:
         """The block for this slot. On SACCH it begins with the two octets of `layer1`."""

@@ -1,8 +1,8 @@
-"""LAPDm frames, formats A and B (3GPP TS 44.006)."""
+"""LAPDm frames, formats A, B and B4 (3GPP TS 44.006)."""
 import ctypes
 import enum
 import struct
-from typing import TYPE_CHECKING, Any, NamedTuple, Tuple
+from typing import TYPE_CHECKING, Any, NamedTuple, Optional, Tuple
 
 from ._library import lib
 from ._values import choice, name_of, number, octets as octets_of, one_of
@@ -104,4 +104,19 @@ def write_frame(frame: Frame, channel: int = SDCCH) -> bytes:
     if not lib.um_write_frame(_FRAME.pack(kind, *fields, len(info), info), channel_number(channel), raw):
         wanted = "at least 1 octet" if frame.kind == "i" else f"none, since {frame.kind} carries no information"
         raise ValueError(f"frame.info: {len(info)} octets; expected {wanted}")
+    return raw.raw
+
+
+def read_b4(octets: "Octets") -> Optional[bytes]:
+    """The 19 octets of a UI frame of format B4, such as system information, in a block of SACCH from a network. None if the address or the
+    control octet is of another frame."""
+    raw = ctypes.create_string_buffer(19)
+    return raw.raw if lib.um_read_b4(octets_of("octets", octets, 23), raw) else None
+
+
+def write_b4(info: "Octets", layer1: "Octets" = b"\0\0") -> bytes:
+    """A block of SACCH from a network: two layer 1 octets and a UI frame of format B4 with 19 octets. System information begins with its
+    L2 pseudo length."""
+    raw = ctypes.create_string_buffer(23)
+    lib.um_write_b4(octets_of("layer1", layer1, 2), octets_of("info", info, 19), raw)
     return raw.raw

@@ -25,6 +25,19 @@ pub enum Establishment {
 
 words!(Establishment: Contention "contention", Normal "normal");
 
+/// What a received block shows of the other side, if that breaks the rules on an open link.
+#[derive(Clone, Copy, Debug, PartialEq, Eq, Hash)]
+pub enum Fault {
+    /// An N(R) outside V(A) to V(S).
+    Nr,
+    /// A UA.
+    Ua,
+    /// A DM with F = 1 that answers no repeat with P = 1.
+    Dm,
+}
+
+words!(Fault: Nr "nr", Ua "ua", Dm "dm");
+
 #[repr(C)]
 #[derive(Clone, Copy, PartialEq, Eq, Hash)]
 struct TimedEnd {
@@ -175,6 +188,7 @@ extern "C" {
     fn um_datalink_main(link: &mut DataLink, established: bool) -> u8;
     fn um_datalink_take(link: &mut DataLink, block: &[u8; 23], report: &mut Report) -> u8;
     fn um_datalink_next(link: &mut DataLink, layer1: &[u8; 2], block: &mut [u8; 23], report: &mut Report) -> u8;
+    fn um_datalink_fault(link: &DataLink, block: &[u8; 23]) -> u8;
     fn um_say_again(said: &mut LastAnswer, channel: u8, next: u32, block: &mut [u8; 23]) -> u8;
 }
 
@@ -316,6 +330,17 @@ impl DataLink {
     pub fn take(&mut self, block: &[u8; 23]) -> Result<Report, Refused> {
         let mut report = NO_REPORT;
         accepted(unsafe { um_datalink_take(self, block, &mut report) }).map(|()| report)
+    }
+
+    /// The fault that a received block shows, if any. Ask before [`take`](DataLink::take), which takes the block in any case.
+    #[must_use]
+    pub fn fault(&self, block: &[u8; 23]) -> Option<Fault> {
+        match unsafe { um_datalink_fault(self, block) } {
+            1 => Some(Fault::Nr),
+            2 => Some(Fault::Ua),
+            3 => Some(Fault::Dm),
+            _ => None,
+        }
     }
 
     /// The block for this slot. On SACCH `layer1` are its layer 1 octets.

@@ -137,9 +137,11 @@ impl ReadFrame {
 extern "C" {
     fn um_read_frame(octets: &[u8; 23], channel: u8, frame: &mut ReadFrame) -> u8;
     fn um_write_frame(frame: &ReadFrame, channel: u8, octets: &mut [u8; 23]) -> bool;
+    fn um_read_b4(octets: &[u8; 23], info: &mut [u8; 19]) -> bool;
+    fn um_write_b4(layer1: &[u8; 2], info: &[u8; 19], octets: &mut [u8; 23]);
 }
 
-// SAFETY, for both calls below: as in blocks.rs.
+// SAFETY, for all calls below: as in blocks.rs.
 
 /// Decodes the frame in a block. On SACCH the two layer 1 octets at the start are ignored.
 ///
@@ -194,4 +196,21 @@ pub fn write_frame(frame: &Frame<'_>, channel: Channel) -> Result<[u8; 23], Inva
     (fields.kind, fields.pf, fields.count) = (kind, u8::from(pf), info.len() as u8);
     let mut octets = [0; 23];
     unsafe { um_write_frame(&fields, channel as u8, &mut octets) }.then_some(octets).ok_or(Invalid::Frame)
+}
+
+/// The 19 octets of a UI frame of format B4, such as system information, in a block of SACCH from a network. `None`: the address or the
+/// control octet is of another frame.
+#[must_use]
+pub fn read_b4(octets: &[u8; 23]) -> Option<[u8; 19]> {
+    let mut info = [0; 19];
+    unsafe { um_read_b4(octets, &mut info) }.then_some(info)
+}
+
+/// The block of SACCH from a network with these layer 1 octets and a UI frame of format B4 with 19 octets. System information begins with
+/// its L2 pseudo length.
+#[must_use]
+pub fn write_b4(layer1: [u8; 2], info: &[u8; 19]) -> [u8; 23] {
+    let mut octets = [0; 23];
+    unsafe { um_write_b4(&layer1, info, &mut octets) };
+    octets
 }

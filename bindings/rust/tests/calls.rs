@@ -100,6 +100,16 @@ fn readings() {
     }
 }
 
+// system information 6, whose L2 pseudo length is 11, by 3GPP TS 44.018, 9.1.40
+#[test]
+fn format_b4() {
+    let block = octets("050303032d061e000162f210000105ff8b2b2b2b2b2b2b");
+    let info = um::read_b4(&block).expect("a frame of format B4");
+    assert_eq!(info[..], block[4..]);
+    assert_eq!(um::write_b4([5, 3], &info), block);
+    assert_eq!(um::read_b4(&octets(&("05030301".to_owned() + &"2b".repeat(19)))), None);
+}
+
 #[test]
 fn session() -> Result<(), Box<dyn Error>> {
     let (mut mobile, mut network) = (End::mobile(Sapi::ShortMessages, Channel::Sacch), End::network(Sapi::ShortMessages, Channel::Sacch));

@@ -1,7 +1,7 @@
 //! Scenes of an assignment, a handover and a return, by hand: what each side reports, and the octets of the frames that open a link, from
 //! 3GPP TS 44.006. The mobile's command and the network's response have C/R = 0.
 use std::error::Error;
-use um::{Channel, DataLink, Establishment, Invalid, LastAnswer, Notice, Refused, Role, Sapi, State};
+use um::{Channel, DataLink, Establishment, Fault, Invalid, LastAnswer, Notice, Refused, Role, Sapi, State};
 
 const ZERO: Sapi = Sapi::Signalling;
 type Tried = Result<(), Box<dyn Error>>;
@@ -192,6 +192,22 @@ fn an_answer_is_said_twice() -> Tried {
     assert_eq!(links[1].take(&sent[1].block)?.notices().count(), 1);
     let before = links[1];
     assert_eq!((links[1].take(&sent[1].block)?.notices().count(), links[1]), (0, before));
+    Ok(())
+}
+
+/// RR 0 and 1, a UA, and a DM with F = 1 and 0, before any I frame: what the open link did not ask for.
+#[test]
+fn faults() -> Tried {
+    let (mut links, mut path) = (normal()?, Path::default());
+    links[0].establish(ZERO)?;
+    path.run(&mut links, 4, &[])?;
+    let shown = [0x01, 0x21, 0x73, 0x1f, 0x0f].map(|control| {
+        let mut block = [0x2b; 23];
+        block[..3].copy_from_slice(&[0x01, control, 0x01]);
+        links[0].fault(&block)
+    });
+    assert_eq!(shown, [None, Some(Fault::Nr), Some(Fault::Ua), Some(Fault::Dm), None]);
+    assert_eq!((links[0].fault(&[0; 23]), Fault::Dm.word()), (None, "dm"));
     Ok(())
 }
 

@@ -63,12 +63,6 @@ position-below : (k : ℕ) → position_in_normal_burst k < 148
 unfolding position_in_normal_burst
 position-below k = grind (arith, position_in_burst-below k)
 
-pub four_soft : (a b c d : List ℤ) → AllSoftBits a → AllSoftBits b → AllSoftBits c → AllSoftBits d →
-    All AllSoftBits (a ∷ b ∷ c ∷ d ∷ [])
-four_soft a b c d ha hb hc hd =
-    All-cons AllSoftBits a (b ∷ c ∷ d ∷ []) ha (All-cons AllSoftBits b (c ∷ d ∷ []) hb (All-cons AllSoftBits c (d ∷ []) hc
-    (All-cons AllSoftBits d [] hd (All-nil AllSoftBits))))
-
 -- ## Joined: a value of a joined block is that of its half
 
 pub joined_block-at : {X : Type 0} (none d : X) (bursts : List (List X)) (b p : ℕ) → b < 4 → p < 148 →

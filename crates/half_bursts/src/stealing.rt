@@ -25,24 +25,34 @@ pub fn steal(block: &[[u8; BURST_BITS]; 4], bursts: &mut [[u8; BURST_BITS]])
     ensures carried { (coded : List ℕ) → IsInterleaved coded (map coded_values block.now) → AreCarried coded bursts.new }
 {
     let count = bursts.len();
-    for index in 0..count {
-        steal_burst(count, index, &block[index % 4], &mut bursts[index]);
+    for index in 0..4 {
+        steal_burst(count, index, &block[index], &mut bursts[index]);
+    }
+    for index in 4..count {
+        steal_even(count, index, &block[index % 4], &mut bursts[index]);
     }
 }
 
+// The other bursts have a loop of their own, whose half is known when it is compiled: a fifth less instructions.
 #[inline(always)]
 fn steal_burst(count: usize, index: usize, burst: &[u8; BURST_BITS], into: &mut [u8; BURST_BITS])
-    requires index { index < 8 }
+    requires index { index < 4 }
     ensures value { into.new ≡ with_half (other_half count index) burst.now into.old }
     ensures bits { length burst.now ≡ 148 }
 {
-    if index >= 4 {
-        write_other_than(1, burst, into);
-    } else if index + 4 < count {
+    if index + 4 < count {
         write_other_than(2, burst, into);
     } else {
         write_other_than(3, burst, into);
     }
+}
+
+#[inline(always)]
+fn steal_even(count: usize, index: usize, burst: &[u8; BURST_BITS], into: &mut [u8; BURST_BITS])
+    requires index { 4 ≤ index }
+    ensures value { into.new ≡ with_half (other_half count index) burst.now into.old }
+{
+    write_other_than(1, burst, into);
 }
 
 /// Overwrites all of a burst but one half: 1 its odd positions, 2 its even ones, 3 none. The first loop has nine times sixteen

@@ -114,8 +114,11 @@ outcome_kept m n e effects l o k r h does kept =
     (endpoint_replaced m e l o k h does.0)
 
 -- a frame still fits as the endpoint takes it
-pub taken_fits : (c : Channel) (f : Frame) (e : EndpointState) → FrameFits c f → FrameFits c (as_taken f e)
-taken_fits c f e h = grind arith
+pub taken_fits : (c : Channel) (f : Frame) (l : LinkState) → FrameFits c f → FrameFits c (as_taken f l)
+taken_fits c f l h = grind arith
+
+pub sapi_fits : (s : Sapi) → sapi_number s ≤ 7
+sapi_fits s = grind arith
 
 -- T200 expiry is refused only if no frame awaits an answer
 pub t200_is_allowed : (e : EndpointState) → awaits_answer e ≡ true → refusal_of T200Expires e ≡ None
@@ -398,9 +401,9 @@ pub keeps-received : (f : Frame) (l : LinkState) → IsValidEndpoint l.endpoint 
 keeps-received f l h fits = by (refuses f l.endpoint)
   where
     by : (b : Bool) → Keeps l.endpoint
-        (outcome_of_reply (if b then SendsDm else reply_to_frame (as_taken f l.endpoint) l.endpoint) l.endpoint)
+        (outcome_of_reply (if b then SendsDm else reply_to_frame (as_taken f l) l.endpoint) l.endpoint)
     by true = grind arith
-    by false = keeps-frame (as_taken f l.endpoint) l.endpoint h (taken_fits l.endpoint.channel f l.endpoint fits)
+    by false = keeps-frame (as_taken f l) l.endpoint h (taken_fits l.endpoint.channel f l fits)
 
 pub same_after_frame : (f : Frame) (l : LinkState) → IsValidEndpoint l.endpoint → FrameFits l.endpoint.channel f →
     IsSameLink l (after_frame f l)

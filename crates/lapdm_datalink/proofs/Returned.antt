@@ -89,7 +89,7 @@ pub returns-frame : (f : Frame) (x : EndpointState) → Returns x (frame_outcome
 returns-frame f x = returns-reply (reply_to_frame f x) x
 
 pub returns-received : (f : Frame) (l : LinkState) → Returns l.endpoint (received_outcome f l)
-returns-received f l = returns-reply (link_reply f l.endpoint) l.endpoint
+returns-received f l = returns-reply (link_reply f l) l.endpoint
 
 pub returns-call : (call : Call) (x : EndpointState) → IsLinkCall call → Returns x (call_outcome call x)
 returns-call (Sends m) x is =

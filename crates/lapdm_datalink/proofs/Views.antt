@@ -1,77 +1,33 @@
--- Two links as plain data are those of one data link, or not.
+-- Two links that are seen are those of one data link, or not.
 use Rattle.{
-  std.proofs.Common.{◌≡◌, sym, ◌∙◌, ap, refl},
-  lapdm_datalink.{
-    specs.{
-      DataLinks.{DataLinkState, IsDataLink},
-      Links.LinkState,
-      Parts.{LinkValues, ValuesRepresent, SomeLinkHasValues, DataLinkValues, RepresentSomeDataLink, AreOfOneDataLink},
-    },
-    proofs.Lemmas.{HasAddressOf, address_of_values, endpoint_values},
+  std.proofs.Common.{sym, ◌∙◌, false},
+  lapdm_datalink.specs.{
+    declared.outlook.LinkOutlook.LinkOutlook,
+    DataLinks.{DataLinkState, IsDataLink},
+    Outlooks.{IsLinkOutlook, AreOfOneDataLink},
   },
 }
 
-at : (x : LinkValues) (l : LinkState) → ValuesRepresent x l → HasAddressOf x.endpoint l.endpoint
-at x l h = address_of_values x.endpoint l.endpoint (endpoint_values x l h)
+module _ (a b : LinkOutlook) (s : DataLinkState) (h : IsLinkOutlook false a s.link0) (g : IsLinkOutlook s.heard_sapi0 b s.link3) where
+  pub beside : IsDataLink s → AreOfOneDataLink a b
+  beside v = record {
+    sapi3 = g.sapi ∙ v.sapi3;
+    role = g.role ∙ v.role ∙ sym h.role;
+    channel = g.channel ∙ v.channel ∙ sym h.channel;
+    timed0 = h.timed.1 (v.t200, v.clock);
+    timed3 = g.timed.1 (v.t200_sapi3, v.clock_sapi3);
+  }
 
-record HasTimes (x : LinkValues) (l : LinkState) : Type 0 where
-  t200 : x.t200 ≡ l.t200
-  clock : x.clock ≡ l.clock
-
-times : (x : LinkValues) (l : LinkState) → ValuesRepresent x l → HasTimes x l
-times x l h = record {
-  t200 = sym (ap (λ (y : LinkValues). y.t200) h.values_match) ∙ h.represents.t200;
-  clock = sym (ap (λ (y : LinkValues). y.clock) h.values_match) ∙ h.represents.clock;
-}
-
-pub beside : (x y : LinkValues) (s : DataLinkState) → ValuesRepresent x s.link0 → ValuesRepresent y s.link3 → IsDataLink s →
-    AreOfOneDataLink x y
-beside x y s h g v =
-    let a = at x s.link0 h in
-    let b = at y s.link3 g in
-    let k = times x s.link0 h in
-    let n = times y s.link3 g in
-    record {
-      sapi3 = b.sapi ∙ v.sapi3;
-      role = b.role ∙ v.role ∙ sym a.role;
-      channel = b.channel ∙ v.channel ∙ sym a.channel;
-      timed0 = (λ z. v.t200 (sym k.t200 ∙ z), rw (k.clock, k.t200) v.clock);
-      timed3 = (λ z. v.t200_sapi3 (sym n.t200 ∙ z), rw (n.clock, n.t200) v.clock_sapi3);
-    }
-
-one_data_link : (x y : LinkValues) (s : DataLinkState) → ValuesRepresent x s.link0 → ValuesRepresent y s.link3 →
-    AreOfOneDataLink x y → IsDataLink s
-one_data_link x y s h g v =
-    let a = at x s.link0 h in
-    let b = at y s.link3 g in
-    let k = times x s.link0 h in
-    let n = times y s.link3 g in
-    record {
-      sapi3 = sym b.sapi ∙ v.sapi3;
-      role = sym b.role ∙ v.role ∙ a.role;
-      channel = sym b.channel ∙ v.channel ∙ a.channel;
-      t200 = λ z. v.timed0.0 (k.t200 ∙ z);
-      t200_sapi3 = λ z. v.timed3.0 (n.t200 ∙ z);
-      clock = rw (k.clock, k.t200) at v.timed0.1;
-      clock_sapi3 = rw (n.clock, n.t200) at v.timed3.1;
-    }
-
--- two possible links of one data link are those of a data link
-pub some_data_link : (x : DataLinkValues) → AreOfOneDataLink x.link0 x.link3 → SomeLinkHasValues x.link0 →
-    SomeLinkHasValues x.link3 → RepresentSomeDataLink x
-some_data_link x v h g =
-    let s : DataLinkState = record {
-      link0 = h.0;
-      link3 = g.0;
-      heard_sapi0 = x.heard_sapi0;
-      is_main_established = x.is_main_established;
-    } in (
-      s,
+  pub one_data_link : AreOfOneDataLink a b → IsDataLink s
+  one_data_link v =
+      let t = h.timed.0 v.timed0 in
+      let u = g.timed.0 v.timed3 in
       record {
-        valid = one_data_link x.link0 x.link3 s h.1 g.1 v;
-        link0 = h.1;
-        link3 = g.1;
-        heard_sapi0 = refl;
-        is_main_established = refl;
-      },
-    )
+        sapi3 = sym g.sapi ∙ v.sapi3;
+        role = sym g.role ∙ v.role ∙ h.role;
+        channel = sym g.channel ∙ v.channel ∙ h.channel;
+        t200 = t.0;
+        t200_sapi3 = u.0;
+        clock = t.1;
+        clock_sapi3 = u.1;
+      }

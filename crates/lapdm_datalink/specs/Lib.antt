@@ -6,3 +6,4 @@ pub mod Sides
 pub mod Parts
 pub mod Slots
 pub mod Outlooks
+pub mod Unsent

@@ -13,12 +13,11 @@ use Rattle.lapdm_end.specs.lapdm_window.declared.State.TheVariants.{Opening, Clo
 use Rattle.lapdm_end.specs.lapdm_window.declared.Notice.{Notice}
 use Rattle.lapdm_end.specs.lapdm_window.segmenting.Segments.{Message}
 use Rattle.lapdm_end.specs.lapdm_window.Ends.{Role, Network, EndpointState, Outcome, initial_endpoint, awaits_answer, command_frame}
-use Rattle.lapdm_end.specs.lapdm_window.Ends.{sapi_number, acked_message_count}
+use Rattle.lapdm_end.specs.lapdm_window.Ends.{sapi_number, vs, va, acked_message_count, awaits_ack}
 use Rattle.lapdm_end.specs.lapdm_window.Rules.{is_open}
 use Rattle.lapdm_end.specs.lapdm_window.Tables.{Reply, SendsDm, reply_to_frame, outcome_of_reply, is_command, answers_repeated_sabm}
 use Rattle.lapdm_end.specs.lapdm_window.Calls.{Call, Opens, OpensWithoutInfo, Sends, Closes, awaited_frame}
 use Rattle.lapdm_end.specs.lapdm_window.Calls.{t200_expiry, call_outcome}
-use Rattle.lapdm_link.specs.Worlds.{rej_replaced_by_rr}
 
 -- the state of a link
 pub record LinkState : Type 0 where
@@ -157,13 +156,41 @@ awaits_unnumbered_answer Opening = true
 awaits_unnumbered_answer Closing = true
 awaits_unnumbered_answer other = false
 
--- whether the link ignores a received frame: nothing answers a SABM or DISC that was not sent yet
-abbrev pub ignores : Frame → LinkState → Bool
-ignores f l = is_unnumbered_answer f.content && awaits_unnumbered_answer l.endpoint.state && not l.is_sent
+-- whether the frame answers a SABM or DISC that was not sent yet
+abbrev pub is_too_early : Frame → LinkState → Bool
+is_too_early f l = is_unnumbered_answer f.content && awaits_unnumbered_answer l.endpoint.state && not l.is_sent
 
--- the frame as the endpoint takes it: with the SAPI of the endpoint, and a REJ counts as an RR
-abbrev pub as_taken : Frame → EndpointState → Frame
-as_taken f e = record f { sapi = sapi_number e.sapi; content = rej_replaced_by_rr f.content }
+-- whether this is the content of a DM with F = 1
+abbrev pub is_final_dm : Content → Bool
+is_final_dm (Dm f) = f
+is_final_dm other = false
+
+-- whether the outstanding I frame was repeated, with P = 1 (section 5.5.7)
+abbrev pub has_polled : EndpointState → Bool
+has_polled e = awaits_ack e && not (nat_eq e.retries 0)
+
+-- whether the frame is a DM with F = 1 that no frame of the open link asked for (section 5.4.5)
+abbrev pub is_unasked_dm : Frame → EndpointState → Bool
+is_unasked_dm f e = is_final_dm f.content && is_open e.state && not (has_polled e)
+
+-- whether the link ignores a received frame
+abbrev pub ignores : Frame → LinkState → Bool
+ignores f l = is_too_early f l || is_unasked_dm f l.endpoint
+
+-- N(R) as the endpoint takes it: V(S) acknowledges nothing, as V(A), while the I frame with the N(S) before it waits for its slot
+abbrev pub nr_as_taken : (nr : ℕ) (link : LinkState) → ℕ
+nr_as_taken nr l = if not l.is_sent && nat_eq nr (vs l.endpoint) then va l.endpoint else nr
+
+-- the content of a frame as the endpoint takes it: a REJ counts as an RR
+abbrev pub content_as_taken : Content → LinkState → Content
+content_as_taken (I ns nr p more info) l = I ns (nr_as_taken nr l) p more info
+content_as_taken (Rr nr pf) l = Rr (nr_as_taken nr l) pf
+content_as_taken (Rej nr pf) l = Rr (nr_as_taken nr l) pf
+content_as_taken other l = other
+
+-- the frame as the endpoint takes it, with the SAPI of the endpoint
+abbrev pub as_taken : Frame → LinkState → Frame
+as_taken f l = record f { sapi = sapi_number l.endpoint.sapi; content = content_as_taken f.content l }
 
 -- whether the state is Closing
 abbrev pub is_closing : State → Bool
@@ -180,12 +207,12 @@ abbrev pub refuses : Frame → EndpointState → Bool
 refuses f e = is_sabm f.content && is_closing e.state && is_command e f
 
 -- the reply to a received frame: a DM if the link refuses it (section 5.4.6.2), otherwise that of the endpoint
-abbrev pub link_reply : Frame → EndpointState → Reply
-link_reply f e = if refuses f e then SendsDm else reply_to_frame (as_taken f e) e
+abbrev pub link_reply : Frame → LinkState → Reply
+link_reply f l = if refuses f l.endpoint then SendsDm else reply_to_frame (as_taken f l) l.endpoint
 
 -- what the link does with a received frame
 abbrev pub received_outcome : Frame → LinkState → Outcome
-received_outcome f l = outcome_of_reply (link_reply f l.endpoint) l.endpoint
+received_outcome f l = outcome_of_reply (link_reply f l) l.endpoint
 
 -- the link after it takes a frame of its SAPI, unless the frame opens an open link again
 abbrev pub after_frame : Frame → LinkState → LinkState

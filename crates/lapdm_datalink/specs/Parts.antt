@@ -75,14 +75,6 @@ CanBeRestored m x = IsAtSameAddress m x × SomeLinkHasValues x
 abbrev pub IsTimed : (t200 clock : ℕ) → Type 0
 IsTimed t200 clock = (t200 ≢ 0) × (clock ≤ t200)
 
--- two links with these values are those of SAPI 0 and SAPI 3 of one data link: they have the same role and channel, and are timed
-pub record AreOfOneDataLink (x y : LinkValues) : Type 0 where
-  pub sapi3 : y.endpoint.sapi ≡ Three
-  pub role : spec_role_of y.endpoint.role ≡ spec_role_of x.endpoint.role
-  pub channel : y.endpoint.window.channel ≡ x.endpoint.window.channel
-  pub timed0 : IsTimed x.t200 x.clock
-  pub timed3 : IsTimed y.t200 y.clock
-
 -- what a view is borrowed from has room in the arrays of an endpoint
 pub record IsWritable (p : LinkView) : Type 0 where
   pub sabm_info : length p.endpoint.sabm_info.now ≤ largest_n201

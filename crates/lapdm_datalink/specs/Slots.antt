@@ -2,15 +2,17 @@
 use Rattle.std.specs.Prelude.{◌≡◌, ◌≢◌, ◌⊎◌, ℕ, Bool, true, false, not, ◌&&◌, [], ◌∷◌, Option, Some, None}
 use Rattle.lapdm_frame.specs.Content.{Content, I, Rr, Rej, Sabm, Dm, Ua, Frame}
 use Rattle.lapdm_end.specs.lapdm_window.declared.Sapi.TheVariants.{Three}
-use Rattle.lapdm_end.specs.lapdm_window.declared.State.TheVariants.{Opening, Open, Closing}
+use Rattle.lapdm_end.specs.lapdm_window.declared.State.TheVariants.{Opening, Open, Closing, Closed}
 use Rattle.lapdm_end.specs.lapdm_window.segmenting.Segments.{Message, Segment}
 use Rattle.lapdm_end.specs.lapdm_window.declared.Notice.TheVariants.{Opened}
+use Rattle.lapdm_end.specs.lapdm_window.declared.Notice.TheVariants as N
+use Rattle.lapdm_end.specs.lapdm_window.declared.Reason.TheVariants.{Failed}
 use Rattle.lapdm_end.specs.lapdm_window.Ends.{awaits_answer, command_cr, response_frame, IsPossibleSabmInfo}
 use Rattle.lapdm_end.specs.lapdm_window.Tables.{is_command, answers_repeated_sabm}
 use Rattle.lapdm_end.specs.lapdm_window.Rules.{takes_i_frame}
 use Rattle.lapdm_end.specs.lapdm_window.Calls.{Repeats, T200Expires, call_outcome}
 use Rattle.lapdm_datalink.specs.Links.{LinkState, SlotOutcome, with_outcome, first_frame, is_due, keeps_back, slot_outcome, after_slot}
-use Rattle.lapdm_datalink.specs.Links.{after_received, received_notices, after_establishment}
+use Rattle.lapdm_datalink.specs.Links.{after_received, heard_with, received_notices, after_establishment}
 use Rattle.lapdm_datalink.specs.DataLinks.{DataLinkState, data_link_outcome, after_arrival, arrival_notices, with_clocks_moved, on_sapi0}
 
 -- the link sends nothing, or the answer that it owed, and its endpoint does and reports nothing
@@ -118,6 +120,24 @@ pub record IsRefused (f : Frame) (l : LinkState) : Type 0 where
   pub endpoint : (after_received f l).endpoint ≡ l.endpoint
   pub notices : received_notices f l ≡ []
   pub dm : (slot_outcome (after_slot (after_received f l))).frame ≡ Some (response_frame l.endpoint (Dm true))
+
+-- ---- a DM with F = 1 in Open
+
+-- a DM with F = 1 arrives at an open link, from the other side
+pub record IsFinalDmInOpen (f : Frame) (l : LinkState) : Type 0 where
+  pub state : l.endpoint.state ≡ Open
+  pub response : is_command l.endpoint f ≡ false
+  pub content : f.content ≡ Dm true
+
+-- it ends the link as failed
+pub record EndsAsFailed (f : Frame) (l : LinkState) : Type 0 where
+  pub state : (after_received f l).endpoint.state ≡ Closed
+  pub notices : received_notices f l ≡ N.Closed Failed ∷ []
+
+-- a received frame changes nothing of the link but what it has heard, and nothing is reported
+pub record ChangesNothing (f : Frame) (l : LinkState) : Type 0 where
+  pub link : after_received f l ≡ record l { heard = heard_with f l }
+  pub notices : received_notices f l ≡ []
 
 -- ---- normal establishment
 

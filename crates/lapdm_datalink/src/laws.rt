@@ -8,9 +8,11 @@ ghost use Rattle.lapdm_end.specs.lapdm_window.declared.Sapi.TheVariants.{Zero, T
 ghost use Rattle.lapdm_end.specs.lapdm_window.Ends.{Network, IsPossibleSabmInfo, vr};
 ghost use Rattle.lapdm_end.specs.lapdm_window.Rules.{is_open};
 ghost use Rattle.lapdm_datalink.specs.Links.{LinkState, after_received, after_slot, is_reopened_by_frame, slot_outcome, sabm_goes_first};
-ghost use Rattle.lapdm_datalink.specs.Links.{is_closed};
+ghost use Rattle.lapdm_datalink.specs.Links.{has_polled, is_closed, is_sabm};
 ghost use Rattle.lapdm_datalink.specs.Slots.{GoesFirst, IsNewOpening, IsRepeat, IsSabmThatOpened, IsStepOfEndpoint, nr_of, took};
 ghost use Rattle.lapdm_datalink.specs.Slots.{CountsFromZero, IsSabmInClosing, IsRefused, IsBareSabm, IsNormalOpening, IsEstablishedAfresh};
+ghost use Rattle.lapdm_datalink.specs.Slots.{IsFinalDmInOpen, EndsAsFailed, ChangesNothing, expires_in};
+ghost use Rattle.lapdm_datalink.specs.Unsent.{IsUnsent, AcknowledgesNothing};
 ghost use Rattle.lapdm_datalink.specs.DataLinks.{DataLinkState, after_arrival};
 
 /// Law: in a slot, the endpoint of a link does nothing, repeats the frame that awaits an answer without counting it, or handles the expiry
@@ -55,6 +57,22 @@ pub fn law_sabm_in_open_is_a_repeat_or_an_opening()
 #[tactic(auto, using(crate::proofs::SabmInOpen::refused))]
 pub fn law_sabm_in_closing_is_refused()
     ensures { (f : Frame) (l : LinkState) → IsSabmInClosing f l → IsRefused f l }
+{}
+
+/// Law: a DM with F = 1 ends an open link as failed if it answers a repeat with P = 1 of the outstanding I frame, and else changes nothing.
+/// Such a repeat goes out in a slot in which T200 expires.
+#[tactic(auto, using(crate::proofs::DmInOpen::ends, crate::proofs::DmInOpen::is_ignored, crate::proofs::DmInOpen::polls))]
+pub fn law_final_dm_ends_only_a_link_that_polled()
+    ensures asked { (f : Frame) (l : LinkState) → IsFinalDmInOpen f l → has_polled l.endpoint ≡ true → EndsAsFailed f l }
+    ensures unasked { (f : Frame) (l : LinkState) → IsFinalDmInOpen f l → has_polled l.endpoint ≡ false → ChangesNothing f l }
+    ensures polls { (l : LinkState) → expires_in l ≡ true → (slot_outcome l).link.endpoint.state ≡ Open
+        → has_polled (slot_outcome l).link.endpoint ≡ true }
+{}
+
+/// Law: nothing but a new opening acknowledges an I frame that waits for its slot: an N(R) acknowledges it only once it was sent.
+#[tactic(auto, using(crate::proofs::Unsent::acknowledges_nothing))]
+pub fn law_nr_acknowledges_only_what_was_sent()
+    ensures { (f : Frame) (l : LinkState) → IsUnsent l → is_sabm f.content ≡ false → AcknowledgesNothing f l }
 {}
 
 /// Law: a closed link that a frame opens again has heard nothing, whatever it had heard before it was closed.

@@ -8,14 +8,14 @@ ghost use Rattle.std.specs.Option.{option_map};
 ghost use Rattle.std.specs.Str.{bytes_eq};
 ghost use Rattle.std.specs.Result.{result_err};
 ghost use Rattle.lapdm_frame.specs.Content.{Frame, content_of_body, frame_of_view};
-ghost use Rattle.lapdm_frame.specs.Frames.{FrameFits, octets_of};
+ghost use Rattle.lapdm_frame.specs.Frames.{FrameFits, InformationFits, NsAndNrFit, octets_of};
+ghost use Rattle.lapdm_frame.specs.declared.Channel.{Channel as ChannelOf};
 ghost use Rattle.lapdm_end.specs.lapdm_window.Calls.{endpoint_call_of, IsCallAllowedFor, OpensWithoutInfo, SendsUi};
 ghost use Rattle.lapdm_end.specs.lapdm_window.Calls.{refusal_of, call_outcome};
 ghost use Rattle.lapdm_end.specs.lapdm_window.Ends.{initial_endpoint, awaits_answer, sapi_number};
 ghost use Rattle.lapdm_end.specs.lapdm_window.segmenting.Buffers.{octets_in_buffer};
 ghost use Rattle.lapdm_end.specs.lapdm_window.Tables.{SendsDm, outcome_of_reply, frame_outcome, is_command, answers_repeated_sabm};
 ghost use Rattle.lapdm_end.specs.lapdm_window.declared.Sapi.TheVariants as P;
-ghost use Rattle.lapdm_link.specs.Worlds.{rej_replaced_by_rr};
 ghost use Rattle.lapdm_end.specs.Addresses.{spec_role_of};
 ghost use Rattle.lapdm_datalink.specs.Links.{
   LinkState,
@@ -42,6 +42,8 @@ ghost use Rattle.lapdm_datalink.specs.Links.{
   received_outcome,
   refuses,
   as_taken,
+  content_as_taken,
+  nr_as_taken,
   is_numbered,
   is_opened_again,
   is_return,
@@ -51,6 +53,8 @@ ghost use Rattle.lapdm_datalink.specs.Links.{
   received_notices,
   ui_frame,
   is_unnumbered_answer,
+  is_too_early,
+  is_unasked_dm,
   ignores,
   is_due,
   is_plain_rr,
@@ -90,16 +94,6 @@ pub struct LinkSlot {
     pub block: Option<[u8; BLOCK_OCTETS]>,
     /// Whether the link was given up in this slot: it is closed as failed.
     pub gave_up: bool,
-}
-
-// Returns the body as the endpoint takes it: an RR in place of a REJ.
-fn with_rr_for_rej(body: Body<'_>) -> Body<'_>
-    ensures { content_of_body result ≡ rej_replaced_by_rr (content_of_body body.entry) }
-{
-    match body {
-        Body::Rej { nr, pf } => Body::Rr { nr, pf },
-        other => other,
-    }
 }
 
 // Returns whether a frame with this body awaits an answer.
@@ -381,9 +375,9 @@ impl Link {
         self.keep(&blocks[1]);
     }
 
-    // Returns whether the link ignores a received frame: nothing answers a SABM or DISC that was not sent yet.
-    fn ignores(&self, frame: &FrameView<'_>) -> bool
-        ensures { (l : LinkState) → Represents self.now l → result ≡ ignores (frame_of_view frame.now) l }
+    // Returns whether the frame answers a SABM or DISC that was not sent yet.
+    fn is_too_early(&self, frame: &FrameView<'_>) -> bool
+        ensures { (l : LinkState) → Represents self.now l → result ≡ is_too_early (frame_of_view frame.now) l }
     {
         if self.is_sent || !is_unnumbered_answer(&frame.body) {
             return false;
@@ -392,6 +386,22 @@ impl Link {
             State::Opening | State::Closing => true,
             State::Idle | State::Open | State::Closed => false,
         }
+    }
+
+    // Returns whether the frame is a DM with F = 1 that no frame of this open link asked for: no repeat with P = 1 awaits its answer.
+    fn is_unasked_dm(&self, frame: &FrameView<'_>) -> bool
+        ensures { (l : LinkState) → Represents self.now l → result ≡ is_unasked_dm (frame_of_view frame.now) l.endpoint }
+    {
+        let Body::Dm { f: true } = frame.body else {
+            return false;
+        };
+        self.endpoint.state() == State::Open && self.endpoint.parts().window.retries == 0
+    }
+
+    fn ignores(&self, frame: &FrameView<'_>) -> bool
+        ensures { (l : LinkState) → Represents self.now l → result ≡ ignores (frame_of_view frame.now) l }
+    {
+        self.is_too_early(frame) || self.is_unasked_dm(frame)
     }
 
     // Returns whether the link is closed and this received frame opens it again.
@@ -566,14 +576,57 @@ impl Link {
         self.pass(frame, effects);
     }
 
+    // Returns N(R) as the endpoint takes it: V(A) in place of V(S) while the frame that awaits an answer waits for its slot.
+    fn nr_as_taken(&self, nr: u8) -> u8
+        ensures value { (l : LinkState) → Represents self.now l → result ≡ nr_as_taken nr l }
+        ensures fits { nr ≤ 7 → result ≤ 7 }
+    {
+        let window = self.endpoint.parts().window;
+        if !self.is_sent && nr == window.vs {
+            window.va
+        } else {
+            nr
+        }
+    }
+
+    // Returns the body as the endpoint takes it, with an RR in place of a REJ.
+    fn body_as_taken<'a>(&self, body: Body<'a>) -> Body<'a>
+        ensures value { (l : LinkState) → Represents self.now l
+            → content_of_body result ≡ content_as_taken (content_of_body body.entry) l }
+        ensures numbers { NsAndNrFit (content_of_body body.entry) → NsAndNrFit (content_of_body result) }
+        ensures information { (channel : ChannelOf) → InformationFits channel (content_of_body body.entry)
+            → InformationFits channel (content_of_body result) }
+    {
+        match body {
+            Body::I {
+                ns,
+                nr,
+                p,
+                more,
+                info,
+            } => Body::I {
+                ns,
+                nr: self.nr_as_taken(nr),
+                p,
+                more,
+                info,
+            },
+            Body::Rr { nr, pf } | Body::Rej { nr, pf } => Body::Rr {
+                nr: self.nr_as_taken(nr),
+                pf,
+            },
+            other => other,
+        }
+    }
+
     // Passes a frame to the endpoint, and keeps the frames that it returns.
     fn pass(&mut self, frame: &FrameView<'_>, effects: &mut Effects)
         requires { FrameFits (channel_of self.old) (frame_of_view frame.now) }
         ensures done { (l : LinkState) → Represents self.old l
             → Represents self.new
-            (with_outcome (frame_outcome (as_taken (frame_of_view frame.now) l.endpoint) l.endpoint) l) }
+            (with_outcome (frame_outcome (as_taken (frame_of_view frame.now) l) l.endpoint) l) }
         ensures notices { (l : LinkState) → Represents self.old l
-            → effects.new.notices ≡ (frame_outcome (as_taken (frame_of_view frame.now) l.endpoint) l.endpoint).notices }
+            → effects.new.notices ≡ (frame_outcome (as_taken (frame_of_view frame.now) l) l.endpoint).notices }
         ensures frames { effects.new.frames ≡ [] }
         ensures role { role_of self.new ≡ role_of self.old }
         ensures sapi { sapi_of self.new ≡ sapi_of self.old }
@@ -582,7 +635,7 @@ impl Link {
         let taken = FrameView {
             sapi: sapi_number(self.endpoint.sapi()),
             cr: frame.cr,
-            body: with_rr_for_rej(frame.body),
+            body: self.body_as_taken(frame.body),
         };
         self.endpoint.take_frame_into(&taken, effects);
         self.keep_all(effects.frames.as_slice());

@@ -1,16 +1,16 @@
 //! What a data link does next, told from its state as plain data. In most slots no link acts, and none has to be restored.
 
-ghost use Rattle.std.specs.Prelude.{◌≡◌, ◌↔◌, ◌==◌, ◌-◌, ◌||◌, ◌&&◌, not, if◌then◌else◌, IsTrue};
+ghost use Rattle.std.specs.Prelude.{◌≡◌, ◌↔◌, ◌==◌, ◌-◌, ◌||◌, ◌&&◌, not, if◌then◌else◌};
+ghost use Rattle.std.specs.Prelude.{false, IsTrue, MatchOption};
 ghost use Rattle.std.specs.Option.{is_none};
 ghost use Rattle.lapdm_frame.specs.Content.{frame_of_view};
 ghost use Rattle.lapdm_end.specs.Addresses.{spec_role_of};
 ghost use Rattle.lapdm_datalink.specs.Links.{LinkState, after_slot};
-ghost use Rattle.lapdm_datalink.specs.DataLinks.{DataLinkState, takes_sapi3, sapi_for_frame};
-ghost use Rattle.lapdm_datalink.specs.Parts.{values_of_parts, ValuesRepresent, acts_in_slot};
-ghost use Rattle.lapdm_datalink.specs.Parts.{data_link_values_of_parts, RepresentDataLink, RepresentSomeDataLink};
-ghost use Rattle.lapdm_datalink.specs.Outlooks.{IsOutlook};
+ghost use Rattle.lapdm_datalink.specs.DataLinks.{DataLinkState, IsDataLink, takes_sapi3, sapi_for_frame};
+ghost use Rattle.lapdm_datalink.specs.Parts.{values_of_parts, ValuesRepresent, SomeLinkHasValues, acts_in_slot};
+ghost use Rattle.lapdm_datalink.specs.Outlooks.{IsOutlook, IsLinkOutlook, AreOfOneDataLink};
 
-use crate::parts::{DataLinkView, LinkView, are_of_one_data_link};
+use crate::parts::{LinkView, is_same_role, is_timed};
 use lapdm_end::{Channel, Role, Sapi, State};
 use lapdm_frame::{BLOCK_OCTETS, FrameView};
 
@@ -29,6 +29,20 @@ pub struct Outlook {
     pub takes_sapi3: bool,
 }
 
+/// What a data link needs to know of one of its links.
+#[derive(Clone, Copy, Debug)]
+pub struct LinkOutlook {
+    pub role: Role,
+    /// The SAPI of its endpoint.
+    pub sapi: Sapi,
+    pub channel: Channel,
+    pub state: State,
+    /// Whether T200 is not 0, and the clock not longer.
+    pub is_timed: bool,
+    /// Whether the link acts in the next slot if it has it: it sends a frame or is given up.
+    pub acts: bool,
+}
+
 impl Outlook {
     /// Returns the SAPI of the link that takes this received frame, or `None` if the data link drops it.
     pub fn sapi_for(&self, frame: &FrameView<'_>) -> Option<Sapi>
@@ -42,41 +56,64 @@ impl Outlook {
         }
         None
     }
+
+    /// Returns what the next slot and the next frame need to know of the data link with these links of SAPI 0 and SAPI 3, or `None` if
+    /// they are not those of one data link.
+    pub fn of_links(
+        link0: &LinkOutlook,
+        link3: &LinkOutlook,
+        is_main_established: bool,
+    ) -> Option<Outlook>
+        ensures { (s : DataLinkState) → IsLinkOutlook false link0.now s.link0 → IsLinkOutlook s.heard_sapi0 link3.now s.link3
+            → is_main_established ≡ s.is_main_established
+            → MatchOption result (IsDataLink s → ⊥) (λ o. IsDataLink s × IsOutlook o s) }
+    {
+        if !are_of_one_data_link(link0, link3) {
+            return None;
+        }
+        Some(Outlook {
+            role: link0.role,
+            channel: link0.channel,
+            endpoint_sapi: link0.sapi,
+            acts0: link0.acts,
+            acts3: link3.acts,
+            takes_sapi3: takes_sapi3(link0.role, link0.channel, link0.state, is_main_established),
+        })
+    }
 }
 
-impl DataLinkView<'_> {
-    /// Returns whether some data link has this state.
-    pub fn is_data_link(&self) -> bool
-        ensures { IsTrue result ↔ RepresentSomeDataLink (data_link_values_of_parts self.now) }
-    {
-        if !are_of_one_data_link(&self.link0, &self.link3) {
-            return false;
-        }
-        self.link0.is_link() && self.link3.is_link()
-    }
-
-    /// Returns what the next slot and the next frame need to know of the data link with this state.
-    pub fn outlook(&self) -> Outlook
-        ensures { (s : DataLinkState) → RepresentDataLink (data_link_values_of_parts self.now) s → IsOutlook result s }
-    {
-        let end = &self.link0.endpoint;
-        Outlook {
-            role: end.role,
-            channel: end.window.channel,
-            endpoint_sapi: end.sapi,
-            acts0: self.link0.acts_in_next_slot(false),
-            acts3: self.link3.acts_in_next_slot(self.heard_sapi0),
-            takes_sapi3: takes_sapi3(
-                end.role,
-                end.window.channel,
-                end.state,
-                self.is_main_established,
-            ),
-        }
-    }
+// Returns whether these are the links of SAPI 0 and SAPI 3 of one data link: by role, SAPI, channel and T200.
+fn are_of_one_data_link(link0: &LinkOutlook, link3: &LinkOutlook) -> bool
+    ensures { IsTrue result ↔ AreOfOneDataLink link0.now link3.now }
+{
+    link3.sapi == Sapi::Three
+        && is_same_role(link3.role, link0.role)
+        && link3.channel == link0.channel
+        && link0.is_timed
+        && link3.is_timed
 }
 
 impl LinkView<'_> {
+    /// Returns what its data link needs to know of the link with this state, or `None` if no link has it. The next slot is not counted if
+    /// `is_stopped`.
+    pub fn outlook(&self, is_stopped: bool) -> Option<LinkOutlook>
+        ensures { MatchOption result (SomeLinkHasValues (values_of_parts self.now) → ⊥)
+            (λ o. SomeLinkHasValues (values_of_parts self.now)
+            × ((l : LinkState) → ValuesRepresent (values_of_parts self.now) l → IsLinkOutlook is_stopped o l)) }
+    {
+        if !self.is_link() {
+            return None;
+        }
+        Some(LinkOutlook {
+            role: self.endpoint.role,
+            sapi: self.endpoint.sapi,
+            channel: self.endpoint.window.channel,
+            state: self.endpoint.state,
+            is_timed: is_timed(self.t200, self.clock),
+            acts: self.acts_in_next_slot(is_stopped),
+        })
+    }
+
     // Returns whether the link acts in the next slot if it has it. The slot is counted first, unless it does not count.
     fn acts_in_next_slot(&self, is_stopped: bool) -> bool
         ensures { (l : LinkState) → ValuesRepresent (values_of_parts self.now) l

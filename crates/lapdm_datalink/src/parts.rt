@@ -1,13 +1,13 @@
 //! Exports the state of a link as plain data, and restores a link from it.
 
-ghost use Rattle.std.specs.Prelude.{◌≡◌, ◌≢◌, ◌≤◌, ◌↔◌, false, IsTrue, IfSome, MatchOption};
+ghost use Rattle.std.specs.Prelude.{◌≡◌, ◌≢◌, ◌≤◌, ◌↔◌, false, IsTrue};
 ghost use Rattle.lapdm_frame.specs.Content.{content_of_body, frame_of_view};
 ghost use Rattle.lapdm_end.specs.Addresses.{spec_role_of};
 ghost use Rattle.lapdm_datalink.specs.Links.{LinkState};
 ghost use Rattle.lapdm_datalink.specs.DataLinks.{DataLinkState, IsDataLink, having_main};
 ghost use Rattle.lapdm_datalink.specs.Abstraction as L;
 ghost use Rattle.lapdm_datalink.specs.Abstraction.{Represents, IsAnswer, is_answer_kind, role_of, sapi_of, channel_of as link_channel};
-ghost use Rattle.lapdm_datalink.specs.Parts.{values_of, values_of_parts, ValuesRepresent, SomeLinkHasValues, IsTimed, AreOfOneDataLink};
+ghost use Rattle.lapdm_datalink.specs.Parts.{values_of, values_of_parts, ValuesRepresent, SomeLinkHasValues, IsTimed};
 ghost use Rattle.lapdm_datalink.specs.Parts.{IsAnswerBlock, HasAnswerBlockIfAny, IsAtSameAddress, CanBeRestored, IsWritable};
 ghost use Rattle.lapdm_datalink.specs.Parts.{data_link_values_of, data_link_values_of_parts, RepresentDataLink, RepresentSomeDataLink};
 
@@ -78,17 +78,22 @@ fn is_answer_block(block: &[u8; BLOCK_OCTETS], role: Role, sapi: Sapi, channel: 
     }
 }
 
+// Inlined, and the block is copied before it is lent: a view of which nothing is lent need not be written, and most links owe no answer.
+#[inline(always)]
 fn has_answer_block_if_any(parts: &LinkView<'_>) -> bool
     ensures { IsTrue result ↔ HasAnswerBlockIfAny (values_of_parts parts.now) }
 {
     match &parts.answer {
         None => true,
-        Some(block) => is_answer_block(
-            block,
-            parts.endpoint.role,
-            parts.endpoint.sapi,
-            parts.endpoint.window.channel,
-        ),
+        Some(block) => {
+            let copy = *block;
+            is_answer_block(
+                &copy,
+                parts.endpoint.role,
+                parts.endpoint.sapi,
+                parts.endpoint.window.channel,
+            )
+        }
     }
 }
 
@@ -101,7 +106,7 @@ impl LinkView<'_> {
     }
 }
 
-fn is_same_role(role: Role, other: Role) -> bool
+pub(crate) fn is_same_role(role: Role, other: Role) -> bool
     ensures { IsTrue result ↔ (spec_role_of role ≡ spec_role_of other) }
 {
     match (role, other) {
@@ -111,7 +116,7 @@ fn is_same_role(role: Role, other: Role) -> bool
 }
 
 // Returns whether this T200 is not 0, and the clock is not longer.
-fn is_timed(t200: u8, clock: u8) -> bool
+pub(crate) fn is_timed(t200: u8, clock: u8) -> bool
     ensures { IsTrue result ↔ IsTimed t200 clock }
 {
     t200 != 0 && clock <= t200
@@ -163,21 +168,6 @@ impl Link {
         true
     }
 
-    /// Returns the link with this state, or `None` if no link can have it.
-    pub fn from_parts(parts: &LinkView<'_>) -> Option<Link>
-        ensures { MatchOption result (SomeLinkHasValues (values_of_parts parts.now) → ⊥)
-            (λ m. SomeLinkHasValues (values_of_parts parts.now)
-            × ((l : LinkState) → ValuesRepresent (values_of_parts parts.now) l → Represents m l)) }
-    {
-        let end = &parts.endpoint;
-        let mut held = Link::new_on(end.role, end.sapi, end.window.channel, parts.t200);
-        if held.restore_any(parts) {
-            Some(held)
-        } else {
-            None
-        }
-    }
-
     /// Restores a link from its state. Returns false and changes nothing if no link with this SAPI and channel can have this state.
     pub fn restore(&mut self, parts: &LinkView<'_>) -> bool
         ensures same { IsTrue result → values_of self.new ≡ values_of_parts parts.now }
@@ -193,17 +183,6 @@ impl Link {
         }
         self.restore_any(parts)
     }
-}
-
-/// Returns whether these may be the links of SAPI 0 and SAPI 3 of one data link, if both are links: by role, SAPI, channel and T200.
-pub fn are_of_one_data_link(link0: &LinkView<'_>, link3: &LinkView<'_>) -> bool
-    ensures { IsTrue result ↔ AreOfOneDataLink (values_of_parts link0.now) (values_of_parts link3.now) }
-{
-    link3.endpoint.sapi == Sapi::Three
-        && is_same_role(link3.endpoint.role, link0.endpoint.role)
-        && link3.endpoint.window.channel == link0.endpoint.window.channel
-        && is_timed(link0.t200, link0.clock)
-        && is_timed(link3.t200, link3.clock)
 }
 
 impl DataLink {
@@ -273,22 +252,6 @@ impl DataLink {
         self.heard_sapi0 = parts.heard_sapi0;
         self.is_main_established = parts.is_main_established;
         self.is_data_link()
-    }
-
-    /// Returns the data link with this state, or `None` if no data link can have it.
-    pub fn from_parts(parts: &DataLinkView<'_>) -> Option<DataLink>
-        ensures same { IfSome result (λ m. data_link_values_of m ≡ data_link_values_of_parts parts.now) }
-        ensures read { MatchOption result (RepresentSomeDataLink (data_link_values_of_parts parts.now) → ⊥)
-            (λ m. RepresentSomeDataLink (data_link_values_of_parts parts.now)
-            × ((s : DataLinkState) → RepresentDataLink (data_link_values_of_parts parts.now) s → DataLinkRepresents m s)) }
-    {
-        let end = &parts.link0.endpoint;
-        let mut held = DataLink::with_endpoint(end.sapi, end.role, end.window.channel, 1, 1);
-        if held.restore(parts) {
-            Some(held)
-        } else {
-            None
-        }
     }
 
     /// Says whether the link of SAPI 0 on the main channel is established.

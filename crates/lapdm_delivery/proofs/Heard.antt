@@ -120,9 +120,9 @@ grows-frame f l = by (refuses f l.endpoint)
     x : EndpointState
     x = l.endpoint
 
-    by : (b : Bool) → Grows x (outcome_of_reply (if b then SendsDm else reply_to_frame (as_taken f x) x) x)
+    by : (b : Bool) → Grows x (outcome_of_reply (if b then SendsDm else reply_to_frame (as_taken f l) x) x)
     by true = grows-reply f.content SendsDm x tt
-    by false = let g = as_taken f x in grows-reply g.content (reply_to_frame g x) x (cause_of x g)
+    by false = let g = as_taken f l in grows-reply g.content (reply_to_frame g x) x (cause_of x g)
 
 grows-call : (role : Role) (call : Call) (x : EndpointState) → IsLinkCall call → IsCallAllowedFor role x.sapi call →
     refusal_of call x ≡ None → Grows x (call_outcome call x)
@@ -258,7 +258,7 @@ expired-full e s h = grind (arith, awaited-full true e s h)
 expired-informed : (e : EndpointState) → is_informed e ≡ true → is_informed (t200_expiry e).new_state ≡ true
 expired-informed e h = grind (arith, h)
 
-expired-sapi : (e : EndpointState) → (t200_expiry e).new_state.sapi ≡ e.sapi
+pub expired-sapi : (e : EndpointState) → (t200_expiry e).new_state.sapi ≡ e.sapi
 expired-sapi e = grind arith
 
 shows-by : (k : Sapi) (l : LinkState) (o : SlotOutcome) → IsFine k l → IsSlot l o → Shows k l o

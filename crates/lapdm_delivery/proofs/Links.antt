@@ -7,7 +7,7 @@ use Rattle.{
     },
     specs.Links.{is_closed, is_opening_call, afresh, IsLinkCall, LinkState, SlotOutcome, is_opening, is_awaiting_kind, with_frame},
     specs.Links.{with_frames, with_outcome, first_frame, after_call, after_frame, frame_notices, received_outcome, is_reopened_by_call},
-    specs.Links.{is_reopened_by_frame, ignores, refuses, after_slot, slot_outcome, ui_frame, as_taken},
+    specs.Links.{is_reopened_by_frame, ignores, refuses, after_slot, slot_outcome, ui_frame, as_taken, content_as_taken},
   },
   lapdm_link.{
     proofs.{
@@ -21,13 +21,13 @@ use Rattle.{
       Lemmas.{IsReplyTo, closes_and_reports, may_send_next_segment, with_queued_message, sends_segment, no_effect, is_idle-is, not_false},
       Lemmas.{passes, single_frame_refusal_checks},
     },
-    specs.{Events.BothSides, Worlds.{rej_replaced_by_rr, rr_for_rej, dm_for_any}},
+    specs.{Events.{BothSides, endpoint_at}, Worlds.{rej_replaced_by_rr, rr_for_rej, dm_for_any, with_nr, without_ack}},
   },
   std.{specs.Prelude.{IfSome, ◌||◌}, proofs.lemmas.Bool.Decides.nat_tests},
   lapdm_end.specs.lapdm_window.{
     Tables.{Reply, reply_to_frame, outcome_of_reply, Nothing, SendsDm, SendsUa, ReportsUiInformation, TakesIFrame, TakesRr, TakesRej},
     declared.State.TheVariants.{Closing, Open, Opening},
-    Ends.{command_frame, response_frame},
+    Ends.{command_frame, response_frame, va},
     Rules.is_open,
     Calls.{sabm, t200_expiry},
   },
@@ -347,24 +347,48 @@ module _ (l : LinkState) where
       reply-no_opening g.content (reply_to_frame g l.endpoint) (cause_of l.endpoint g)
       (open-stays g.content (frame_outcome g l.endpoint) (taken-frame l.endpoint w g).goes)
 
--- a frame with the SAPI of the endpoint is taken as it is, but for a REJ
-taken_same : (s : Sapi) (f : Frame) (e : EndpointState) → e.sapi ≡ s → is_on s f ≡ true →
-    as_taken f e ≡ record f { content = rej_replaced_by_rr f.content }
-taken_same s f e same on = λ i. record f { sapi = number i; content = rej_replaced_by_rr f.content }
+-- the frame that an endpoint takes for this one: an RR for a REJ, with V(A) in place of N(R) if it acknowledges nothing
+pub data IsTakenFor (e : EndpointState) (f g : Frame) : Type 0 where
+  but_for_rej : g ≡ record f { content = rej_replaced_by_rr f.content } → IsTakenFor e f g
+  without_nr : g ≡ record f { content = with_nr (va e) (rej_replaced_by_rr f.content) } → IsTakenFor e f g
+
+content_is_taken : (c : Content) (l : LinkState) → (content_as_taken c l ≡ rej_replaced_by_rr c)
+    ⊎ (content_as_taken c l ≡ with_nr (va l.endpoint) (rej_replaced_by_rr c))
+content_is_taken c l = grind arith
+
+-- a frame with the SAPI of the endpoint is taken so
+is_taken : (s : Sapi) (f : Frame) (l : LinkState) → l.endpoint.sapi ≡ s → is_on s f ≡ true →
+    IsTakenFor l.endpoint f (as_taken f l)
+is_taken s f l same on = elim (content_is_taken f.content l) [
+  | inl e ↦ but_for_rej (λ i. record f { sapi = number i; content = e i })
+  | inr e ↦ without_nr (λ i. record f { sapi = number i; content = e i })
+]
   where
-    number : sapi_number e.sapi ≡ f.sapi
+    number : sapi_number l.endpoint.sapi ≡ f.sapi
     number = ap sapi_number same ∙ sym (on_is s f on)
 
 -- what is read of a frame on the air for the one in the queue for which it stands
-reads : (r : Role) (sides : BothSides) (f first g : Frame) → g ≡ record f { content = rej_replaced_by_rr f.content } →
+reads : (s : Sapi) (r : Role) (sides : BothSides) (f first g : Frame) → IsTakenFor (endpoint_at r s sides) f g → is_on s f ≡ true →
     StandsFor f first → IsReadFor r sides g first
-reads r sides f first g same (itself is) = rw (same, ← is) (record {
+reads s r sides f first g (but_for_rej same) on (itself is) = rw (same, ← is) (record {
   may = rr_for_rej refl;
   fits = λ channel h. grind arith;
   early = λ q s h. grind arith;
   ui = λ h. grind arith;
 })
-reads r sides f first g same (dm_for_disc p sapi dm disc) = rw (same, dm) (record {
+reads s r sides f first g (without_nr same) on (itself is) = rw (same, ← is) (record {
+  may = without_ack s (on_is s f on) refl;
+  fits = λ channel h. grind arith;
+  early = λ q s h. grind arith;
+  ui = λ h. grind arith;
+})
+reads s r sides f first g (without_nr same) on (dm_for_disc p sapi dm disc) = rw (same, dm) (record {
+  may = dm_for_any sapi refl;
+  fits = λ channel h. grind (arith, sapi);
+  early = λ q s h. absurd (grind (arith, disc));
+  ui = λ h. absurd (grind (arith, disc));
+})
+reads s r sides f first g (but_for_rej same) on (dm_for_disc p sapi dm disc) = rw (same, dm) (record {
   may = dm_for_any sapi refl;
   fits = λ channel h. grind (arith, sapi);
   early = λ q s h. absurd (grind (arith, disc));
@@ -499,11 +523,10 @@ module _ {s : Sapi} {r : Role} {air rest : List Frame} {l l' : LinkState} {f : F
 
     -- the endpoint takes the frame
     pass_with : is_on s f ≡ true →
-        LinkAt s r air (with_outcome (frame_outcome (as_taken f l.endpoint) l.endpoint) l) rest l'
-        (log ++ map (Notified r s) (frame_outcome (as_taken f l.endpoint) l.endpoint).notices)
+        LinkAt s r air (with_outcome (frame_outcome (as_taken f l) l.endpoint) l) rest l'
+        (log ++ map (Notified r s) (frame_outcome (as_taken f l) l.endpoint).notices)
     pass_with on =
-        let g = as_taken f l.endpoint in
-        let same_frame : g ≡ record f { content = rej_replaced_by_rr f.content } = taken_same s f l.endpoint (own_sapi k) on in
+        let g = as_taken f l in
         let on_taken : is_on s g ≡ true = on_own s g (ap sapi_number (own_sapi k)) in
         let o = frame_outcome g l.endpoint in
         let z = without_oldest_item (other r) at_front.world in
@@ -512,7 +535,8 @@ module _ {s : Sapi} {r : Role} {air rest : List Frame} {l l' : LinkState} {f : F
         (subst (λ t. AllFrames (Says None l.endpoint o.new_state) t o.frames) (own_sapi k)
         (taken-frame l.endpoint (window k) g).frames) in
         let oldest : ReadsOldest r at_front.world.ends g (way (other r) at_front.world) =
-        rw at_front.front (reads r at_front.world.ends f at_front.first g same_frame at_front.stands) in
+        rw at_front.front (reads s r at_front.world.ends f at_front.first g
+        (subst (λ e. IsTakenFor e f g) (sym same) (is_taken s f l (own_sapi k) on)) on at_front.stands) in
         let quiet : o.new_state.state ≡ Idle → (l.endpoint.state ≡ Idle) × (o.frames ≡ []) =
         rw same at (silent at_front.reaches r g oldest) in
         acts k z o (map (Notified r s) o.notices) (map (Notified r s) o.notices)
@@ -547,7 +571,7 @@ module _ {s : Sapi} {r : Role} {air rest : List Frame} {l l' : LinkState} {f : F
     take_with on = by_test (refuses f l.endpoint) refl
       where
         by_test : (b : Bool) → refuses f l.endpoint ≡ b →
-            (let o = outcome_of_reply (if b then SendsDm else reply_to_frame (as_taken f l.endpoint) l.endpoint) l.endpoint in
+            (let o = outcome_of_reply (if b then SendsDm else reply_to_frame (as_taken f l) l.endpoint) l.endpoint in
             LinkAt s r air (with_outcome o l) rest l' (log ++ map (Notified r s) o.notices))
         by_test true e = refuse_with (refused-closing f l.endpoint e)
         by_test false e = pass_with on

@@ -77,7 +77,7 @@ goes-then {c} g h = record {
 abbrev IsOfKind : Establishment → DataLinkState → Type 0
 IsOfKind e d = (s : Sapi) → (link_with_sapi s d).endpoint.sapi ≡ sapi_of_endpoint e s
 
-not_afresh : (call : Call) (l : LinkState) → is_reopened_by_call call l ≡ false → for_call call l ≡ l
+pub not_afresh : (call : Call) (l : LinkState) → is_reopened_by_call call l ≡ false → for_call call l ≡ l
 not_afresh call l h = ap (λ (b : Bool). if b then afresh l else l) h
 
 called_sapi : (call : Call) (l : LinkState) → IsLinkCall call → is_reopened_by_call call l ≡ false → (x : Option Refused) →

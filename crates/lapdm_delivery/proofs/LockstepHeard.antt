@@ -1,10 +1,10 @@
 -- Two whole data links in lockstep: what each side has heard of the other, for one SAPI. No SABM opens an open link again.
-use Rattle.std.specs.Prelude.{◌≡◌, ℕ, zero, suc, Bool, true, false, ◌&&◌, ◌||◌, if◌then◌else◌, List, [], ◌∷◌}
+use Rattle.std.specs.Prelude.{◌≡◌, ℕ, zero, suc, Bool, true, false, ◌||◌, if◌then◌else◌, List, [], ◌∷◌}
 use Rattle.std.specs.Prelude.{◌++◌, All, get_or, Option, Some, None, IfSome}
 use Rattle.std.specs.List.{cons_option}
 use Rattle.std.proofs.Common.{arith, refl, ap, ◌∙◌, subst}
 use Rattle.std.proofs.lemmas.List.Elements.{All-head, All-tail}
-use Rattle.std.proofs.lemmas.Bool.Decides.{nat_tests}
+use Rattle.std.proofs.{Math.Bool.and-false, lemmas.Bool.Decides.nat_tests}
 use Rattle.lapdm_frame.specs.Content.{Content, Ui, Frame}
 use Rattle.lapdm_end.specs.lapdm_window.declared.Sapi.{Sapi}
 use Rattle.lapdm_end.specs.lapdm_window.declared.Sapi.TheVariants.{Zero, Three}
@@ -29,7 +29,17 @@ use Rattle.lapdm_delivery.proofs.Heard.{IsElse, Silent, Settled, sender_ages, re
 use Rattle.lapdm_delivery.proofs.Heard.{taken_heard, slot_is_silent, slot_is_settled, is_past, slot_is_full, else_is_silent}
 use Rattle.lapdm_delivery.proofs.Heard.{else_is_settled, else_is_full, IsFine, Full, is_informed, is_sabm}
 use Rattle.lapdm_delivery.proofs.RunsHeard.{ages-slot, unit_is_else}
-use Rattle.lapdm_delivery.proofs.Runs.{sent_on_zero}
+use Rattle.lapdm_delivery.proofs.Runs.{sent_on_zero, taker-on}
+
+pub main_same : (s : Sapi) (b : Bool) (d : DataLinkState) → link_with_sapi s (having_main b d) ≡ link_with_sapi s d
+main_same s b d = grind arith
+
+pub unit-content : (t : Sapi) (m : Message) (d : DataLinkState) → (unit_frame t m d).content ≡ Ui false m
+unit-content Zero m d = by d.link0.endpoint.sapi _
+  where
+    by : (x : Sapi) (f : Frame) → (on_sapi0 x f).content ≡ f.content
+    by x f = grind arith
+unit-content Three m d = refl
 
 -- ---- the frames in transit
 
@@ -113,14 +123,7 @@ module _ (s k : Sapi) where
       Sent l m (frame_or_unit a unit d)
   with_unit l m (Some f) unit d h = h
   with_unit l m None None d h = h
-  with_unit l m None (Some (t, i)) d h = sends_else l m _ h.ages h.heard (unit_is_else s (unit_frame t i d) i (unit-content t))
-    where
-      content_on : (x : Sapi) (f : Frame) → (on_sapi0 x f).content ≡ f.content
-      content_on x f = grind arith
-
-      unit-content : (t : Sapi) → (unit_frame t i d).content ≡ Ui false i
-      unit-content Zero = content_on d.link0.endpoint.sapi _
-      unit-content Three = refl
+  with_unit l m None (Some (t, i)) d h = sends_else l m _ h.ages h.heard (unit_is_else s (unit_frame t i d) i (unit-content t i d))
 
 content_sent : (P : Content → Type 0) (x : Sapi) (f : Frame) → P f.content → P (on_sapi0 x f).content
 content_sent P Zero f h = h
@@ -161,9 +164,6 @@ data Takes (s : Sapi) (a : Option Frame) (l m : LinkState) : Type 0 where
   stays : m ≡ l → Takes s a l m
   takes : (f : Frame) → a ≡ Some f → is_on s f ≡ true → m ≡ after_received f l → Takes s a l m
 
-taken_on : (f : Frame) (d : DataLinkState) (t : Sapi) → sapi_for_frame f d ≡ Some t → is_on t f ≡ true
-taken_on f d t e = grind (arith, nat_tests)
-
 takes_of : (s : Sapi) (a : Option Frame) (d : DataLinkState) →
     Takes s a (link_with_sapi s d) (link_with_sapi s (after_arrival_if_any a d))
 takes_of s None d = stays refl
@@ -172,11 +172,11 @@ takes_of s (Some f) d = by s (sapi_for_frame f d) refl
     by : (s : Sapi) (t : Option Sapi) → sapi_for_frame f d ≡ t →
         Takes s (Some f) (link_with_sapi s d) (link_with_sapi s (taken_by t f d))
     by Zero None e = stays refl
-    by Zero (Some Zero) e = takes f refl (taken_on f d Zero e) refl
+    by Zero (Some Zero) e = takes f refl (taker-on f d Zero e) refl
     by Zero (Some Three) e = stays refl
     by Three None e = stays refl
     by Three (Some Zero) e = stays refl
-    by Three (Some Three) e = takes f refl (taken_on f d Three e) refl
+    by Three (Some Three) e = takes f refl (taker-on f d Three e) refl
 
 module _ {s k : Sapi} (a : Option Frame) (q : List Frame) {l m : LinkState} (h : IsHeard s k (cons_option a q) l m)
     (same : m.endpoint.sapi ≡ k)
@@ -207,10 +207,7 @@ module _ {s k : Sapi} (a : Option Frame) (q : List Frame) {l m : LinkState} (h :
 -- no call that exists with contention resolution does
 pub zero-regular : (role : Role) (c : Call) (l : LinkState) → IsCallAllowedFor role Zero c → is_reopened_by_call c l ≡ false
 zero-regular role OpensWithoutInfo l h = absurd cc
-zero-regular role c l h = by (is_closed l.endpoint.state || is_open l.endpoint.state)
-  where
-    by : (b : Bool) → (b && false) ≡ false
-    by b = grind arith
+zero-regular role c l h = and-false (is_closed l.endpoint.state || is_open l.endpoint.state)
 
 record Called (k : Sapi) (l m : LinkState) : Type 0 where
   ages : IsFine k l → Ages k l m
@@ -282,9 +279,6 @@ module _ (r : Run) (s : Sapi) where
     pub arrival : IfSome (arriving_at r n role) (λ f. is_reopened_by_frame f (link_of n role) ≡ false)
     pub calls : CallsOpenOnce s (r.part n role).calls (taken_at r n role)
     pub own : SendOwn (ready_at r n role)
-
-  main_same : (s : Sapi) (b : Bool) (d : DataLinkState) → link_with_sapi s (having_main b d) ≡ link_with_sapi s d
-  main_same s b d = grind arith
 
   module _ (n : ℕ) (h : (role : Role) → HeardAt n role) where
     -- what arrives at this side

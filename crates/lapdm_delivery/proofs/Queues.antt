@@ -1,8 +1,9 @@
 -- Frames in transit of one link: what is on the air and what waits is a subsequence of a queue of `lapdm_link`, but for DM frames
 -- with which the link refuses a SABM: each stands for a DISC there.
 use Rattle.{
+  std.proofs.Math.Bool.and-false,
   lapdm_link.proofs.{
-    Lemmas.{◌≡◌, refl, arith, ◌++◌, Bool, true, false, List, [], ◌∷◌, ◌&&◌, append_assoc, append-nil},
+    Lemmas.{◌≡◌, refl, arith, ◌++◌, Bool, true, false, List, [], ◌∷◌, append_assoc, append-nil},
     Lemmas.{if◌then◌else◌, Some, cons_option, Frame, Outcome, AllOf, ap, sym, ◌∙◌},
   },
   lapdm_end.specs.lapdm_window.Calls.sabm,
@@ -76,14 +77,11 @@ owed l = cons_option l.answer []
 abbrev pub pending : LinkState → List Frame
 pending l = unsent l ++ owed l
 
-and_false : (b : Bool) → (b && false) ≡ false
-and_false b = grind arith
-
 pub unsent-not : (l : LinkState) → sabm_goes_first l ≡ false → unsent l ≡ []
 unsent-not l e = rw e refl
 
 pub unsent-sent : (l : LinkState) → l.is_sent ≡ true → unsent l ≡ []
-unsent-sent l e = unsent-not l (rw e (and_false _))
+unsent-sent l e = unsent-not l (rw e (and-false _))
 
 pub unsent-elsewhere : (l : LinkState) → is_opening l.endpoint.state ≡ false → unsent l ≡ []
 unsent-elsewhere l e = unsent-not l (grind (arith, e))

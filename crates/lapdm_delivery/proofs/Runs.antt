@@ -114,13 +114,13 @@ of_link {s = s} {k = k} r c log h e f e' f' g = record {
 -- ---- a data link replaces that of one side
 
 module _ (r : Role) (d : DataLinkState) (c : RunState) where
-  replaced-own : data_link_of r (with_data_link r d c) ≡ d
+  pub replaced-own : data_link_of r (with_data_link r d c) ≡ d
   replaced-own = grind arith
 
-  replaced-other : data_link_of (other r) (with_data_link r d c) ≡ data_link_of (other r) c
+  pub replaced-other : data_link_of (other r) (with_data_link r d c) ≡ data_link_of (other r) c
   replaced-other = grind arith
 
-  replaced-air : (with_data_link r d c).air ≡ c.air
+  pub replaced-air : (with_data_link r d c).air ≡ c.air
   replaced-air = grind arith
 
 module _ (s t : Sapi) (l : LinkState) (d : DataLinkState) where
@@ -409,7 +409,7 @@ module _ (e : Establishment) {c : RunState} {log : List LogLine} (r : Role) (all
 -- ---- arrivals
 
 -- the frame has the SAPI of the link that takes it
-taker-on : (f : Frame) (d : DataLinkState) (t : Sapi) → sapi_for_frame f d ≡ Some t → is_on t f ≡ true
+pub taker-on : (f : Frame) (d : DataLinkState) (t : Sapi) → sapi_for_frame f d ≡ Some t → is_on t f ≡ true
 taker-on f d t e = grind (arith, nat_tests)
 
 -- the run after side `r` has this data link and the oldest frame of the other side has left the air

@@ -1,8 +1,8 @@
 -- The steps of one link in a run (`Links`), with what its ends have heard: no SABM opens an open link again.
 use Rattle.{
-  std.specs.{Prelude.{◌≡◌, ◌++◌, ◌&&◌, Bool, false, true, if◌then◌else◌, ℕ, List, [], ◌∷◌, map, Some, None}},
+  std.specs.{Prelude.{◌≡◌, ◌++◌, Bool, false, true, if◌then◌else◌, ℕ, List, [], ◌∷◌, map, Some, None}},
   std.specs.List.cons_option,
-  std.proofs.Common.{arith, refl, ap, ◌∙◌},
+  std.proofs.{Common.{refl, ap, ◌∙◌}, Math.Bool.and-false},
   lapdm_frame.specs.Content.{Frame, Ui},
   lapdm_end.specs.lapdm_window.{declared.Sapi.Sapi, Ends.Role, Calls.{Call, SendsUi, IsCallAllowedFor, refusal_of}},
   lapdm_link.proofs.Lemmas.{IsPlaced, LogLine, Asked, Notified, is_on},
@@ -31,10 +31,7 @@ ages-slot k l =
     record { past = λ p. p; fine = λ h. record { sapi = h.sapi; informed = h.informed; answer = h.answer } }
 
 pub unit_is_else : (s : Sapi) (f : Frame) (m : List ℕ) → f.content ≡ Ui false m → IsElse s (Some f)
-unit_is_else s f m e = rw e (right (is_on s f), right (is_on s f))
-  where
-    right : (b : Bool) → (b && false) ≡ false
-    right b = grind arith
+unit_is_else s f m e = rw e (and-false (is_on s f), and-false (is_on s f))
 
 -- what a link has heard plays no part in the session
 reheard : {s : Sapi} {r : Role} {air air' : List Frame} {l l' : LinkState} {log : List LogLine} (b : Bool) →

@@ -1,6 +1,6 @@
 -- The invariant of delivery in one direction.
 use Rattle.{
-  lapdm_link.{proofs.Events.{AllOf, rest}, specs.Events.other},
+  lapdm_link.{proofs.{Events.{AllOf, rest}, Subsequences.{IsSub, dropped, empty, kept}}, specs.Events.other},
   lapdm_window.specs.{Ends.awaits_ack, lapdm_frame.Content.{Content, I, Rej, Rr}, segmenting.Segments.Segment},
   std.proofs.{
     Common.{Bool, List, [], arith, false, get_or, length, refl, sym, take, ℕ, ◌%◌, ◌++◌, ◌+◌, ◌<◌, ◌∙◌, ◌∷◌},
@@ -43,7 +43,8 @@ module _ {Notifies : ℕ → Content → Type 0} where
   climbs-as Notifies' says l h (last m) = last (omega arith)
   climbs-as Notifies' says l h (first m t g) = first (omega arith) (says _ _ t) (climbs-as _ says (omega arith) h g)
 
-  climbs-within : {low low' high high' : ℕ} {cs : List Content} → low' ≤ low → high ≤ high' → Ascending Notifies low cs high →
+  pub climbs-within : {low low' high high' : ℕ} {cs : List Content} → low' ≤ low → high ≤ high' →
+      Ascending Notifies low cs high →
       Ascending Notifies low' cs high'
   climbs-within l h g = climbs-as _ (λ k c t. t) l h g
 
@@ -100,7 +101,8 @@ right_number a r s k h1 h2 h3 h4 h5 h6 = grind arith
 carries-more : (ps more : List Segment) (n : ℕ) (c : Content) → CarriesIn ps n c → CarriesIn (ps ++ more) n c
 carries-more ps more n c h = grind (arith, length-append, get_or-append)
 
-direction : {ps : List Segment} {a s : ℕ} {qs : List Segment} {there back : List Content} → Ascending CountsIn a back (length qs) →
+pub direction : {ps : List Segment} {a s : ℕ} {qs : List Segment} {there back : List Content} → Ascending CountsIn a back
+    (length qs) →
     Ascending (CarriesIn ps) (length qs) there s → s ≤ a + 1 → s ≤ length ps → qs ≡ take (length qs) ps →
     IsDirection ps a s qs there back
 direction a c w l o = grind arith
@@ -176,6 +178,18 @@ module _ {ps : List Segment} {a s : ℕ} {qs : List Segment} {there back : List 
       direction h.acknowledged (climbs-as (CarriesIn (ps ++ more)) (carries-more ps more) (omega arith) (omega arith) h.carried) h.window
       (omega (arith, h.in_range, length-append ps more))
       (h.in_order ∙ sym (take-append-le (length qs) ps more (omega (arith, h.in_range))))
+
+-- some of the frames are lost
+climbs-fewer : {Notifies : ℕ → Content → Type 0} {low high : ℕ} {cs ds : List Content} → IsSub cs ds →
+    Ascending Notifies low ds high → Ascending Notifies low cs high
+climbs-fewer empty h = h
+climbs-fewer (kept s) (first l t h) = first l t (climbs-fewer s h)
+climbs-fewer (dropped s) h = climbs-fewer s (climbs-rest h)
+
+pub direction-fewer : {ps : List Segment} {a s : ℕ} {qs : List Segment} {there there' back back' : List Content} →
+    IsSub there' there →
+    IsSub back' back → IsDirection ps a s qs there back → IsDirection ps a s qs there' back'
+direction-fewer t b h = direction (climbs-fewer b h.acknowledged) (climbs-fewer t h.carried) h.window h.in_range h.in_order
 
 pub initial-direction : IsDirection [] 0 0 [] [] []
 initial-direction = direction (last (omega arith)) (last (omega arith)) (omega arith) (omega arith) refl

@@ -5,7 +5,7 @@ use Rattle.{
     Claims.notices_in_log,
     Events.{AirFull, Ask, BySide, Deliver, EventRefusal, Event, Lose, OpenBare, Open, QueueCapacity, Request, Rival, SideStep},
     Events.{as_event_refusal, endpoint_at, endpoint_call_of, event_step, no_op_step, other, refusal_if, rival_refusal, rival_sabm},
-    Events.{side_with_role, step_with_peer_unchanged, with_endpoint_replaced},
+    Events.{side_with_role, step_with_peer_unchanged, with_side_replaced},
     Queues.{queue_of, with_items_appended},
     Worlds.{World, answer_unless_refused, answer, initial_world, refusal, world_after_possible_refusal, world_after_step, world_after},
   },
@@ -126,7 +126,9 @@ abbrev pub with_frames : Role → List Frame → World → World
 with_frames r fs w = record w { queues = W.with_items_appended r fs w.queues }
 
 abbrev pub acted : Role → Sapi → Outcome → World → World
-acted r s o w = with_frames r o.frames (record w { ends = with_endpoint_replaced r s o.new_state w.ends })
+acted r s o w =
+    let side = with_sapi_endpoint_replaced s o.new_state (side_with_role r w.ends) in
+    with_frames r o.frames (record w { ends = with_side_replaced r side w.ends })
 
 abbrev pub is_end : Role → Sapi → Role → Sapi → Bool
 is_end r s r' s' = is_same_role r r' && is_same_sapi s s'

@@ -134,7 +134,7 @@ module _ (n : ℕ) (ms : List Message) (good : All IsValidMessage ms) (r : ℕ) 
               ∙ messages_ending_in_segments-all n ms good,
         )
 
-    prefix : IsPrefix (messages qs) ms
+    pub prefix : IsPrefix (messages qs) ms
     prefix = (
       filter_map (λ x. x) delivered_prefix.0,
       sym (filter_map-append (λ x. x) (messages_ending_in_segments [] qs) delivered_prefix.0)
@@ -142,7 +142,7 @@ module _ (n : ℕ) (ms : List Message) (good : All IsValidMessage ms) (r : ℕ) 
           ∙ filter_map-some ms,
     )
 
-    counted : (a : ℕ) → a ≤ r → message_count (take a (flat_map (segments n) ms)) ≤ length (messages qs)
+    pub counted : (a : ℕ) → a ≤ r → message_count (take a (flat_map (segments n) ms)) ≤ length (messages qs)
     counted a h = omega (
       arith,
       count-take a r (flat_map (segments n) ms) h,

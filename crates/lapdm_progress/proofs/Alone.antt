@@ -2,29 +2,32 @@
 use Rattle.lapdm_delivery.specs.Lockstep.{after_calls, Run, side_at, arriving_at, ready_at, outcome_at, before_at, taken_at, HasCalls}
 use Rattle.lapdm_delivery.specs.Lockstep.{IsCallOf, after_call_unless, after_call_of, carried, frame_or_unit, CallsOpenOnce}
 use Rattle.lapdm_datalink.specs.Links.{after_slot, LinkState, link_with, with_outcome, afresh, for_call, is_reopened_by_frame, ignores}
-use Rattle.lapdm_datalink.specs.Links.{received_outcome, after_frame, is_closed, slot_outcome, SlotOutcome, sends_nothing, ui_frame}
+use Rattle.lapdm_datalink.specs.Links.{received_outcome, after_frame, is_closed, slot_outcome, SlotOutcome, sends_nothing}
 use Rattle.lapdm_datalink.specs.Links.{unheard, renewed_for, after_received, is_reopened_by_call, is_awaiting_kind, with_frame, with_frames}
-use Rattle.lapdm_datalink.specs.Links.{is_due, sabm_goes_first, keeps_back, slot_outcome_owing, sends_due_frame, sends_answer}
+use Rattle.lapdm_datalink.specs.Links.{content_as_taken, refuses, is_due, sabm_goes_first, keeps_back, slot_outcome_owing}
+use Rattle.lapdm_datalink.specs.Links.{sends_due_frame, sends_answer}
 use Rattle.lapdm_datalink.specs.Links.{sends_awaited, expires as slot_expires}
 use Rattle.lapdm_datalink.specs.Slots.{expires_in, answer_goes}
 use Rattle.lapdm_link.proofs.Lemmas.{is_on}
 use Rattle.lapdm_delivery.proofs.Heard.{received-is}
 use Rattle.lapdm_delivery.proofs.LockstepHeard.{HeardAt, IsOnce, SendOwn, heard_start, heard_step, once_again, ready_sapi, zero-regular}
+use Rattle.lapdm_delivery.proofs.{Lockstep.not_afresh, LockstepHeard.{main_same, unit-content}}
 use Rattle.lapdm_delivery.proofs.Runs.{addressed}
 use Rattle.std.specs.Prelude.{◌≡◌, ◌≤◌, ℕ, zero, suc, Bool, true, false, not, ◌&&◌, if◌then◌else◌, nat_eq, List, []}
 use Rattle.std.specs.Prelude.{◌∷◌, map, All, get_or, Option, Some, None, IfSome}
 use Rattle.std.proofs.Common.{arith, refl, sym, ap, ◌∙◌, subst}
 use Rattle.std.proofs.lemmas.List.Elements.{All-head, All-tail}
-use Rattle.lapdm_frame.specs.Content.{Frame, Ui}
+use Rattle.lapdm_frame.specs.Content.{Content, Frame}
 use Rattle.lapdm_end.specs.lapdm_window.declared.Sapi.{Sapi}
 use Rattle.lapdm_end.specs.lapdm_window.declared.Sapi.TheVariants.{Zero, Three}
 use Rattle.lapdm_end.specs.lapdm_window.declared.Refused.{Refused}
 use Rattle.lapdm_end.specs.lapdm_window.segmenting.Segments.{Message}
 use Rattle.lapdm_end.specs.lapdm_window.Ends.{Role, Mobile, Network, Outcome, initial_endpoint, awaits_answer, sapi_number}
 use Rattle.lapdm_end.specs.lapdm_window.Calls.{Call, refusal_of, call_outcome}
+use Rattle.lapdm_end.specs.lapdm_window.Tables.{SendsDm, outcome_of_reply, reply_to_frame}
 use Rattle.lapdm_link.specs.Events.{other}
 use Rattle.lapdm_datalink.specs.DataLinks.{DataLinkState, link_with_sapi, is_ui, takes_sapi3, after_arrival, taken_by, with_clocks_moved}
-use Rattle.lapdm_datalink.specs.DataLinks.{with_sapi3, data_link_outcome, having_main, on_sapi0, unit_frame}
+use Rattle.lapdm_datalink.specs.DataLinks.{with_sapi3, data_link_outcome, on_sapi0, unit_frame}
 use Rattle.lapdm_datalink.specs.declared.data_links.Establishment.TheVariants.{Contention}
 use Rattle.lapdm_delivery.specs.Runs.{sapi_of_endpoint, after_arrival_if_any}
 use Rattle.std.specs.Option.{option_map}
@@ -81,14 +84,21 @@ un-frames (f ∷ fs) l =
 un-outcome : (o : Outcome) (l : LinkState) → with_outcome o (unheard l) ≡ unheard (with_outcome o l)
 un-outcome o l = un-frames o.frames (record l { endpoint = o.new_state })
 
+un-taken : (c : Content) (l : LinkState) → content_as_taken c (unheard l) ≡ content_as_taken c l
+un-taken c l = grind arith
+
+un-received : (f : Frame) (l : LinkState) → received_outcome f (unheard l) ≡ received_outcome f l
+un-received f l = λ i. let taken : Frame = record f { sapi = sapi_number l.endpoint.sapi; content = un-taken f.content l i } in
+    outcome_of_reply (if refuses f l.endpoint then SendsDm else reply_to_frame taken l.endpoint) l.endpoint
+
 un-arriving : (a : Option Frame) (l : LinkState) → C.after_arriving a (unheard l) ≡ unheard (C.after_arriving a l)
 un-arriving None l = refl
 un-arriving (Some f) l = by (ignores f l)
   where
-    by : (b : Bool) → (if b then unheard l else with_outcome (received_outcome f l) (unheard l))
+    by : (b : Bool) → (if b then unheard l else with_outcome (received_outcome f (unheard l)) (unheard l))
         ≡ unheard (if b then l else with_outcome (received_outcome f l) l)
     by true = refl
-    by false = un-outcome (received_outcome f l) l
+    by false = ap (λ o. with_outcome o (unheard l)) (un-received f l) ∙ un-outcome (received_outcome f l) l
 
 un-call : (r : Option Refused) (call : Call) (l : LinkState) → C.after_call r call (unheard l) ≡ unheard (C.after_call r call l)
 un-call (Some why) call l = refl
@@ -202,9 +212,6 @@ arrives Three k (Some f) d o l h no_sabm = by (nat_eq f.sapi 0) (nat_eq f.sapi 3
 
 -- ---- calls
 
-pub not_again : (call : Call) (l : LinkState) → is_reopened_by_call call l ≡ false → for_call call l ≡ l
-not_again call l h = ap (λ b. if b then afresh l else l) h
-
 one_call : (call : Call) (l : LinkState) → for_call call l ≡ l →
     after_call_unless (refusal_of call (for_call call l).endpoint) call l ≡ C.after_call (refusal_of call l.endpoint) call l
 one_call call l e = ap (λ m. after_call_unless (refusal_of call m.endpoint) call l) e ∙ by (refusal_of call l.endpoint)
@@ -215,7 +222,7 @@ one_call call l e = ap (λ m. after_call_unless (refusal_of call m.endpoint) cal
 
 pub called_alone : (call : Call) (l : LinkState) → is_reopened_by_call call l ≡ false →
     after_call_unless (refusal_of call (for_call call l).endpoint) call l ≡ C.after_call (refusal_of call l.endpoint) call l
-called_alone call l h = one_call call l (not_again call l h)
+called_alone call l h = one_call call l (not_afresh call l h)
 
 calls_alone : (s : Sapi) (cs : List (Sapi × Call)) (d : DataLinkState) → CallsOpenOnce s cs d →
     link_with_sapi s (after_calls cs d) ≡ C.after_calls (calls_to s cs) (link_with_sapi s d)
@@ -278,17 +285,10 @@ unit_lets : (s : Sapi) (a : Option Frame) (unit : Option (Sapi × Message)) (d :
     frame_of s (frame_or_unit a unit d) ≡ frame_of s a
 unit_lets s (Some f) unit d = refl
 unit_lets s None None d = refl
-unit_lets s None (Some (t, m)) d = rw (unit-content t) (by (nat_eq (unit_frame t m d).sapi (sapi_number s)))
+unit_lets s None (Some (t, m)) d = rw (unit-content t m d) (by (nat_eq (unit_frame t m d).sapi (sapi_number s)))
   where
     by : (b : Bool) → (if b && false then Some (unit_frame t m d) else None) ≡ None
     by b = grind arith
-
-    content_on : (x : Sapi) (f : Frame) → (on_sapi0 x f).content ≡ f.content
-    content_on x f = grind arith
-
-    unit-content : (t : Sapi) → (unit_frame t m d).content ≡ Ui false m
-    unit-content Zero = content_on d.link0.endpoint.sapi (ui_frame m d.link0.endpoint)
-    unit-content Three = refl
 
 carries : (s k : Sapi) (lost : Bool) (a : Option Frame) → end_frame s k (carried lost a) ≡ carried lost (end_frame s k a)
 carries s k true a = refl
@@ -368,10 +368,6 @@ sends_on d own = record { sapi0 = by d.link0.endpoint.sapi _ (own_slot_of Zero d
     by : (s : Sapi) (a : Option Frame) → IfSome a (IsOf s) → IfSome a (λ f. is_on s f ≡ true)
     by s None k = tt
     by s (Some f) k = (let own : f.sapi ≡ sapi_number s = k.0 in grind arith)
-
-pub main_same : (s : Sapi) (b : Bool) (d : DataLinkState) → link_with_sapi s (having_main b d) ≡ link_with_sapi s d
-main_same Zero b d = refl
-main_same Three b d = refl
 
 first_link : (s : Sapi) (r : Run) (role : Role) → link_at r s 0 role
     ≡ link_with (initial_endpoint role (sapi_of_endpoint r.establishment s) r.channel) (t200_of s r role)

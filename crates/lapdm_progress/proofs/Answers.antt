@@ -5,7 +5,7 @@ use Rattle.{
     specs.Channels.{Pair, Turn, after_slot, after_arriving, after_calls, IsUse},
   },
   lapdm_datalink.{
-    specs.{Links.{is_due, LinkState, is_unnumbered_answer}, Slots.{nr_in, took}},
+    specs.{Links.{is_due, LinkState, is_final_dm, is_unnumbered_answer, nr_as_taken}, Slots.{nr_in, took}},
     proofs.Answering.{Says, Carries, carries, says_took, stays_open},
   },
   lapdm_end.specs.lapdm_window.{
@@ -19,7 +19,7 @@ use Rattle.{
     specs.Prelude.{◌≡◌, ◌≢◌, ℕ, Bool, true, false, ◌||◌, nat_eq, List, Some, None, All},
     proofs.Common.{inl, inr, arith, refl, ap, ◌∙◌},
   },
-  lapdm_frame.specs.Content.{Content, I, Rr, Rej, Frame},
+  lapdm_frame.specs.Content.{Content, I, Rr, Rej, Dm, Frame},
 }
 
 numbered : (c : Content) (k : ℕ) → nr_in c ≡ Some k → is_unnumbered_answer c ≡ false
@@ -28,9 +28,13 @@ numbered (Rr nr p) k h = refl
 numbered (Rej nr p) k h = refl
 numbered other k h = absurd cc
 
+no_dm : (c : Content) → is_unnumbered_answer c ≡ false → is_final_dm c ≡ false
+no_dm (Dm f) h = absurd cc
+no_dm other h = refl
+
 frame_is : (f : Frame) (l : LinkState) → is_unnumbered_answer f.content ≡ false →
     after_arriving (Some f) l ≡ taken (reply_with f.cr l f.content) l
-frame_is f l h = rw h refl
+frame_is f l h = rw (h, no_dm f.content h) refl
 
 same_nr : (nr k : ℕ) → Some nr ≡ Some k → nat_eq nr k ≡ true
 same_nr nr k h = grind arith
@@ -38,35 +42,38 @@ same_nr nr k h = grind arith
 -- ---- an acknowledgement
 
 module _ (cr : Bool) (l : LinkState) (g : Good l) (none : l.answer ≡ None) (open_ : l.endpoint.state ≡ Open)
-    (w : awaits_ack l.endpoint ≡ true)
+    (w : awaits_ack l.endpoint ≡ true) (s : l.is_sent ≡ true)
   where
+    nr_same : (nr : ℕ) → Some nr ≡ Some (vs l.endpoint) → nat_eq (nr_as_taken nr l) (vs l.endpoint) ≡ true
+    nr_same nr h = rw s (same_nr _ _ h)
+
     acks : (c : Content) → ((ns : ℕ) → ns_in c ≡ Some ns → cr ≢ command_cr l.endpoint.role) →
         nr_in c ≡ Some (vs l.endpoint) →
         acked (taken (reply_with cr l c) l) ≡ issued l
     acks (I ns nr p more info) command h =
         rw (is_i cr l ns nr p more info open_ (command ns refl))
-        (by_nr_i l g none ns nr p (info, more) (same_nr _ _ h) w)
+        (by_nr_i l g none ns (nr_as_taken nr l) p (info, more) (nr_same nr h) w)
     acks (Rr nr p) command h =
-        rw ((is_rr cr l nr p open_).1) (by_nr_rr l g none nr _ (same_nr _ _ h) w)
+        rw ((is_rr cr l nr p open_).1) (by_nr_rr l g none (nr_as_taken nr l) _ (nr_same nr h) w)
     acks (Rej nr p) command h =
-        rw ((is_rr cr l nr p open_).1) (by_nr_rr l g none nr _ (same_nr _ _ h) w)
+        rw ((is_rr cr l nr p open_).1) (by_nr_rr l g none (nr_as_taken nr l) _ (nr_same nr h) w)
     acks other command h = absurd cc
 
 pub gets_ack : (f : Frame) (l : LinkState) → Good l → l.answer ≡ None → l.endpoint.state ≡ Open →
     f.sapi ≡ sapi_number l.endpoint.sapi → ((ns : ℕ) → ns_in f.content ≡ Some ns → f.cr ≢ command_cr l.endpoint.role) →
-    awaits_ack l.endpoint ≡ true →
+    awaits_ack l.endpoint ≡ true → l.is_sent ≡ true →
     nr_in f.content ≡ Some (vs l.endpoint) → acked (after_arriving (Some f) l) ≡ issued l
-gets_ack f l g none o z command w h =
-    ap acked (frame_is f l (numbered f.content _ h)) ∙ acks f.cr l g none o w f.content command h
+gets_ack f l g none o z command w s h =
+    ap acked (frame_is f l (numbered f.content _ h)) ∙ acks f.cr l g none o w s f.content command h
 
 -- ---- an I frame
 
 pub i_arrives : (f : Frame) (l : LinkState) (ns nr : ℕ) (p more : Bool) (info : List ℕ) → f.content ≡ I ns nr p more info →
     l.endpoint.state ≡ Open → f.sapi ≡ sapi_number l.endpoint.sapi → f.cr ≢ command_cr l.endpoint.role →
-    after_arriving (Some f) l ≡ took ns nr p (info, more) l
+    after_arriving (Some f) l ≡ took ns (nr_as_taken nr l) p (info, more) l
 i_arrives f l ns nr p more info e o s c =
     let h : is_unnumbered_answer f.content ≡ false = ap is_unnumbered_answer e in
-    let t : reply_with f.cr l f.content ≡ TakesIFrame ns nr p (info, more) =
+    let t : reply_with f.cr l f.content ≡ TakesIFrame ns (nr_as_taken nr l) p (info, more) =
     ap (λ k. reply_with f.cr l k) e ∙ is_i f.cr l ns nr p more info o c in
     frame_is f l h ∙ ap (λ r. taken r l) t
 

@@ -1,5 +1,6 @@
 -- The frames of a link of SAPI 0 are at most what layer 3's accepted calls ask for.
-use Rattle.lapdm_progress.proofs.Alone.{zero_taken, not_again}
+use Rattle.lapdm_progress.proofs.Alone.{zero_taken}
+use Rattle.lapdm_delivery.proofs.Lockstep.{not_afresh}
 use Rattle.lapdm_progress.specs.Whole.{frame_of, link_at, frames_of_call, frames_of_calls, asked_at, SendsWhatIsAsked}
 use Rattle.std.proofs.lemmas.Bool.{cases_Bool}
 use Rattle.std.specs.Prelude.{◌≡◌, ℕ, zero, suc, ◌+◌, ◌≤◌, Bool, true, false, not, if◌then◌else◌, length, All}
@@ -108,19 +109,19 @@ stays-reply (TakesRej nr poll) x = stays-three nr (answers_poll poll) resends_ou
 stays-reply r x = grind arith
 
 -- a mobile in Idle opens no link of SAPI 0 by a frame
-idle-stays : (f : Frame) (x : EndpointState) → x.role ≡ Mobile → x.sapi ≡ Zero → x.state ≡ Idle →
-    (outcome_of_reply (link_reply f x) x).new_state.state ≡ Idle
-idle-stays f x role sapi idle = grind arith
+idle-stays : (f : Frame) (l : LinkState) → l.endpoint.role ≡ Mobile → l.endpoint.sapi ≡ Zero → l.endpoint.state ≡ Idle →
+    (received_outcome f l).new_state.state ≡ Idle
+idle-stays f l role sapi idle = grind arith
 
-opened-frame : (r : Role) (f : Frame) (x : EndpointState) → x.role ≡ r → x.sapi ≡ Zero →
-    opened r (outcome_of_reply (link_reply f x) x).new_state ≤ opened r x
-opened-frame Network f x role sapi = omega arith
-opened-frame Mobile f x role sapi = elim (cases_Bool (is_idle x.state)) [
-  | inl e ↦ rw (idle-stays f x role sapi (is e), e) (omega arith)
-  | inr e ↦ rw e (one_most (not (is_idle (outcome_of_reply (link_reply f x) x).new_state.state)))
+opened-frame : (r : Role) (f : Frame) (l : LinkState) → l.endpoint.role ≡ r → l.endpoint.sapi ≡ Zero →
+    opened r (received_outcome f l).new_state ≤ opened r l.endpoint
+opened-frame Network f l role sapi = omega arith
+opened-frame Mobile f l role sapi = elim (cases_Bool (is_idle l.endpoint.state)) [
+  | inl e ↦ rw (idle-stays f l role sapi (is e), e) (omega arith)
+  | inr e ↦ rw e (one_most (not (is_idle (received_outcome f l).new_state.state)))
 ]
   where
-    is : is_idle x.state ≡ true → x.state ≡ Idle
+    is : is_idle l.endpoint.state ≡ true → l.endpoint.state ≡ Idle
     is h = grind arith
 
 queued-opened : (m : Message) (x : EndpointState) (r : Role) → opened r (with_queued_message m x) ≡ opened r x
@@ -154,8 +155,8 @@ module _ (r : Role) (channel : Channel) where
     where
       new : Asked r channel n (with_outcome (received_outcome f l) l).endpoint
       new = rw (outcome_endpoint (received_outcome f l) l)
-          (asked-stays n l.endpoint _ h (stays-reply (link_reply f l.endpoint) l.endpoint)
-          (opened-frame r f l.endpoint h.role h.sapi))
+          (asked-stays n l.endpoint _ h (stays-reply (link_reply f l) l.endpoint)
+          (opened-frame r f l h.role h.sapi))
 
       by : (b : Bool) → Asked r channel n (if b then l else with_outcome (received_outcome f l) l).endpoint
       by true = h
@@ -230,7 +231,8 @@ module _ (r : Role) (channel : Channel) where
       refusal_of call l.endpoint ≡ x → Asked r channel n l.endpoint →
       Asked r channel (n + frames_of_call x channel (Zero, call)) (after_call_unless x call l).endpoint
   asked-after n (Some why) call l may e h = asked-more n 0 l.endpoint h
-  asked-after n None call l may e h = rw (not_again call l (zero-regular r call l may.0), outcome_endpoint (call_outcome call l.endpoint) l)
+  asked-after n None call l may e h =
+      rw (not_afresh call l (zero-regular r call l may.0), outcome_endpoint (call_outcome call l.endpoint) l)
       (asked-call n call l.endpoint may e h)
 
   three-none : (x : Option Refused) (call : Call) → frames_of_call x channel (Three, call) ≡ 0
@@ -249,7 +251,7 @@ module _ (r : Role) (channel : Channel) where
       let first = All-head (IsCallOf Contention r) (Zero, call) cs may in
       let x = refusal (Zero, call) d in
       let same : refusal_of call d.link0.endpoint ≡ x =
-      ap (λ (l : LinkState). refusal_of call l.endpoint) (sym (not_again call d.link0 (zero-regular r call d.link0 first.0))) in
+      ap (λ (l : LinkState). refusal_of call l.endpoint) (sym (not_afresh call d.link0 (zero-regular r call d.link0 first.0))) in
       let sum : n + (frames_of_call x channel (Zero, call) + frames_of_calls channel cs (after_call_of (Zero, call) d))
       ≡ n + frames_of_call x channel (Zero, call) + frames_of_calls channel cs (after_call_of (Zero, call) d) = omega arith in
       rw sum (asked-calls cs (n + frames_of_call x channel (Zero, call)) (after_call_of (Zero, call) d)

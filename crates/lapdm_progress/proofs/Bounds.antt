@@ -18,7 +18,8 @@ use Rattle.lapdm_progress.specs.Whole.{Sapi3KeepsLinks, alone, AreAsAlone, frame
 use Rattle.lapdm_progress.specs.Whole.{NormalKeepsLinks}
 use Rattle.lapdm_progress.proofs.Slots.{eq_of, slots_same}
 use Rattle.lapdm_progress.proofs.Cut.{progress_from_start, few_losses_keep_links, paid_as, pays_for_expiries}
-use Rattle.lapdm_progress.proofs.Alone.{IsAlone, IsJoined, joined, ready_same, frame_same, back, Lives, Takes, Counts, HasSlot, main_same}
+use Rattle.lapdm_progress.proofs.Alone.{IsAlone, IsJoined, joined, ready_same, frame_same, back, Lives, Takes, Counts, HasSlot}
+use Rattle.lapdm_delivery.proofs.LockstepHeard.{main_same}
 use Rattle.lapdm_progress.proofs.Alone.{zero_alone, un-slot, un-expires, un-frames_of}
 use Rattle.std.specs.Option.{option_map}
 use Rattle.lapdm_frame.specs.Content.{Frame}

@@ -2,8 +2,8 @@
 use Rattle.{
   lapdm_progress.{
     proofs.{Steps.{IsIn, taken, outcome_endpoint}, Link.{with_message, with_sabm, reply_with, over_arrival, over_calls, is_rr, From}},
-    proofs.Link.{nowhere, owed, first, again, slot_from},
-    specs.Channels.{Pair, place, may_open, after_calls, after_arriving, IsUse},
+    proofs.Link.{may_open, nowhere, owed, first, again, slot_from},
+    specs.Channels.{Pair, place, after_calls, after_arriving, IsUse},
   },
   lapdm_end.specs.lapdm_window.{
     Calls.{is_idle, sabm, Call, Sends, refusal_of, awaited_frame, t200_expiry},
@@ -20,7 +20,7 @@ use Rattle.{
   lapdm_frame.specs.Content.{Content, I, Rr, Rej, Sabm, Ua, Frame},
   lapdm_link.specs.Events.other,
   lapdm_datalink.{
-    specs.{Links.{LinkState, SlotOutcome, slot_outcome, first_frame}, Slots.{answer_goes, expires_in}},
+    specs.{Links.{LinkState, SlotOutcome, slot_outcome, first_frame, nr_as_taken}, Slots.{answer_goes, expires_in}},
     proofs.Answering.{IsSlot, expiring, is_slot, slot_keeps},
   },
 }
@@ -257,7 +257,8 @@ module _ (w : Pair) (role : Role) (l : LinkState) (o : l.endpoint.state ≡ Open
   }
 
   module _ (cr : Bool) (i : IsIn w role l) (may : may_open w.opener w.sapi l.endpoint.sabm_info ≡ true) where
-    i_case : (ns nr : ℕ) (p more : Bool) (x : List ℕ) → (reply_with cr l (I ns nr p more x) ≡ TakesIFrame ns nr p (x, more))
+    i_case : (ns nr : ℕ) (p more : Bool) (x : List ℕ) →
+        (reply_with cr l (I ns nr p more x) ≡ TakesIFrame ns (nr_as_taken nr l) p (x, more))
         ⊎ (reply_with cr l (I ns nr p more x) ≡ Nothing)
     i_case ns nr p more x = grind (arith, o)
 
@@ -267,13 +268,13 @@ module _ (w : Pair) (role : Role) (l : LinkState) (o : l.endpoint.state ≡ Open
     pub open_keeps : (idle : Bool) (c : Content) → Brings w.opener (other role) idle l.endpoint.sabm_info cr c →
         StaysOpen w role l (taken (reply_with cr l c) l)
     open_keeps idle (I ns nr p more x) b = elim (i_case ns nr p more x) [
-      | inl e ↦ rw e (open_i ns nr p (x, more))
+      | inl e ↦ rw e (open_i ns (nr_as_taken nr l) p (x, more))
       | inr e ↦ open_nothing (reply_with cr l (I ns nr p more x)) e
     ]
     open_keeps idle (Rr nr p) b =
-        rw ((is_rr cr l nr p o).1) (open_rr nr _)
+        rw ((is_rr cr l nr p o).1) (open_rr (nr_as_taken nr l) _)
     open_keeps idle (Rej nr p) b =
-        rw ((is_rr cr l nr p o).1) (open_rr nr _)
+        rw ((is_rr cr l nr p o).1) (open_rr (nr_as_taken nr l) _)
     open_keeps idle (Sabm p x) b =
         let n = other_place role b.0 in
         rw (b.1, sabm_again w cr l idle p (rw n at i) may o b.2) (open_ua n i)

@@ -6,9 +6,10 @@ use Rattle.{
       Frames.{response_is, opening_awaits, Brings, opened, accepting, StaysOpen, CalledTo, nothing, opens, sends, calls_to, slot_info},
       Frames.{slot_state, opening_brings, open_brings, opening_arrives, idle_arrives, open_arrives, still_brings},
       Runs.{placed_in, NeverReleases, sound, slotted_in, called_in},
+      Link.may_open,
       Steps.IsIn,
     },
-    specs.{Channels.{may_open, after_slot, Run, side_at, after_calls, after_arriving}, Progress.{link_at, arriving_at, ready_at, frame_at}},
+    specs.{Channels.{after_slot, Run, side_at, after_calls, after_arriving}, Progress.{link_at, arriving_at, ready_at, frame_at}},
   },
   lapdm_end.specs.lapdm_window.{
     Ends.{sapi_number, awaits_answer, Role, Mobile, Network, response_frame},

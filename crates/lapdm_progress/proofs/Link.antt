@@ -1,26 +1,26 @@
 -- What a link does with what arrives, with the calls of layer 3, and in its slot: its counts, and what its frames say.
 use Rattle.{
   lapdm_end.specs.lapdm_window.{
-    declared.{Sapi.TheVariants.{Three, Zero}, State.TheVariants.Open, Refused.Refused},
+    declared.{Sapi.{Sapi, TheVariants.{Three, Zero}}, State.TheVariants.Open, Refused.Refused},
     Calls.{OpensWithoutInfo, call_outcome, sends_sabm, Call, Opens, Sends, refusal_of, awaited_frame, t200_expiry, is_idle},
     Ends.{sapi_number, EndpointState, Role, Mobile, vr, vs, va, command_cr},
     Tables.{Reply, TakesIFrame, TakesRr, outcome_of_reply, is_command},
   },
   lapdm_datalink.{
     specs.{Links.{with_outcome, LinkState, SlotOutcome, slot_outcome, ignores, is_due, first_frame, is_awaiting_kind}, Slots.expires_in},
-    specs.Links.link_reply,
+    specs.Links.{link_reply, nr_as_taken},
     specs.Slots.{nr_in, nr_of},
     proofs.Answering.{IsSlot, sabm_first, idles, answering, repeating, expiring, is_slot, slot_keeps},
   },
   lapdm_progress.{
-    specs.Channels.{Pair, may_open, after_call, after_slot, after_arriving, after_calls, IsUse},
+    specs.Channels.{Pair, after_call, after_slot, after_arriving, after_calls, IsUse},
     proofs.Steps.{acked, issued, accepted, aired, IsAnswerOf, Good, Moves, Takes, nr_taken, ns_taken, is_rej, taken, takes},
     proofs.Steps.outcome_endpoint,
   },
   std.proofs.{lemmas.{Bool.cases_Bool, List.Elements.{All-head, All-tail}}, Common.{inl, inr, arith, refl, ap, sym, ◌∙◌, subst}},
   std.specs.Prelude.{◌≡◌, ℕ, ◌+◌, ◌%◌, ◌≤◌, Bool, true, false, not, ◌&&◌, ◌⊎◌, List, Option, Some, None},
   std.specs.Prelude.{IfSome, ◌≢◌, [], ◌∷◌, All},
-  lapdm_frame.specs.Content.{Content, I, Rr, Frame},
+  lapdm_frame.specs.Content.{Content, I, Rr, Rej, Frame},
 }
 
 -- the N(S) and the P bit of an I frame
@@ -40,26 +40,31 @@ poll_in other = false
 
 module _ (cr : Bool) (l : LinkState) where
   abbrev pub reply_with : Content → Reply
-  reply_with c = link_reply (record { sapi = sapi_number l.endpoint.sapi; cr = cr; content = c }) l.endpoint
+  reply_with c = link_reply (record { sapi = sapi_number l.endpoint.sapi; cr = cr; content = c }) l
 
   pub not_rej : (c : Content) → is_rej (reply_with c) ≡ false
   not_rej (I ns nr p more info) = grind arith
   not_rej other = grind arith
 
-  nr_reply : (c : Content) (k : ℕ) → nr_taken (reply_with c) ≡ Some k → nr_in c ≡ Some k
-  nr_reply (I ns nr p more info) k h = grind arith
-  nr_reply other k h = grind arith
+  is_vs : (nr : ℕ) → nr_as_taken nr l ≡ vs l.endpoint → nr ≡ vs l.endpoint
+  is_vs nr h = grind (arith, h)
+
+  nr_reply : (c : Content) → nr_taken (reply_with c) ≡ Some (vs l.endpoint) → nr_in c ≡ Some (vs l.endpoint)
+  nr_reply (I ns nr p more info) h = ap Some (is_vs nr (grind (arith, h)))
+  nr_reply (Rr nr p) h = ap Some (is_vs nr (grind (arith, h)))
+  nr_reply (Rej nr p) h = ap Some (is_vs nr (grind (arith, h)))
+  nr_reply other h = grind arith
 
   ns_reply : (c : Content) (k : ℕ) → ns_taken (reply_with c) ≡ Some k → ns_in c ≡ Some k
   ns_reply (I ns nr p more info) k h = grind arith
   ns_reply other k h = grind arith
 
   pub is_i : (ns nr : ℕ) (p more : Bool) (info : List ℕ) → l.endpoint.state ≡ Open →
-      cr ≢ command_cr l.endpoint.role → reply_with (I ns nr p more info) ≡ TakesIFrame ns nr p (info, more)
+      cr ≢ command_cr l.endpoint.role → reply_with (I ns nr p more info) ≡ TakesIFrame ns (nr_as_taken nr l) p (info, more)
   is_i ns nr p more info c d = grind (arith, c, d)
 
   pub is_rr : (nr : ℕ) (p : Bool) → l.endpoint.state ≡ Open →
-      (q : Bool) × (reply_with (Rr nr p) ≡ TakesRr nr q)
+      (q : Bool) × (reply_with (Rr nr p) ≡ TakesRr (nr_as_taken nr l) q)
   is_rr nr p c =
       (is_command l.endpoint (record { sapi = sapi_number l.endpoint.sapi; cr = cr; content = Rr nr p }) && p, grind (arith, c))
 
@@ -95,6 +100,12 @@ with_message m l = with_outcome (call_outcome (Sends m) l.endpoint) l
 
 abbrev pub with_sabm : (info : List ℕ) → LinkState → LinkState
 with_sabm info l = with_outcome (sends_sabm info l.endpoint) l
+
+-- a side may open the link with this information: on SAPI 0 a mobile with one octet at least, on SAPI 3 either side without
+abbrev pub may_open : (role : Role) (sapi : Sapi) (info : List ℕ) → Bool
+may_open Mobile Zero (x ∷ xs) = true
+may_open role Three [] = true
+may_open role sapi info = false
 
 some_info : (info : List ℕ) (e : EndpointState) → refusal_of (Opens info) e ≡ None → may_open Mobile Zero info ≡ true
 some_info [] e h = absurd (grind (arith, h))
@@ -161,7 +172,7 @@ of_reply f l m t = record {
   moves = t.moves;
   by_nr = elim t.by_nr [
     | inl e ↦ inl e
-    | inr x ↦ inr (nr_reply f.cr l f.content _ x.0, x.1, x.2)
+    | inr x ↦ inr (nr_reply f.cr l f.content x.0, x.1, x.2)
   ];
   by_ns = elim t.by_ns [
     | inl e ↦ inl e

@@ -23,6 +23,7 @@ use Rattle.lapdm_datalink.specs.DataLinks.{DataLinkState, link_with_sapi, taken_
 use Rattle.lapdm_datalink.specs.DataLinks.{with_sapi3, with_clocks_moved}
 use Rattle.lapdm_datalink.specs.Abstraction.{IsAnswer, is_answer_kind}
 use Rattle.lapdm_delivery.specs.Runs.{after_arrival_if_any}
+use Rattle.lapdm_delivery.proofs.Heard.{expired-sapi}
 use Rattle.lapdm_datalink.proofs.Returned.{IsReturned, Returns, returns-call, returns-received}
 use Rattle.lapdm_datalink.proofs.Lemmas.{awaited-own, endpoint_with_frame, by_renewal}
 use Rattle.lapdm_datalink.proofs.Answering.{IsSlot, sabm_first, idles, answering, repeating, expiring, is_slot}
@@ -93,9 +94,6 @@ awaited-no_ui p st e = grind arith
 
 awaited-of : (p : Bool) (st : State) (e : EndpointState) → IsOf e.sapi (awaited_frame p st e)
 awaited-of p st e = (awaited-own p st e, awaited-no_ui p st e)
-
-expired-sapi : (e : EndpointState) → (t200_expiry e).new_state.sapi ≡ e.sapi
-expired-sapi e = grind arith
 
 own_passes : (s : Sapi) (l : LinkState) → Owns s l → Owns s (after_slot l)
 own_passes s l h = record { sapi = h.sapi; answer = h.answer }

@@ -13,10 +13,13 @@ use Rattle.{
   std.specs.Prelude.{◌+◌, ◌%◌, ◌≤◌, Bool, true, false, ◌||◌, ◌⊎◌, nat_eq, nat_le, List, Option, Some, None},
   lapdm_frame.specs.Content.{I, Frame},
   lapdm_link.specs.Events.other,
-  lapdm_datalink.specs.{Links.{LinkState, slot_outcome}, Slots.{nr_in, nr_of, took}},
+  lapdm_datalink.specs.{Links.{LinkState, nr_as_taken, slot_outcome}, Slots.{nr_in, nr_of, took}},
   lapdm_delivery.specs.Lockstep.carried,
 }
 use Rattle.lapdm_progress.proofs.Counts as C
+
+sent_of : (l : LinkState) → acked l + 1 ≤ aired l → l.is_sent ≡ true
+sent_of l h = grind (arith, h)
 
 pub arrived_other : (r : Run) (n : ℕ) (role : Role) →
     arriving_at r (suc n + r.delay) (other role) ≡ carried (r.turn n role).is_lost (frame_at r n role)
@@ -100,7 +103,7 @@ module _ (r : Run) (u : NeverReleases r) (s : ℕ) (role : Role) (f : Frame) (ns
     comes : arriving_at r m o ≡ Some f
     comes = arrived_other r s role ∙ rw (arrives, sent) refl
 
-    taken_there : after_arriving (arriving_at r m o) before ≡ took ns nr p (info, more) before
+    taken_there : after_arriving (arriving_at r m o) before ≡ took ns (nr_as_taken nr before) p (info, more) before
     taken_there =
         ap (λ x. after_arriving x before) comes
         ∙ i_arrives f before ns nr p more info is_i open_there (sapi_of s role f sent m o) wrong_way
@@ -110,7 +113,7 @@ module _ (r : Run) (u : NeverReleases r) (s : ℕ) (role : Role) (f : Frame) (ns
             (sym (ap command_cr ((sound r u s).placed role).role) ∙ sym (((slotted_in r u s role).segment f sent ns has_ns).2) ∙ h
             ∙ ap command_cr ((sound r u m).placed o).role)
 
-    kept_there : accepted (link_at r (suc m) o) ≡ accepted (took ns nr p (info, more) before)
+    kept_there : accepted (link_at r (suc m) o) ≡ accepted (took ns (nr_as_taken nr before) p (info, more) before)
     kept_there =
         slot_accepted (ready_at r m o) ∙ (called_in r u m o).accepted_same
         ∙ ap accepted taken_there
@@ -118,7 +121,7 @@ module _ (r : Run) (u : NeverReleases r) (s : ℕ) (role : Role) (f : Frame) (ns
     in_sequence : (b : Bool) → nat_eq ns (vr before.endpoint) ≡ b →
         (accepted (link_at r (suc m) o) ≡ a + 1) × ((nat_eq ns (vr before.endpoint) || p) ≡ true)
     in_sequence true e = (
-      kept_there ∙ accepts_taken before ns nr p (info, more) e
+      kept_there ∙ accepts_taken before ns (nr_as_taken nr before) p (info, more) e
           ∙ ap (λ n. n + 1) (equals a (accepted before) low (omega (arith, up, high)) (rw number at e)),
       rw e refl,
     )
@@ -136,15 +139,17 @@ module _ (r : Run) (u : NeverReleases r) (s : ℕ) (role : Role) (f : Frame) (ns
     accepted_one = (in_sequence _ refl).0
 
     -- the answer
-    ready_is : ready_at r m o ≡ after_slot (r.turn m o).is_held (after_calls (r.turn m o).calls (took ns nr p (info, more) before))
+    ready_is : ready_at r m o
+        ≡ after_slot (r.turn m o).is_held (after_calls (r.turn m o).calls (took ns (nr_as_taken nr before) p (info, more) before))
     ready_is = ap (λ l. after_slot (r.turn m o).is_held (after_calls (r.turn m o).calls l)) taken_there
 
     pub answered : (g : Frame) × (frame_at r m o ≡ Some g) × (nr_in g.content ≡ Some ((a + 1) % 8))
-    answered = by_case (answers r.pair o (r.turn m o) ns nr p (info, more) before (u m o) open_there ((sound r u m).settled o).owes
+    answered = by_case (answers r.pair o (r.turn m o) ns (nr_as_taken nr before) p (info, more) before (u m o) open_there
+        ((sound r u m).settled o).owes
         (in_sequence _ refl).1)
       where
         x : LinkState
-        x = after_slot (r.turn m o).is_held (after_calls (r.turn m o).calls (took ns nr p (info, more) before))
+        x = after_slot (r.turn m o).is_held (after_calls (r.turn m o).calls (took ns (nr_as_taken nr before) p (info, more) before))
 
         by_case : (nr_of (slot_outcome x).frame ≡ Some (vr x.endpoint)) ⊎ ((slot_outcome x).link.endpoint.state ≡ Closed) →
             (g : Frame) × (frame_at r m o ≡ Some g) × (nr_in g.content ≡ Some ((a + 1) % 8))
@@ -160,7 +165,7 @@ module _ (r : Run) (u : NeverReleases r) (s : ℕ) (role : Role) (f : Frame) (ns
     pub in_sequence_or_polls : (nat_eq ns (vr before.endpoint) || p) ≡ true
     in_sequence_or_polls = (in_sequence _ refl).1
 
-    pub taken_is : after_arriving (arriving_at r m o) before ≡ took ns nr p (info, more) before
+    pub taken_is : after_arriving (arriving_at r m o) before ≡ took ns (nr_as_taken nr before) p (info, more) before
     taken_is = taken_there
 
     module _ (returns : (r.turn m o).is_lost ≡ false) (open_here : (link_at r (suc m + r.delay) role).endpoint.state ≡ Open) where
@@ -193,6 +198,7 @@ module _ (r : Run) (u : NeverReleases r) (s : ℕ) (role : Role) (f : Frame) (ns
           ∙ ap (λ x. acked (after_arriving x here)) gets
           ∙ gets_ack answered.0 here ((sound r u t).good role) ((sound r u t).settled role).owes open_here
           (sapi_of m o answered.0 answered.1 t role) right_way (awaits_one here w)
+          (sent_of here (omega (arith, same, aired_here)))
           (answered.2 ∙ ap (λ n. Some (n % 8)) (sym (w ∙ ap (λ n. n + 1) same)))
           ∙ w ∙ ap (λ n. n + 1) same
 

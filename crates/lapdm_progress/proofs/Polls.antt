@@ -21,7 +21,7 @@ use Rattle.{
   },
   lapdm_link.specs.Events.other,
   lapdm_datalink.specs.{
-    Links.{LinkState, slot_outcome, is_due, keeps_back, is_plain_rr, is_awaiting_kind, first_frame},
+    Links.{LinkState, nr_as_taken, slot_outcome, is_due, keeps_back, is_plain_rr, is_awaiting_kind, first_frame},
     Slots.{took, expires_in, answer_goes},
   },
 }
@@ -148,7 +148,7 @@ module _ (r : Run) (u : NeverReleases r) (q : ℕ) (role : Role) where
                   × (info : List ℕ) × (g.content ≡ I ns nr p more info)
               y = i_parts (frame_at r q role) (ap is_i_frame e ∙ i)
 
-              arrived_i : after_arriving (arriving_at r n x) l ≡ took y.2 y.3 y.4 (y.6, y.5) l
+              arrived_i : after_arriving (arriving_at r n x) l ≡ took y.2 (nr_as_taken y.3 l) y.4 (y.6, y.5) l
               arrived_i = taken_is r u q role y.0 y.2 y.3 y.4 y.5 y.6 y.1 y.7 lost open_n still_open
 
               order : (nat_eq y.2 (vr l.endpoint) || y.4) ≡ true
@@ -158,8 +158,9 @@ module _ (r : Run) (u : NeverReleases r) (q : ℕ) (role : Role) where
               by_poll true p =
                   let e : is_repetition (frame_at r q role) ≡ true = ap is_repetition y.1 ∙ ap is_repeated_content y.7
                   ∙ p in absurd cc
-              by_poll false p = plain_i l y.2 y.3 (y.6, y.5) owes_none (in_order (nat_eq y.2 (vr l.endpoint)) y.4 order p) f
-                  (ap (λ t. (took y.2 y.3 t (y.6, y.5) l).answer) (sym p) ∙ ap (λ k. k.answer) (sym arrived_i) ∙ sym kept ∙ a)
+              by_poll false p = plain_i l y.2 (nr_as_taken y.3 l) (y.6, y.5) owes_none (in_order (nat_eq y.2 (vr l.endpoint)) y.4 order p) f
+                  (ap (λ t. (took y.2 (nr_as_taken y.3 l) t (y.6, y.5) l).answer) (sym p) ∙ ap (λ k. k.answer) (sym arrived_i)
+                  ∙ sym kept ∙ a)
           by_kind g e lost false i =
               let w : IsAnswerOf (ready_at r q role) g =
               sends_answer (ready_at r q role) g sender_open (owes_ready r u role q) e i in

@@ -3,10 +3,11 @@ use Rattle.{
   lapdm_progress.{
     proofs.{
       Link.{with_message, with_sabm, reply_with, over_arrival, over_endpoint, over_calls, Arrives, arrives, good_next, Called, then_called},
+      Link.may_open,
       Link.{then_moves, Slotted, slotted, called_nothing, called_sends, called_opens, passes_slot, slot_acked, slot_issued, owed_later},
       Steps.{acked, issued, IsAnswerOf, Good, Moves, taken, outcome_endpoint},
     },
-    specs.Channels.{Pair, Turn, may_open, after_slot, after_calls, after_arriving, before_sending, IsUse},
+    specs.Channels.{Pair, Turn, after_slot, after_calls, after_arriving, before_sending, IsUse},
   },
   std.specs.Prelude.{◌≡◌, ℕ, ◌≤◌, Bool, true, false, if◌then◌else◌, ◌&&◌, ◌⊎◌, List, []},
   std.specs.Prelude.{◌∷◌, Option, None, All, IfSome},
@@ -20,9 +21,9 @@ use Rattle.{
     segmenting.Segments.Segment,
     Calls.{Call, Sends, refusal_of, is_idle},
   },
-  lapdm_link.specs.Worlds.rej_replaced_by_rr,
   lapdm_datalink.{
-    specs.Links.{LinkState, as_taken, refuses, slot_outcome, is_opening, sabm_goes_first, with_frame, with_frames, is_awaiting_kind},
+    specs.Links.{LinkState, as_taken, content_as_taken, nr_as_taken, refuses, slot_outcome, is_opening, sabm_goes_first},
+    specs.Links.{with_frame, with_frames, is_awaiting_kind},
     proofs.Answering.owes_nothing,
   },
 }
@@ -39,10 +40,28 @@ rr_state nr p e = grind arith
 -- ---- Idle is never entered again
 
 module _ (cr : Bool) (l : LinkState) where
+  -- the reply to an I frame and to an RR, whatever their N(R)
+  abbrev replied : (s : ℕ) → Content → Reply
+  replied s c = reply_to_frame (record { sapi = s; cr = cr; content = c }) l.endpoint
+
+  idle_i : (s ns n : ℕ) (p more : Bool) (info : List ℕ) → (let o = outcome_of_reply (replied s (I ns n p more info)) l.endpoint in
+      is_idle o.new_state.state ≡ true → o.new_state ≡ l.endpoint)
+  idle_i s ns n p more info h = grind arith
+
+  idle_rr : (s n : ℕ) (p : Bool) → (let o = outcome_of_reply (replied s (Rr n p)) l.endpoint in
+      is_idle o.new_state.state ≡ true → o.new_state ≡ l.endpoint)
+  idle_rr s n p h = grind arith
+
+  opening_rr : (s n : ℕ) (p : Bool) → is_opening (taken (replied s (Rr n p)) l).endpoint.state ≡ true →
+      (is_opening l.endpoint.state ≡ true) × ((taken (replied s (Rr n p)) l).is_sent ≡ l.is_sent)
+  opening_rr s n p h = grind arith
+
   idle_at : (s : ℕ) (c : Content) → (let e = l.endpoint in
-      let o = outcome_of_reply (reply_to_frame (record { sapi = s; cr = cr; content = rej_replaced_by_rr c }) e) e in
+      let o = outcome_of_reply (reply_to_frame (record { sapi = s; cr = cr; content = content_as_taken c l }) e) e in
       is_idle o.new_state.state ≡ true → o.new_state ≡ e)
-  idle_at s (I ns nr p more info) h = grind arith
+  idle_at s (I ns nr p more info) h = idle_i s ns (nr_as_taken nr l) p more info h
+  idle_at s (Rr nr p) h = idle_rr s (nr_as_taken nr l) p h
+  idle_at s (Rej nr p) h = idle_rr s (nr_as_taken nr l) p h
   idle_at s other h = grind arith
 
   idle_reply : (c : Content) → is_idle (outcome_of_reply (reply_with cr l c) l.endpoint).new_state.state ≡ true →
@@ -53,24 +72,25 @@ module _ (cr : Bool) (l : LinkState) where
       arrived = record { sapi = sapi_number l.endpoint.sapi; cr = cr; content = c }
 
       by : (b : Bool) →
-          (let o = outcome_of_reply (if b then SendsDm else reply_to_frame (as_taken arrived l.endpoint) l.endpoint) l.endpoint in
+          (let o = outcome_of_reply (if b then SendsDm else reply_to_frame (as_taken arrived l) l.endpoint) l.endpoint in
           is_idle o.new_state.state ≡ true → o.new_state ≡ l.endpoint)
       by true h = refl
       by false h = idle_at (sapi_number l.endpoint.sapi) c h
 
   -- an I frame is taken in Open alone
   i_reply : (ns nr : ℕ) (p more : Bool) (info : List ℕ) →
-      ((reply_with cr l (I ns nr p more info) ≡ TakesIFrame ns nr p (info, more)) × (l.endpoint.state ≡ Open))
+      ((reply_with cr l (I ns nr p more info) ≡ TakesIFrame ns (nr_as_taken nr l) p (info, more)) × (l.endpoint.state ≡ Open))
       ⊎ (reply_with cr l (I ns nr p more info) ≡ Nothing) ⊎ (reply_with cr l (I ns nr p more info) ≡ SendsDm)
   i_reply ns nr p more info = grind arith
 
   -- what holds of the reply to an I frame in Open, of none, and of a DM holds of the reply to an I frame
   pub over_i : (P : Reply → Type 0) (ns nr : ℕ) (p more : Bool) (info : List ℕ) →
-      (l.endpoint.state ≡ Open → P (TakesIFrame ns nr p (info, more))) → P Nothing → P SendsDm →
+      (l.endpoint.state ≡ Open → P (TakesIFrame ns (nr_as_taken nr l) p (info, more))) → P Nothing → P SendsDm →
       P (reply_with cr l (I ns nr p more info))
   over_i P ns nr p more info takes none dm = by_reply (i_reply ns nr p more info)
     where
-      by_reply : ((reply_with cr l (I ns nr p more info) ≡ TakesIFrame ns nr p (info, more)) × (l.endpoint.state ≡ Open))
+      by_reply : ((reply_with cr l (I ns nr p more info) ≡ TakesIFrame ns (nr_as_taken nr l) p (info, more))
+          × (l.endpoint.state ≡ Open))
           ⊎ (reply_with cr l (I ns nr p more info) ≡ Nothing) ⊎ (reply_with cr l (I ns nr p more info) ≡ SendsDm) →
           P (reply_with cr l (I ns nr p more info))
       by_reply (inl (e, o)) = subst P (sym e) (takes o)
@@ -82,8 +102,10 @@ module _ (cr : Bool) (l : LinkState) where
   opening_reply (I ns nr p more info) = over_i (λ q. is_opening (taken q l).endpoint.state ≡ true →
       (is_opening l.endpoint.state ≡ true) × ((taken q l).is_sent ≡ l.is_sent)) ns nr p more info
       (λ o h. absurd (true_false (sym h ∙ ap is_opening (ap (λ q. q.state)
-      (outcome_endpoint (outcome_of_reply (TakesIFrame ns nr p (info, more)) l.endpoint) l)
-      ∙ i_state ns nr p (info, more) l.endpoint ∙ o)))) (λ h. (h, refl)) (λ h. (h, refl))
+      (outcome_endpoint (outcome_of_reply (TakesIFrame ns (nr_as_taken nr l) p (info, more)) l.endpoint) l)
+      ∙ i_state ns (nr_as_taken nr l) p (info, more) l.endpoint ∙ o)))) (λ h. (h, refl)) (λ h. (h, refl))
+  opening_reply (Rr nr p) = opening_rr (sapi_number l.endpoint.sapi) (nr_as_taken nr l) p
+  opening_reply (Rej nr p) = opening_rr (sapi_number l.endpoint.sapi) (nr_as_taken nr l) p
   opening_reply other = λ h. grind arith
 
 -- an idle link was idle before, with the same endpoint
@@ -308,18 +330,20 @@ StaysYoung l e = is_young e.state ≡ true →
 
 module _ (cr : Bool) (l : LinkState) where
   rr_reply : (nr : ℕ) (p : Bool) →
-      ((reply_with cr l (Rr nr p) ≡ TakesRr nr (is_command l.endpoint (record { sapi = 0; cr = cr; content = Rr nr p }) && p))
+      ((reply_with cr l (Rr nr p)
+      ≡ TakesRr (nr_as_taken nr l) (is_command l.endpoint (record { sapi = 0; cr = cr; content = Rr nr p }) && p))
       × (l.endpoint.state ≡ Open))
       ⊎ (reply_with cr l (Rr nr p) ≡ Nothing) ⊎ (reply_with cr l (Rr nr p) ≡ SendsDm)
   rr_reply nr p = grind arith
 
   -- the same of an RR
-  over_rr : (P : Reply → Type 0) (nr : ℕ) (p : Bool) → (l.endpoint.state ≡ Open → (q : Bool) → P (TakesRr nr q)) →
+  over_rr : (P : Reply → Type 0) (nr : ℕ) (p : Bool) →
+      (l.endpoint.state ≡ Open → (q : Bool) → P (TakesRr (nr_as_taken nr l) q)) →
       P Nothing → P SendsDm → P (reply_with cr l (Rr nr p))
   over_rr P nr p takes none dm = by_reply (rr_reply nr p)
     where
       by_reply : ((reply_with cr l (Rr nr p) ≡
-          TakesRr nr (is_command l.endpoint (record { sapi = 0; cr = cr; content = Rr nr p }) && p))
+          TakesRr (nr_as_taken nr l) (is_command l.endpoint (record { sapi = 0; cr = cr; content = Rr nr p }) && p))
           × (l.endpoint.state ≡ Open))
           ⊎ (reply_with cr l (Rr nr p) ≡ Nothing) ⊎ (reply_with cr l (Rr nr p) ≡ SendsDm) → P (reply_with cr l (Rr nr p))
       by_reply (inl (e, o)) = subst P (sym e) (takes o _)
@@ -333,12 +357,14 @@ module _ (cr : Bool) (l : LinkState) where
   open_stays e o h = absurd cc
 
   young_rr : (nr : ℕ) (p : Bool) → KeepsYoung (reply_with cr l (Rr nr p))
-  young_rr nr p = over_rr KeepsYoung nr p (λ o q. open_stays (takes_rr nr q l.endpoint).new_state (rr_state nr q l.endpoint ∙ o))
+  young_rr nr p = over_rr KeepsYoung nr p
+      (λ o q. open_stays (takes_rr (nr_as_taken nr l) q l.endpoint).new_state (rr_state (nr_as_taken nr l) q l.endpoint ∙ o))
       (λ h. (h, refl, refl)) (λ h. (h, refl, refl))
 
   young_reply : (c : Content) → KeepsYoung (reply_with cr l c)
   young_reply (I ns nr p more info) = over_i cr l KeepsYoung ns nr p more info
-      (λ o. open_stays (takes_i_frame ns nr p (info, more) l.endpoint).new_state (i_state ns nr p (info, more) l.endpoint ∙ o))
+      (λ o. open_stays (takes_i_frame ns (nr_as_taken nr l) p (info, more) l.endpoint).new_state
+      (i_state ns (nr_as_taken nr l) p (info, more) l.endpoint ∙ o))
       (λ h. (h, refl, refl)) (λ h. (h, refl, refl))
   young_reply (Rr nr p) = young_rr nr p
   young_reply (Rej nr p) = young_rr nr p

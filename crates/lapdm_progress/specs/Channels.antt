@@ -25,12 +25,6 @@ abbrev pub place : (opener role : Role) → Role
 place Mobile role = role
 place Network role = other role
 
--- a side may open the link with this information: on SAPI 0 a mobile with one octet at least, on SAPI 3 either side without
-abbrev pub may_open : (role : Role) (sapi : Sapi) (info : List ℕ) → Bool
-may_open Mobile Zero (x ∷ xs) = true
-may_open role Three [] = true
-may_open role sapi info = false
-
 -- one side's part of a slot: the calls of layer 3 to its link, in order; whether its clock stands still if no answer is awaited, as that of
 -- SAPI 3 does after a frame of SAPI 0; and whether its block is lost
 pub record Turn : Type 0 where

@@ -1,10 +1,10 @@
 -- An RR acknowledges segments (GSM 04.06, sections 3.8.5 and 5.5.3). Unless it is a poll it says nothing else, and one that comes again
 -- says nothing the second time.
-use Rattle.std.specs.Prelude.{◌≡◌, ℕ, Bool, false, ◌&&◌, []}
+use Rattle.std.specs.Prelude.{◌≡◌, ℕ, Bool, false, ◌&&◌}
 use Rattle.lapdm_frame.specs.Content.{Frame, Rr}
 use Rattle.lapdm_end.specs.lapdm_window.Rules.{may_send_next_segment}
 use Rattle.lapdm_end.specs.lapdm_window.Tables.{is_command}
-use Rattle.lapdm_datalink.specs.Links.{LinkState, after_received, heard_with, received_notices}
+use Rattle.lapdm_datalink.specs.Links.{LinkState}
 
 -- the frame is an RR with this N(R) and F = 0
 abbrev pub IsPlainRr : (nr : ℕ) (f : Frame) → Type 0
@@ -19,8 +19,3 @@ pub record IsRr (nr : ℕ) (f : Frame) (l : LinkState) : Type 0 where
 -- the link has sent each segment that it may send before an acknowledgement arrives
 abbrev pub HasSentWhatItMay : LinkState → Type 0
 HasSentWhatItMay l = may_send_next_segment l.endpoint ≡ false
-
--- the received frame changes nothing of the link, but that it was heard, and nothing is reported
-pub record ChangesNothing (f : Frame) (l : LinkState) : Type 0 where
-  pub link : after_received f l ≡ record l { heard = heard_with f l }
-  pub notices : received_notices f l ≡ []

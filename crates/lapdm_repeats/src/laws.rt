@@ -5,10 +5,10 @@ ghost use Rattle.lapdm_frame.specs.Content.{Frame};
 ghost use Rattle.lapdm_end.specs.lapdm_window.Ends.{HasWindowOfOne};
 ghost use Rattle.lapdm_end.specs.lapdm_window.Rules.{nr_acknowledges_segment};
 ghost use Rattle.lapdm_datalink.specs.Links.{LinkState, after_received, received_notices};
-ghost use Rattle.lapdm_repeats.specs.Repeats.{IsPlainRr, IsRr, HasSentWhatItMay, ChangesNothing};
+ghost use Rattle.lapdm_datalink.specs.Slots.{ChangesNothing};
+ghost use Rattle.lapdm_repeats.specs.Repeats.{IsPlainRr, IsRr, HasSentWhatItMay};
 
 /// Law: an RR with F = 0 whose N(R) acknowledges no outstanding segment changes nothing at the link that takes it.
-#[tactic(auto, using(crate::proofs::Repeats::changes_nothing))]
 pub fn law_rr_that_acknowledges_nothing_changes_nothing()
     ensures { (nr : ℕ) (f : Frame) (l : LinkState) → IsPlainRr nr f → HasSentWhatItMay l
         → nr_acknowledges_segment nr l.endpoint ≡ false → ChangesNothing f l }

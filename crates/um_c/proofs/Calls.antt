@@ -46,7 +46,7 @@ use Rattle.lapdm_end.specs.Addresses as L
 role-number : (r : Role) → role_of (role_number r) ≡ Some r
 role-number r = grind arith
 
-sapi-number : (s : Sapi) → sapi_of (sapi_number s) ≡ Some s
+pub sapi-number : (s : Sapi) → sapi_of (sapi_number s) ≡ Some s
 sapi-number s = grind arith
 
 channel-number : (c : Channel) → channel_of (channel_number c) ≡ Some c

@@ -8,8 +8,7 @@ use Rattle.lapdm_frame.specs.declared.Channel.{Channel}
 use Rattle.lapdm_frame.specs.declared.Channel.TheVariants.{Sdcch, Sacch}
 use Rattle.lapdm_frame.specs.Content.{Frame, fill_frame}
 use Rattle.lapdm_frame.specs.Frames.{IsFrameCoding, FrameFits, octets_of}
-use Rattle.lapdm_frame.specs.Readings.{IsOnlyEncodedFrame, HasUniqueReading}
-use Rattle.lapdm_frame.proofs.Lemmas.{octets_canonical, one_reading, same_frame}
+use Rattle.lapdm_frame.proofs.Lemmas.{octets_canonical, only_frame}
 use Rattle.um_air.specs.lapdm_window.declared.Sapi.{Sapi}
 use Rattle.um_air.specs.lapdm_window.declared.Sapi.TheVariants.{Zero, Three}
 use Rattle.um_air.specs.lapdm_window.declared.Notice.{Notice}
@@ -28,6 +27,7 @@ use Rattle.lapdm_datalink.specs.DataLinks.{sapi_for_frame, after_arrival, notice
 use Rattle.lapdm_delivery.specs.Runs.{RunState, RunEvent, IsPossible, IsRun, run_log, after_event, event_lines, initial_run, data_link_of}
 use Rattle.lapdm_delivery.specs.Runs.{with_data_link, slot_lines, arrival_lines, taking_lines, OpensNoClosedLink, log_of_link}
 use Rattle.lapdm_delivery.specs.Runs as R
+use Rattle.lapdm_delivery.proofs.Runs.{replaced-own, replaced-other, replaced-air}
 use Rattle.lapdm_delivery.proofs.Runs.{link_delivers, link_counts, link_order, whole_delivers, whole_counts, whole_order}
 use Rattle.lapdm_datalink.specs.declared.data_links.Establishment.{Establishment}
 use Rattle.lapdm_datalink.specs.declared.data_links.Establishment.TheVariants.{Contention}
@@ -35,7 +35,7 @@ use Rattle.lapdm_datalink.proofs.Kept.{IsOn, IsFit, on_call, on_arrival, on_slot
 use Rattle.lapdm_datalink.proofs.Kept.{fill-silent}
 use Rattle.um_c.specs.declared.datalinks.CDataLink.{CDataLink}
 use Rattle.um_c.specs.declared.datalinks.CReport.{CReport}
-use Rattle.um_c.specs.States.{sapi_of, sapi_number}
+use Rattle.um_c.specs.States.{sapi_number}
 use Rattle.um_c.specs.Effects.{c_notice}
 use Rattle.um_c.specs.EndCalls.{call_refusal_number}
 use Rattle.um_c.specs.DataLinkCalls.{RepresentsDataLink, c_report, reports_of, reports_if_taken, with_layer1}
@@ -44,21 +44,17 @@ use Rattle.um_c.specs.DataLinkRuns.{PairState, PairStep, Calls, Fills, Takes, Lo
 use Rattle.um_air.specs.lapdm_link.Carriers.{FirstSatisfies}
 use Rattle.lapdm_datalink.specs.Abstraction.{MayWait}
 use Rattle.um_c.specs.DataLinkRuns.{IsPairStart, IsPairRun, report_lines_from, report_lines, pair_lines, pair_log}
-use Rattle.um_c.proofs.Sessions.{notice-read}
+use Rattle.um_c.proofs.{Calls.sapi-number, Sessions.notice-read}
 
 -- ---- reports
 
 abbrev line_of : Role → Sapi × Notice → LogLine
 line_of r p = Notified r p.0 p.1
 
-sapi-read : (s : Sapi) → sapi_of (sapi_number s) ≡ Some s
-sapi-read Zero = refl
-sapi-read Three = refl
-
 lines-read : (r : Role) (rs : List (Sapi × Notice)) →
     report_lines_from r (map (λ p. sapi_number p.0) rs) (map (λ p. c_notice p.1) rs) ≡ map (line_of r) rs
 lines-read r [] = refl
-lines-read r ((s, n) ∷ rs) = rw (sapi-read s, notice-read n, lines-read r rs) refl
+lines-read r ((s, n) ∷ rs) = rw (sapi-number s, notice-read n, lines-read r rs) refl
 
 report-read : (r : Role) (rs : List (Sapi × Notice)) → report_lines r (c_report rs) ≡ map (line_of r) rs
 report-read r rs =
@@ -82,14 +78,6 @@ lines-taken r f d None = refl
 lines-taken r f d (Some s) = lines-of r s (notices_of_taking (Some s) f d)
 
 -- ---- blocks
-
-pub only_encoded : (channel : Channel) (f : Frame) (block : List ℕ) → IsFrameCoding channel f block →
-    IsOnlyEncodedFrame channel f block
-only_encoded channel f block h = by (one_reading channel block h.count)
-  where
-    by : HasUniqueReading channel block → IsOnlyEncodedFrame channel f block
-    by (inl (g, only)) = rw (same_frame channel block f g h only.frame) only
-    by (inr (reason, refused)) = absurd (refused.no_frame f h)
 
 -- the layer 1 octets of a block on SACCH may have any value
 recoded : (channel : Channel) (f : Frame) (layer1 block : List ℕ) → length layer1 ≡ 2 → IsFrameCoding channel f block →
@@ -187,15 +175,6 @@ module _ {x : CDataLink} {d : DataLinkState} (h : RepresentsDataLink x d) where
   has_channel on Three = h.represents.valid.channel ∙ on.has_channel
 
 module _ (r : Role) (d : DataLinkState) (c : RunState) where
-  replaced-own : data_link_of r (with_data_link r d c) ≡ d
-  replaced-own = grind arith
-
-  replaced-peer : data_link_of (other r) (with_data_link r d c) ≡ data_link_of (other r) c
-  replaced-peer = grind arith
-
-  replaced-air : (with_data_link r d c).air ≡ c.air
-  replaced-air = grind arith
-
   -- and after frames of this side, or the oldest of the other side, leave or enter the air
   module _ (air : Queues Frame) where
     moved-own : data_link_of r (record (with_data_link r d c) { air = air }) ≡ d
@@ -245,27 +224,27 @@ module _ {channel : Channel} {a : PairState} {c : RunState} (m : Matches channel
             refusal_of call (for_call call (link_with_sapi s d)).endpoint ≡ None →
             IsPlayed channel b (pair_lines (Calls r s call answer)) c
         carried ok none =
-            let done = k.carried_out d h s (sym (sapi-read s)) (there ok) none in
+            let done = k.carried_out d h s (sym (sapi-number s)) (there ok) none in
             let new = with_link s (after_call call (link_with_sapi s d)) d in
             let found : for_call call (link_with_sapi s d) ≡ link_with_sapi s d =
             ap (λ (x : Bool). if x then afresh (link_with_sapi s d) else link_with_sapi s d) (once d h) in
             does (R.Calls r s call) (own, ok, ap (λ (x : LinkState). refusal_of call x.endpoint) (sym found) ∙ none)
             (next m r new (with_data_link r new c) l done.written.represents
             (on_call (m.on r) s call (links_fit h s).valid (there ok) none)
-            (replaced-own r new c) (replaced-peer r new c) (rw (replaced-air r new c) m.blocks))
+            (replaced-own r new c) (replaced-other r new c) (rw (replaced-air r new c) m.blocks))
             (rw done.answer_is_0 refl)
 
         by_refusal : (x : Option Refused) → refusal_of call (for_call call (link_with_sapi s d)).endpoint ≡ x →
             IsCallAllowedFor r (link_with_sapi s d).endpoint.sapi call → IsPlayed channel b (pair_lines (Calls r s call answer)) c
         by_refusal None e ok = carried ok e
         by_refusal (Some reason) e ok =
-            unchanged (λ z. refuses reason (sym (k.refused d h s (sym (sapi-read s)) (there ok) reason e) ∙ z))
+            unchanged (λ z. refuses reason (sym (k.refused d h s (sym (sapi-number s)) (there ok) reason e) ∙ z))
 
         by_allowed : IsCallAllowedFor r (link_with_sapi s d).endpoint.sapi call
             ⊎ (IsCallAllowedFor r (link_with_sapi s d).endpoint.sapi call → ⊥) →
             IsPlayed channel b (pair_lines (Calls r s call answer)) c
         by_allowed (inl ok) = by_refusal _ refl ok
-        by_allowed (inr never) = unchanged (λ z. (let eight = k.unsupported_call d h s (sym (sapi-read s)) (λ g. never (back g)) in
+        by_allowed (inr never) = unchanged (λ z. (let eight = k.unsupported_call d h s (sym (sapi-number s)) (λ g. never (back g)) in
             absurd (omega (arith, eight, z))))
 
     -- ---- slots
@@ -311,7 +290,7 @@ module _ {channel : Channel} {a : PairState} {c : RunState} (m : Matches channel
             let on = on_slot (m.on r) in
             let fits : FrameFits channel (unit_frame s t new) =
             rw (has_channel after on s) at (unit_frame-fits s t new (links_fit after s) ok) in
-            rw ((u.carried_out new after s (sym (sapi-read s)) ok).1, on.has_channel)
+            rw ((u.carried_out new after s (sym (sapi-number s)) ok).1, on.has_channel)
             (recoded channel _ layer1 (octets_of channel (unit_frame s t new)) two
             (octets_canonical channel _ fits).frame)
 
@@ -330,7 +309,7 @@ module _ {channel : Channel} {a : PairState} {c : RunState} (m : Matches channel
             IsPlayed channel b (pair_lines (FillsByUnit r s t layer1 block report)) c
         by_refusal None e = goes e
         by_refusal (Some reason) e =
-            absurd (refuses reason (sym (u.refused (data_link_outcome d).new_state after s (sym (sapi-read s)) reason e)))
+            absurd (refuses reason (sym (u.refused (data_link_outcome d).new_state after s (sym (sapi-number s)) reason e)))
 
     -- ---- arrivals
 
@@ -338,7 +317,7 @@ module _ {channel : Channel} {a : PairState} {c : RunState} (m : Matches channel
         IsPlayed channel b (pair_lines (TakesFill r block answer report)) c
     fill_played block answer report (report_old, k, is, l) =
         let cr = command_cr (other r) in
-        let only = only_encoded d.link0.endpoint.channel (fill_frame cr) block (is d h) in
+        let only = only_frame d.link0.endpoint.channel (fill_frame cr) block (is d h) in
         let done = k.carried_out d h (fill_frame cr) only in
         idle (next m r d c l (rw (fill-same cr d) at done.written.represents) (m.on r) refl refl m.blocks)
         (rw done.answer_is_0 (ap (report_lines r) (k.reported d h (fill_frame cr) only) ∙ report-read r _
@@ -354,7 +333,7 @@ module _ {channel : Channel} {a : PairState} {c : RunState} (m : Matches channel
             IsPlayed channel b (pair_lines (Takes r block answer report)) c
         takes f fs e coded =
             let here : IsFrameCoding d.link0.endpoint.channel f block = rw (m.on r).has_channel coded in
-            let only = only_encoded d.link0.endpoint.channel f block here in
+            let only = only_frame d.link0.endpoint.channel f block here in
             let done = k.carried_out d h f only in
             let new = after_arrival f d in
             does (R.Arrives (other r) (Some f)) (possible r e (once d h f here))
@@ -403,7 +382,7 @@ module _ {channel : Channel} {a : PairState} {c : RunState} (m : Matches channel
         does (R.HasMain r established) tt
         (next m r new (with_data_link r new c) l (k.carried_out d h).written.represents
         (record { has_role = (m.on r).has_role; has_channel = (m.on r).has_channel })
-        (replaced-own r new c) (replaced-peer r new c) (rw (replaced-air r new c) m.blocks)) refl
+        (replaced-own r new c) (replaced-other r new c) (rw (replaced-air r new c) m.blocks)) refl
 
 loses_played : {channel : Channel} {a b : PairState} {c : RunState} → Matches channel a c → (sender : Role) →
     IsPairStep a (Loses sender) b → IsPlayed channel b [] c

@@ -33,7 +33,8 @@ use Rattle.lapdm_datalink.specs.declared.data_links.Establishment.TheVariants.{C
 use Rattle.um_air.specs.lapdm_window.Rules.{is_open}
 use Rattle.um_c.specs.DataLinkRuns.{PairState, PairStep, Calls, Fills, Takes, Loses, IsPairStart, IsPairRun, pair_log}
 use Rattle.um_c.proofs.DataLinkCalls.{decoded}
-use Rattle.um_c.proofs.DataLinkRuns.{only_encoded}
+use Rattle.lapdm_frame.proofs.Lemmas.{only_frame}
+use Rattle.std.proofs.Math.Bool.{and-false}
 
 -- what a slot, and a block that arrives, do to these structs; the layer 1 octets are 00
 abbrev HasSlot : (answer : ℕ) (before after : CDataLink) (block : List ℕ) (report : CReport) → Type 0
@@ -111,10 +112,6 @@ shows-changed {s} {ws} {a} r x d vs h g = record {
   blocks = refl;
 }
 
-and_false : (b : Bool) → (b && false) ≡ false
-and_false true = refl
-and_false false = refl
-
 -- data links that one struct represents are on one channel
 module _ {c : CDataLink} where
   has_channel : (d : DataLinkState) (h : RepresentsDataLink c d) → h.values.link0.endpoint.window.channel ≡ d.link0.endpoint.channel
@@ -154,7 +151,7 @@ module _ (lib : Library) where
             let succeeds = subst (λ n. DataLinkAnswersCall 0 call n (a.struct_of r) after) done.answer_is_0 k in (
               more.0,
               (
-                (λ d g. ap (λ x. (is_closed d.link0.endpoint.state || is_open d.link0.endpoint.state) && x) first ∙ and_false _),
+                (λ d g. ap (λ x. (is_closed d.link0.endpoint.state || is_open d.link0.endpoint.state) && x) first ∙ and-false _),
                 changed r after ws a,
                 (
                   own,
@@ -226,7 +223,7 @@ module _ (lib : Library) where
             let (answer, after, written, k) = lib.take block (a.struct_of r) in
             let g = h.represents r in
             let d = side r s in
-            let only = only_encoded d.link0.endpoint.channel f block coded in
+            let only = only_frame d.link0.endpoint.channel f block coded in
             let done = k.carried_out d g f only in
             let more = rest.leads (changed r after vs a) (shows-changed r after _ vs h done.written.represents) in
             let taken = subst (λ n. HasBlock n (a.struct_of r) after block written) done.answer_is_0 k in

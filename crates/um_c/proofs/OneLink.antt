@@ -3,7 +3,7 @@ use Rattle.{
   std.{
     proofs.Common.{◌≡◌, ◌∙◌, refl, sym, ap, subst, ℕ, Bool, true, false, List, [], ◌∷◌, ◌-◌, Option, Some, None},
     proofs.Common.{arith, ◌++◌},
-    specs.{Prelude.{if◌then◌else◌, ◌||◌, not}, Option.{is_none, option_map, unwrap_or}},
+    specs.{Prelude.{if◌then◌else◌, ◌||◌, not, MatchOption}, Option.{is_none, option_map, unwrap_or}},
   },
   lapdm_frame.specs.{declared.{Channel.Channel, Refusal.Refusal}, Content.{Frame, fill_frame}, Frames.{octets_of, bit_of_bool, FrameFits}},
   lapdm_frame.specs.{Content.{Content, Ui}, Readings.{IsOnlyEncodedFrame, IsOnlyRefusalReason}},
@@ -11,11 +11,12 @@ use Rattle.{
   um_air.specs.lapdm_window.{declared.{Sapi.{Sapi, TheVariants.{Zero, Three}}, Notice.Notice}, Ends.{Role, command_cr, IsValidEndpoint}},
   lapdm_datalink.{
     specs.{
-      declared.{links.{Link.Link, LinkSlot.LinkSlot}, data_links.Slot.Slot, outlook.Outlook.Outlook},
+      declared.{links.{Link.Link, LinkSlot.LinkSlot}, data_links.Slot.Slot, outlook.{Outlook.Outlook, LinkOutlook.LinkOutlook}},
+      Outlooks.{IsOutlook, IsLinkOutlook},
       Links.{LinkState, after_slot, after_received, slot_outcome, sends_nothing, SlotOutcome, is_due, slot_outcome_owing, received_notices},
       DataLinks.{DataLinkState, IsDataLink, with_link, with_clocks_moved, holds_up_sapi3, taken_by, after_arrival, sapi_for_frame},
       DataLinks.{arrival_notices, data_link_outcome, with_sapi3, is_ui, on_sapi0},
-      Parts.{LinkValues, ValuesRepresent, DataLinkValues, values_of, acts_in_slot},
+      Parts.{LinkValues, ValuesRepresent, SomeLinkHasValues, DataLinkValues, values_of, acts_in_slot},
       Abstraction.notices_if,
     },
     proofs.{Lemmas.{replaced, same_after_received, same_slot, valid_with_flags, valid_clocks, sapi0_sends, sapi3_sends}, Kept.ui-same},
@@ -27,6 +28,7 @@ use Rattle.{
       DataLinkCalls.{c_report, reports_of, reports_if_taken},
       DataLinkCalls.{with_layer1, slot_answer, slot_frame, link_values_if_valid, link_values_from, data_link_values_if_valid},
       DataLinkCalls.{c_timed_end, counted, RepresentsLink, RepresentsDataLink, IsLinkWritten, with_clocks_counted},
+      DataLinkCalls.{IsLinkSeen, RepresentsSomeDataLink},
       DataLinkCalls.{IsCanonicalLink, IsWrittenOver, IsWrittenFor, SlotIsFilled, acts_on_frame, is_empty_ui},
       Plain.is_nonzero,
       States.endpoint_values_from,
@@ -140,6 +142,43 @@ link_counted c b l h = record {
         heard = g.represents.heard;
         clock = ap (λ (k : ℕ). k - 1) g.represents.clock;
       };
+    }
+
+-- ## What is seen of a struct
+
+pub one_seen : (t : Bool) (c : CTimedEnd) (x : LinkValues) (r : Option LinkOutlook) → link_values_from c ≡ Some x →
+    MatchOption r (SomeLinkHasValues x → ⊥)
+    (λ o. SomeLinkHasValues x × ((l : LinkState) → ValuesRepresent x l → IsLinkOutlook t o l)) →
+    MatchOption r ((l : LinkState) → RepresentsLink c l → ⊥) (IsLinkSeen t c)
+one_seen t c x None is none = λ l h. none (l, view_represents c x l is h)
+one_seen t c x (Some o) is seen = record {
+  some = (seen.0.0, record { values = x; decoded = is; represents = seen.0.1 });
+  outlook = λ l h. seen.1 l (view_represents c x l is h);
+}
+
+pub both_seen : (c : CDataLink) (a b : LinkOutlook) (r : Option Outlook) → IsLinkSeen false c.link0 a →
+    IsLinkSeen (is_nonzero c.heard0) c.link3 b →
+    ((s : DataLinkState) → IsLinkOutlook false a s.link0 → IsLinkOutlook s.heard_sapi0 b s.link3 →
+    is_nonzero c.main ≡ s.is_main_established → MatchOption r (IsDataLink s → ⊥) (λ o. IsDataLink s × IsOutlook o s)) →
+    MatchOption r (RepresentsSomeDataLink c → ⊥) (IsSeen c)
+unfolding both
+both_seen c a b None h g known =
+    λ n. (let z = both c n.0 n.1 in
+    known n.0 (h.outlook n.0.link0 z.link0)
+    (subst (λ (t : Bool). IsLinkOutlook t b n.0.link3) z.heard (g.outlook n.0.link3 z.link3)) z.main z.valid)
+both_seen c a b (Some o) h g known =
+    let s : DataLinkState = record {
+      link0 = h.some.0;
+      link3 = g.some.0;
+      heard_sapi0 = is_nonzero c.heard0;
+      is_main_established = is_nonzero c.main;
+    } in
+    let valid = (known s (h.outlook s.link0 h.some.1) (g.outlook s.link3 g.some.1) refl).0 in
+    record {
+      some = (s, joined c s (record { link0 = h.some.1; link3 = g.some.1; heard = refl; main = refl; valid = valid }));
+      outlook = λ n m. (let z = both c n m in
+          (known n (h.outlook n.link0 z.link0)
+          (subst (λ (t : Bool). IsLinkOutlook t b n.link3) z.heard (g.outlook n.link3 z.link3)) z.main).1);
     }
 
 -- ## Canonical form

@@ -23,8 +23,9 @@ use Rattle.lapdm_end.specs.Parts.{EndpointValues}
 use Rattle.lapdm_datalink.specs.declared.links.Link.{Link}
 use Rattle.lapdm_datalink.specs.declared.links.LinkSlot.{LinkSlot}
 use Rattle.lapdm_datalink.specs.declared.data_links.DataLink.{DataLink}
+use Rattle.lapdm_datalink.specs.declared.outlook.LinkOutlook.{LinkOutlook}
 use Rattle.lapdm_datalink.specs.declared.outlook.Outlook.{Outlook}
-use Rattle.lapdm_datalink.specs.Outlooks.{IsOutlook}
+use Rattle.lapdm_datalink.specs.Outlooks.{IsOutlook, IsLinkOutlook}
 use Rattle.lapdm_datalink.specs.declared.data_links.Slot.{Slot}
 use Rattle.lapdm_datalink.specs.Abstraction.{notices_if}
 use Rattle.lapdm_datalink.specs.Links.{LinkState, for_call, after_call, after_received, received_notices, slot_outcome}
@@ -184,6 +185,11 @@ pub record IsRead (c : CDataLink) (m : DataLink) : Type 0 where
 pub record IsLinkRead (c : CTimedEnd) (m : Link) : Type 0 where
   pub some : (l : LinkState) × RepresentsLink c l
   pub represents : (l : LinkState) → RepresentsLink c l → L.Represents m l
+
+-- the struct represents a link, and this is the outlook of what it represents
+pub record IsLinkSeen (is_stopped : Bool) (c : CTimedEnd) (o : LinkOutlook) : Type 0 where
+  pub some : (l : LinkState) × RepresentsLink c l
+  pub outlook : (l : LinkState) → RepresentsLink c l → IsLinkOutlook is_stopped o l
 
 -- the struct represents a data link, and this is the outlook of what it represents
 pub record IsSeen (c : CDataLink) (o : Outlook) : Type 0 where

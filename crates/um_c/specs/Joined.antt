@@ -1,6 +1,6 @@
 -- A C program that connects endpoints: it keeps their states, calls them, and carries the blocks between them.
 use Rattle.std.specs.Prelude.{ℕ, ℤ, ◌≡◌, ◌≤◌, ◌==◌, ◌&&◌, ◌≢◌, ◌⊎◌, if◌then◌else◌, true, false}
-use Rattle.std.specs.Prelude.{List, [], ◌∷◌, ◌++◌, length, take, map, Option, Some, None}
+use Rattle.std.specs.Prelude.{List, [], ◌∷◌, length, take, map, Option, Some, None}
 use Rattle.std.specs.List.{filter_map}
 use Rattle.lapdm_frame.specs.declared.Channel.{Channel}
 use Rattle.lapdm_frame.specs.Content.{Frame}

@@ -9,6 +9,8 @@ pub mod EndCalls
 pub mod SideCalls
 pub mod DataLinkCalls
 pub mod AnswerCalls
+pub mod FaultCalls
+pub mod B4Calls
 pub mod Joined
 pub mod DataLinkRuns
 pub mod Opening

@@ -1,13 +1,12 @@
 -- The C structs of erasure decoding and of a receiver of a time slot, and what the calls answer.
 use Rattle.std.specs.Prelude.{ℕ, ◌≡◌, ◌+◌, ◌-◌, nat_le, max, if◌then◌else◌, Bool, true, false, ℤ, pos}
-use Rattle.std.specs.Prelude.{List, map, replicate, slice_index, Option, Some, None, MatchOption, IsSome}
+use Rattle.std.specs.Prelude.{List, map, replicate, slice_index, Option, Some, None, MatchOption, IsSome, Result, Ok, Err}
 use Rattle.um_block.specs.Received.{IsReceivedTsc, coded_soft_bits}
 use Rattle.um_block.specs.interleave.Bursts.{IsInterleaved}
 use Rattle.um_erasing.specs.Erasing.{IsErasingDecodedBlock, without_burst, wrong_training_of_bursts}
 use Rattle.um_erasing.specs.declared.blocks.ErasingDecodedBlock.{ErasingDecodedBlock}
 use Rattle.um_slot.specs.Numbers.{channel_number}
-use Rattle.um_slot.specs.Slots.{end_block, frame_refusal, restarted, settings_of, softened, take_frame}
-use Rattle.um_slot.specs.declared.settings.Settings.{Settings}
+use Rattle.um_slot.specs.Slots.{EndsWith, Takes, restarted, settings_of, softened}
 use Rattle.um_slot.specs.declared.slots.Slot.{Slot}
 use Rattle.um_slot.specs.declared.slots.FinishedBlock.{FinishedBlock}
 use Rattle.um_slot.specs.declared.slots.Refusal.{Refusal}
@@ -73,35 +72,28 @@ pub record IsSlotBlock (words erasures limit : ℕ) (finished : FinishedBlock) (
 abbrev pub no_bursts : List (List ℤ)
 no_bursts = replicate 4 (replicate 148 (pos 0))
 
--- the call returns 0, or 1 and writes the block that a frame finished, and writes the receiver; or the number of the refusal, and writes
--- nothing
-abbrev pub SlotTakesWith : (settings : Option Settings) (refusal : Option Refusal) (old : Slot) (frame came : ℕ) (burst : List ℤ)
-    (before : SlotBlock) (answer : ℕ) (new : Slot) (after : SlotBlock) → Type 0
-SlotTakesWith None refusal old frame came burst before answer new after = (answer ≡ 3) × (new ≡ old) × (after ≡ before)
-SlotTakesWith (Some settings) (Some refusal) old frame came burst before answer new after =
-    (answer ≡ slot_refusal_number refusal) × (new ≡ old) × (after ≡ before)
-SlotTakesWith (Some settings) None old frame came burst before answer new after =
-    let step = take_frame settings frame came burst old no_bursts in
-    (new ≡ step.slot) × MatchOption step.finished
-    ((answer ≡ 0) × (after ≡ before))
-    (λ finished. (answer ≡ 1) × IsSlotBlock old.words old.erasures old.limit finished step.done after)
+-- what a call answers and writes where a receiver gives `result` and the bursts `done`: 0; or 1 and the block that is finished; or the
+-- number of the refusal
+abbrev pub SlotAnswers : (old : Slot) (result : Result (Option FinishedBlock) Refusal) (done : List (List ℤ)) (before : SlotBlock)
+    (answer : ℕ) (after : SlotBlock) → Type 0
+SlotAnswers old (Err refusal) done before answer after = (answer ≡ slot_refusal_number refusal) × (after ≡ before)
+SlotAnswers old (Ok None) done before answer after = (answer ≡ 0) × (after ≡ before)
+SlotAnswers old (Ok (Some finished)) done before answer after =
+    (answer ≡ 1) × IsSlotBlock old.words old.erasures old.limit finished done after
 
 -- what a call that takes a frame answers and writes
-abbrev pub SlotTakes : (old : Slot) (frame came : ℕ) (burst : List ℤ) (before : SlotBlock) (answer : ℕ) (new : Slot)
-    (after : SlotBlock) → Type 0
-SlotTakes old frame came burst before answer new after =
-    SlotTakesWith (settings_of old) (frame_refusal old frame) old frame came burst before answer new after
+pub record SlotTakes (old : Slot) (frame came : ℕ) (burst : List ℤ) (before : SlotBlock) (answer : ℕ) (new : Slot)
+    (after : SlotBlock) : Type 0 where
+  pub result : Result (Option FinishedBlock) Refusal
+  pub done : List (List ℤ)
+  pub takes : Takes old frame came burst no_bursts result new done
+  pub answers : SlotAnswers old result done before answer after
 
--- the call returns 1 and writes the block that was being collected, or 0 if none was, and writes the receiver; or 3 if its state is not
--- valid, and writes nothing
-abbrev pub SlotEnds : (settings : Option Settings) (old : Slot) (before : SlotBlock) (answer : ℕ) (new : Slot) (after : SlotBlock) →
-    Type 0
-SlotEnds None old before answer new after = (answer ≡ 3) × (new ≡ old) × (after ≡ before)
-SlotEnds (Some settings) old before answer new after =
-    let step = end_block settings.collecting (record { slot = old; finished = None; done = no_bursts }) in
-    (new ≡ step.slot) × MatchOption step.finished
-    ((answer ≡ 0) × (after ≡ before))
-    (λ finished. (answer ≡ 1) × IsSlotBlock old.words old.erasures old.limit finished step.done after)
+-- what a call that ends the block which is being collected answers and writes
+pub record SlotEnds (old : Slot) (before : SlotBlock) (answer : ℕ) (new : Slot) (after : SlotBlock) : Type 0 where
+  pub result : Result (Option FinishedBlock) Refusal
+  pub ends : EndsWith (settings_of old) old no_bursts result new
+  pub answers : SlotAnswers old result new.bursts before answer after
 
 -- the call returns true and sets the receiver back, or false if a setting is out of range, and writes nothing
 abbrev pub SlotRestarts : (old : Slot) (answer : Bool) (new : Slot) → Type 0

@@ -48,6 +48,7 @@ ghost use Rattle.um_c.specs.DataLinkCalls.{
   with_clocks_counted,
   IsRead,
   IsSeen,
+  IsLinkSeen,
   IsLinkRead,
   LinkTakesFrame,
   LinkUsesSlot,
@@ -63,8 +64,8 @@ use crate::ends::{INVALID_ENDPOINT, INVALID_FRAME};
 use crate::frames::channel_of;
 use crate::states::{CEndpoint, endpoint_view_of, role_of, write_endpoint_view};
 use lapdm_datalink::{
-    DataLink, DataLinkView, Establishment, Link, LinkSlot, LinkView, Outlook, Slot, any_on_sapi0,
-    holds_up_sapi3,
+    DataLink, DataLinkView, Establishment, Link, LinkOutlook, LinkSlot, LinkView, Outlook, Slot,
+    any_on_sapi0, holds_up_sapi3,
 };
 use lapdm_end::{Effects, MessageBuffer, Notice, Role, Sapi};
 use lapdm_frame::{BLOCK_OCTETS, Body, Channel, FrameView, read_on};
@@ -167,7 +168,9 @@ fn answer_of(c_struct: &CTimedEnd) -> Option<[u8; BLOCK_OCTETS]>
     Some(c_struct.answer)
 }
 
-fn link_view_of(c_struct: &CTimedEnd) -> Option<LinkView<'_>>
+// Inlined, so that a view whose fields are tested at once is never written.
+#[inline(always)]
+pub(crate) fn link_view_of(c_struct: &CTimedEnd) -> Option<LinkView<'_>>
     ensures { MatchOption result (link_values_from c_struct.now ≡ None)
         (λ parts. link_values_from c_struct.now ≡ Some (values_of_parts parts)) }
 {
@@ -307,8 +310,8 @@ pub extern "C" fn um_datalink_new_for(
 pub extern "C" fn um_datalink_valid(data_link: &CDataLink) -> bool
     ensures { IsTrue result ↔ RepresentsSomeDataLink data_link.now }
 {
-    match data_link_view_of(data_link) {
-        Some(parts) => parts.is_data_link(),
+    match look_ahead(data_link) {
+        Some(_) => true,
         None => false,
     }
 }
@@ -344,14 +347,22 @@ pub extern "C" fn um_datalink_take(
 
 /// Tests both links in the struct, and returns what the next slot and the next frame need to know, or `None` if it represents no data link.
 /// No link is restored: in most slots none acts.
-fn look_ahead(data_link: &CDataLink) -> Option<Outlook>
+pub(crate) fn look_ahead(data_link: &CDataLink) -> Option<Outlook>
     ensures { MatchOption result (RepresentsSomeDataLink data_link.now → ⊥) (IsSeen data_link.now) }
 {
-    let parts = data_link_view_of(data_link)?;
-    if !parts.is_data_link() {
-        return None;
+    let link0 = see_link(&data_link.link0, false)?;
+    let link3 = see_link(&data_link.link3, data_link.heard0 != 0)?;
+    Outlook::of_links(&link0, &link3, data_link.main != 0)
+}
+
+/// Tests the link in the struct, and returns what its data link needs to know of it, or `None` if it represents no link.
+fn see_link(c_struct: &CTimedEnd, is_stopped: bool) -> Option<LinkOutlook>
+    ensures { MatchOption result ((l : LinkState) → RepresentsLink c_struct.now l → ⊥) (IsLinkSeen is_stopped c_struct.now) }
+{
+    match link_view_of(c_struct) {
+        Some(parts) => parts.outlook(is_stopped),
+        None => None,
     }
-    Some(parts.outlook())
 }
 
 /// Reads the link that the struct represents into `held`, in place, and returns whether it represents one.

@@ -7,6 +7,7 @@
 #![tactic(auto)]
 
 mod answers;
+mod b4;
 mod blocks;
 mod bursts;
 mod ciphers;
@@ -17,6 +18,7 @@ mod ends;
 mod erasing;
 mod facch;
 mod facch_erasing;
+mod faults;
 mod frames;
 mod joined;
 mod layout;

@@ -106,7 +106,7 @@ pub extern "C" fn um_slot_restart(slot: &mut Slot) -> bool
 /// 3 if the state is not valid, and then writes nothing.
 #[unsafe(no_mangle)]
 pub extern "C" fn um_slot_end(slot: &mut Slot, block: &mut SlotBlock) -> u32
-    ensures { SlotEnds (settings_of slot.old) slot.old block.old result slot.new block.new }
+    ensures { SlotEnds slot.old block.old result slot.new block.new }
 {
     let words = slot.words;
     let erasures = slot.erasures;

@@ -31,52 +31,6 @@ pub(crate) struct ErasedBlock {
     pub(crate) erased: u8,
 }
 
-/// Receives the four bursts of a block as `receive_block_among` does. If the CRC of no word holds, erases at most `erasures` bursts (0 to
-/// 4) in turn, the burst with the most wrong training bits first, until the CRC of a word holds.
-pub fn receive_block_erasing(
-    bursts: &[[i8; BURST_BITS]; 4],
-    max_rank: u32,
-    erasures: u8,
-) -> ErasingDecodedBlock
-    requires soft { All AllSoftBits bursts.now }
-    requires at_least { 1 ≤ max_rank }
-    requires at_most { max_rank ≤ MAX_RANK }
-    requires erasures { erasures ≤ 4 }
-    ensures received { IsErasingDecodedBlock bursts.now max_rank erasures result }
-    ensures only { (other : ErasingDecodedBlock) → IsErasingDecodedBlock bursts.now max_rank erasures other → other ≡ result }
-    ensures none { erasures ≡ 0 → IsListDecodedBlock bursts.now max_rank result.block × (result.erased ≡ None) }
-{
-    receive_deinterleaved_erasing(bursts, &deinterleave_block(bursts), max_rank, erasures)
-}
-
-fn receive_deinterleaved_erasing(
-    bursts: &[[i8; BURST_BITS]; 4],
-    soft: &[i8; CODED_BITS],
-    max_rank: u32,
-    erasures: u8,
-) -> ErasingDecodedBlock
-    requires bursts { All AllSoftBits bursts.now }
-    requires soft { AllSoftBits soft.now }
-    requires deinterleaved { IsInterleaved soft.now (map coded_soft_bits bursts.now) }
-    requires at_least { 1 ≤ max_rank }
-    requires at_most { max_rank ≤ MAX_RANK }
-    ensures received { IsErasingDecodedBlock bursts.now max_rank erasures result }
-{
-    let mut wrong_training = [0; 4];
-    let first = receive_first(bursts, soft, &mut wrong_training);
-    match first.accepted {
-        Some(_) => ErasingDecodedBlock {
-            block: ListDecodedBlock {
-                report: first,
-                rank: 1,
-            },
-            erased: None,
-            wrong_training,
-        },
-        None => receive_later_erasing(bursts, soft, &first, wrong_training, max_rank, erasures),
-    }
-}
-
 /// Decodes a deinterleaved block to its most likely word, and writes the number of wrong training bits of each burst.
 #[inline(always)]
 pub fn receive_first(
@@ -99,7 +53,8 @@ pub fn receive_first(
     receive_detected(soft, tsc, wrong_in_block)
 }
 
-/// Receives a block as `receive_block_erasing` does after `first`, the report of the most likely word, whose CRC is wrong.
+/// Receives a block after `first`, the report of its most likely word, whose CRC is wrong: with a list decoder, and if the CRC of no word
+/// holds, with each of at most `erasures` bursts (0 to 4) erased in turn, the burst with the most wrong training bits first.
 #[cold]
 pub fn receive_later_erasing(
     bursts: &[[i8; BURST_BITS]; 4],
@@ -123,23 +78,23 @@ pub fn receive_later_erasing(
     ensures erased { IfSome result.erased (λ index. index < 4) }
 {
     let block = receive_later_among(soft, first, max_rank);
-    if block.report.accepted.is_some() {
-        return ErasingDecodedBlock {
+    match block.report.accepted {
+        Some(_) => ErasingDecodedBlock {
             block,
             erased: None,
-            wrong_training,
-        };
-    }
-    match search(bursts, max_rank, erasures, distrust_of(&wrong_training)) {
-        Some(found) => ErasingDecodedBlock {
-            block: found.block,
-            erased: Some(found.erased),
             wrong_training,
         },
-        None => ErasingDecodedBlock {
-            block,
-            erased: None,
-            wrong_training,
+        None => match search(bursts, max_rank, erasures, distrust_of(&wrong_training)) {
+            Some(found) => ErasingDecodedBlock {
+                block: found.block,
+                erased: Some(found.erased),
+                wrong_training,
+            },
+            None => ErasingDecodedBlock {
+                block,
+                erased: None,
+                wrong_training,
+            },
         },
     }
 }
@@ -163,15 +118,17 @@ fn search(
     }
     let index = index_of_greatest(&distrust);
     let decoded = receive_block_among(&without_burst(bursts, index), max_rank);
-    if decoded.report.accepted.is_some() {
-        return Some(ErasedBlock {
+    match decoded.report.accepted {
+        Some(_) => Some(ErasedBlock {
             block: decoded,
             erased: index,
-        });
+        }),
+        None => {
+            let mut rest = distrust;
+            rest[usize::from(index)] = 0;
+            search(bursts, max_rank, count - 1, rest)
+        }
     }
-    let mut rest = distrust;
-    rest[usize::from(index)] = 0;
-    search(bursts, max_rank, count - 1, rest)
 }
 
 /// The distrust of bursts that are not erased yet, by their wrong training bits.

@@ -26,38 +26,9 @@ pub struct ErasingDecodedFacch {
     pub wrong_training: [u8; MAX_BURSTS],
 }
 
-/// Receives a block from its halves of the bursts that carry it, as `um_facch::receive_among` does. If the CRC of no word holds, erases at
-/// most `erasures` of the bursts, as they were sent, in turn, the burst with the most wrong training bits first, until the CRC of a word
-/// holds.
-pub fn receive_facch_erasing(
-    bursts: &[[i8; BURST_BITS]],
-    max_rank: u32,
-    erasures: u8,
-) -> ErasingDecodedFacch
-    requires at_least { 4 ≤ length bursts.now }
-    requires at_most { length bursts.now ≤ 8 }
-    requires soft { All AllSoftBits bursts.now }
-    requires some_words { 1 ≤ max_rank }
-    requires few_words { max_rank ≤ MAX_RANK }
-    ensures received { IsErasingDecodedFacch bursts.now max_rank erasures result }
-    ensures only { (other : ErasingDecodedFacch) → IsErasingDecodedFacch bursts.now max_rank erasures other → other ≡ result }
-{
-    let soft = deinterleave_block(&join(bursts));
-    let mut wrong_training = [0; MAX_BURSTS];
-    let report = receive_carried(bursts, &soft, &mut wrong_training);
-    match report.accepted {
-        Some(_) => ErasingDecodedFacch {
-            block: ListDecodedBlock { report, rank: 1 },
-            erased: None,
-            wrong_training,
-        },
-        None => {
-            receive_later_facch_erasing(bursts, &soft, &report, wrong_training, max_rank, erasures)
-        }
-    }
-}
-
-/// Receives a block as `receive_facch_erasing` does after `first`, the report of the most likely word, whose CRC is wrong.
+/// Receives a block after `first`, the report of its most likely word, whose CRC is wrong: with a list decoder, and if the CRC of no word
+/// holds, with each of at most `erasures` of the bursts, as they were sent, erased in turn, the burst with the most wrong training bits
+/// first.
 #[cold]
 pub fn receive_later_facch_erasing(
     bursts: &[[i8; BURST_BITS]],
@@ -83,28 +54,28 @@ pub fn receive_later_facch_erasing(
     ensures erased { IfSome result.erased (λ index. index < length bursts.now) }
 {
     let block = receive_later_among(soft, first, max_rank);
-    if block.report.accepted.is_some() {
-        return ErasingDecodedFacch {
+    match block.report.accepted {
+        Some(_) => ErasingDecodedFacch {
             block,
             erased: None,
-            wrong_training,
-        };
-    }
-    match search_facch(
-        bursts,
-        max_rank,
-        erasures,
-        distrust_of_eight(&wrong_training),
-    ) {
-        Some(found) => ErasingDecodedFacch {
-            block: found.block,
-            erased: Some(found.erased),
             wrong_training,
         },
-        None => ErasingDecodedFacch {
-            block,
-            erased: None,
-            wrong_training,
+        None => match search_facch(
+            bursts,
+            max_rank,
+            erasures,
+            distrust_of_eight(&wrong_training),
+        ) {
+            Some(found) => ErasingDecodedFacch {
+                block: found.block,
+                erased: Some(found.erased),
+                wrong_training,
+            },
+            None => ErasingDecodedFacch {
+                block,
+                erased: None,
+                wrong_training,
+            },
         },
     }
 }
@@ -131,15 +102,17 @@ fn search_facch(
     }
     let index = index_of_greatest_below(&distrust, bursts.len());
     let decoded = receive_without(bursts, index, max_rank);
-    if decoded.report.accepted.is_some() {
-        return Some(ErasedBlock {
+    match decoded.report.accepted {
+        Some(_) => Some(ErasedBlock {
             block: decoded,
             erased: index,
-        });
+        }),
+        None => {
+            let mut rest = distrust;
+            rest[usize::from(index)] = 0;
+            search_facch(bursts, max_rank, count - 1, rest)
+        }
     }
-    let mut rest = distrust;
-    rest[usize::from(index)] = 0;
-    search_facch(bursts, max_rank, count - 1, rest)
 }
 
 fn receive_without(bursts: &[[i8; BURST_BITS]], index: u8, max_rank: u32) -> ListDecodedBlock

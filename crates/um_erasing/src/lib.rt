@@ -5,11 +5,7 @@ mod blocks;
 mod facch;
 mod training;
 
-pub use blocks::{
-    ErasingDecodedBlock, receive_block_erasing, receive_first, receive_later_erasing, without_burst,
-};
-pub use facch::{
-    ErasingDecodedFacch, join_without, receive_facch_erasing, receive_later_facch_erasing,
-};
+pub use blocks::{ErasingDecodedBlock, receive_first, receive_later_erasing, without_burst};
+pub use facch::{ErasingDecodedFacch, join_without, receive_later_facch_erasing};
 pub use training::{TrainingErrors, detect_training};
 pub use um_list_receive::{ListDecodedBlock, MAX_RANK};

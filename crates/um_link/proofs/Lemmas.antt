@@ -278,7 +278,8 @@ on-queue test b role w a st h = rw (same-queue role w a st) at h
 pub asked-is : (role : Role) (sapi : Sapi) (call : Call) (w : WorldState) (refused : Option Refused) →
     E.is_queue_full (length (queued_blocks role w)) ≡ false →
     ((es : E.BothSides) → F.Represents w.ends es → refused ≡ refusal_of call (E.endpoint_at role sapi es)) → (a : AirState) →
-    Represents w a → E.call_refusal (queue_length a.queues) role sapi call a.ends ≡ E.as_event_refusal refused
+    Represents w a →
+    E.call_refusal_with_capacity E.bounded_capacity (queue_length a.queues) role sapi call a.ends ≡ E.as_event_refusal refused
 asked-is role sapi call w refused h n a st =
     refusal_if-false _ E.AirFull _ (on-queue E.is_queue_full false role w a st h) ∙ ap E.as_event_refusal (sym (n a.ends st.ends))
 
@@ -289,7 +290,7 @@ module _ (role : Role) (sapi : Sapi) (call : Call) where
   asked-event_step event h es = grind arith
 
   pub asked-refusal : (event : A.Event) → IsLayer3CallTo event role sapi call → (a : AirState) →
-      refusal event a ≡ E.call_refusal (queue_length a.queues) role sapi call a.ends
+      refusal event a ≡ E.call_refusal_with_capacity E.bounded_capacity (queue_length a.queues) role sapi call a.ends
   asked-refusal event h a = grind arith
 
   pub asked-plain : (event : A.Event) → IsLayer3CallTo event role sapi call → (a : AirState) →

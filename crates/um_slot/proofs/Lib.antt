@@ -1,5 +1,5 @@
 -- Lemmas of this crate.
 pub mod Taking
 pub mod Firsts
-mod Recordings
+pub mod Recordings
 mod Worked

@@ -1,17 +1,10 @@
 -- A worked recording: of SDCCH/8 in the downlink the frames 0, 1, 2 and 7 come, counted from a hyperframe on. The last one is the fourth of
 -- the block that begins in frame 4, and shows that the fourth burst of the block before never came. And what is no report of a recording.
 use Rattle.{
-  std.proofs.Common.{List, None, Some, [], arith, pos, refl, replicate, set, ℕ, ℤ, ◌+◌, ◌∷◌, ◌≡◌, ◌<◌},
-  tdma.specs.declared.{
-    channels.{Channel.TheVariants.Sdcch, Combination.TheVariants.Sdcch8, Direction.TheVariants.Downlink},
-    places.Place.Place,
-  },
-  um_slot.specs.{
-    Recordings.{AreOfRecording, AreReportsOf, Block, Follow, Frame, Hears, HearsEnd, Placed, Report, frames_of, placed},
-    Slots.{new_slot, settings_of},
-    declared.{settings.Settings.Settings, slots.Slot.Slot},
-  },
-  um_slot.proofs.Recordings.each_reported_once,
+  std.proofs.Common.{List, None, Some, [], arith, pos, refl, replicate, set, ℕ, ℤ, ◌+◌, ◌∷◌, ◌≡◌},
+  tdma.specs.declared.{channels.{Channel.TheVariants.Sdcch, Combination.TheVariants.Sdcch8, Direction.TheVariants.Downlink}},
+  um_slot.specs.Recordings.{AreOfRecording, AreReportsOf, Block, Follow, Frame, Hears, HearsEnd, Placed, Report, placed},
+  um_slot.specs.{Slots.{new_slot}, declared.{settings.Settings.Settings, slots.Slot.Slot}},
 }
 
 abbrev sdcch8 : Settings

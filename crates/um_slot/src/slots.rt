@@ -1,6 +1,6 @@
 //! The state of a receiver of one time slot, as plain data.
-ghost use Rattle.std.specs.Prelude.{◌≤◌, IsOk, IsSome, SomeIff, pos, replicate};
-ghost use Rattle.um_slot.specs.Slots.{Takes, new_slot, settings_of};
+ghost use Rattle.std.specs.Prelude.{IsSome, SomeIff};
+ghost use Rattle.um_slot.specs.Slots.{new_slot, settings_of};
 
 use burst_map::BURST_BITS;
 use tdma::HYPERFRAME;
@@ -82,62 +82,6 @@ impl Slot {
             Some(slot)
         } else {
             None
-        }
-    }
-
-    /// Takes the burst of a frame. If this completes a block, or shows that no more bursts of a block will come, returns the block, and
-    /// writes its bursts to `done`.
-    pub fn take(
-        &mut self,
-        frame: u32,
-        burst: &[i8; BURST_BITS],
-        done: &mut [[i8; BURST_BITS]; 4],
-    ) -> Result<Option<FinishedBlock>, Refusal>
-        ensures takes { Takes self.old frame 1 burst.now done.old result self.new done.new }
-        ensures valid { IsOk result → (1 ≤ self.old.words) × (self.old.words ≤ 64) × (self.old.erasures ≤ 4) }
-    {
-        self.take_burst(frame, burst, 1, done)
-    }
-
-    /// Takes a frame whose burst did not come, as `take` does for a burst of zeros.
-    pub fn miss(
-        &mut self,
-        frame: u32,
-        done: &mut [[i8; BURST_BITS]; 4],
-    ) -> Result<Option<FinishedBlock>, Refusal>
-        ensures takes { Takes self.old frame 0 (replicate BURST_BITS (pos 0)) done.old result self.new done.new }
-        ensures valid { IsOk result → (1 ≤ self.old.words) × (self.old.words ≤ 64) × (self.old.erasures ≤ 4) }
-    {
-        self.take_burst(frame, &[0; BURST_BITS], 0, done)
-    }
-
-    fn take_burst(
-        &mut self,
-        frame: u32,
-        burst: &[i8; BURST_BITS],
-        came: u8,
-        done: &mut [[i8; BURST_BITS]; 4],
-    ) -> Result<Option<FinishedBlock>, Refusal>
-        requires { came ≤ 1 }
-        ensures takes { Takes self.old frame came burst.now done.old result self.new done.new }
-        ensures valid { IsOk result → (1 ≤ self.old.words) × (self.old.words ≤ 64) × (self.old.erasures ≤ 4) }
-    {
-        let accepted = match self.accept(frame) {
-            Ok(accepted) => accepted,
-            Err(refusal) => return Err(refusal),
-        };
-        match accepted.ended {
-            Some(_) => {
-                *done = self.bursts;
-                Ok(self.put(&accepted, burst, came))
-            }
-            None => match self.put(&accepted, burst, came) {
-                Some(finished) => {
-                    *done = self.bursts;
-                    Ok(Some(finished))
-                }
-                None => Ok(None),
-            },
         }
     }
 }

@@ -1,13 +1,23 @@
 //! Blocks decoded without a burst, tested on values computed by hand.
 use crate::blocks::{are_soft, soften_burst};
 use std::process::Abort;
-use um_block::{BLOCK_OCTETS, BURST_BITS, send_block};
-use um_erasing::{ErasingDecodedBlock, receive_block_erasing};
+use um_block::{BLOCK_OCTETS, BURST_BITS, deinterleave_block, send_block};
+use um_erasing::{ErasingDecodedBlock, ListDecodedBlock, receive_first, receive_later_erasing};
 
 fn decode(rt: &impl Abort, bursts: &[[i8; BURST_BITS]; 4], erasures: u8) -> ErasingDecodedBlock {
     let all_soft = bursts.iter().all(|burst| are_soft(burst));
     assert!(rt; all_soft && erasures <= 4);
-    receive_block_erasing(bursts, 1, erasures)
+    let soft = deinterleave_block(bursts);
+    let mut wrong_training = [0; 4];
+    let report = receive_first(bursts, &soft, &mut wrong_training);
+    match report.accepted {
+        Some(_) => ErasingDecodedBlock {
+            block: ListDecodedBlock { report, rank: 1 },
+            erased: None,
+            wrong_training,
+        },
+        None => receive_later_erasing(bursts, &soft, &report, wrong_training, 1, erasures),
+    }
 }
 
 // A burst with all bits inverted has no right training bit. Without it, the other three agree with the word sent in all 342 coded bits.

@@ -4,21 +4,22 @@ use Rattle.{
   half_bursts.proofs.Stolen.{length-with_half, own_value},
   half_bursts.specs.Halves.{AreCarried, coded_values, half_of_position, joined_block, other_half, partner, value_with_half, with_half},
   interleave.specs.Bursts.IsInterleaved,
-  std.proofs.Common.{Bool, List, None, Option, Some, [], ap, ap₂, arith, cond, drop, eqb, false, get_or, inl, inr, length, ltb, map},
+  std.proofs.Common.{Bool, List, None, Option, Some, [], ap, ap₂, arith, cond, drop, eqb, false, get_or, inl, inr, length, map},
   std.proofs.Common.{not, refl, replicate, subst, suc, sym, true, zero, ℕ, ◌&&◌, ◌++◌, ◌%◌, ◌+◌, ◌-◌, ◌/◌},
   std.proofs.Common.{◌<◌, ◌∙◌, ◌≡◌, ◌≢◌, ◌≤◌},
   std.proofs.Common.{◌∷◌, ◌==◌, if◌then◌else◌, ◌*◌},
-  std.proofs.lemmas.Bool.{cases_lt, Decides.{eqb_tells, nat_tests}, eq-eqb, eqb-true, false_from_ne_true},
+  std.proofs.lemmas.Bool.{cases_lt, Decides.{eqb_tells, nat_tests}, eq-eqb},
   std.proofs.lemmas.List.{ext_get_or, get_or-drop, get_or-map, get_or-take, get_or_default, length-drop, length-map, length-take},
   std.proofs.lemmas.List.FromFn.get_or-map-range_with_len,
   std.specs.{List.All, Prelude.{nat_le, slice_range}},
   tdma.specs.Traffic.{facch_bursts, traffic_place_of},
-  tdma.specs.declared.{TheConstants.HYPERFRAME, channels.Direction.{Direction, TheVariants.{Downlink, Uplink}}},
-  tdma.specs.declared.traffic.TrafficChannel.{TrafficChannel, TheVariants.{FullRate, HalfRate0, HalfRate1}},
-  um_slot.specs.Numbers.{direction_of, traffic_channel_of},
-  um_traffic.specs.Receivers.{burst_number, bursts_after, bursts_in_hyperframe},
-  um_traffic.specs.Senders.{AreFrames, CarriesBurst, Sends, SendsAll, Sent, asked, begun_next, ended, first_of_four, has_half},
-  um_traffic.specs.Senders.{index_of_four, is_late, is_next, is_sender_in_range, is_shared, moved_block, moved_on, send, send_at},
+  tdma.specs.declared.{TheConstants.HYPERFRAME, channels.Direction.{Direction}},
+  tdma.specs.declared.traffic.TrafficChannel.{TrafficChannel},
+  um_slot.{proofs.Recordings.unlike, specs.Numbers.{direction_of, traffic_channel_of}},
+  um_traffic.proofs.Blocks.few_bursts,
+  um_traffic.specs.Receivers.{bursts_after, bursts_in_hyperframe},
+  um_traffic.specs.Senders.{AreFrames, CarriesBurst, SendsAll, Sent, asked, first_of_four, has_half},
+  um_traffic.specs.Senders.{index_of_four, is_late, is_next, is_sender_in_range, is_shared, moved_on, send, send_at},
   um_traffic.specs.Senders.{send_number, send_with, sender_settings_if_valid, sender_settings_of, sent_burst, with_block},
   um_traffic.specs.declared.{settings.TrafficSettings.TrafficSettings, senders.SentBlock.SentBlock},
   um_traffic.specs.declared.senders.{TrafficSender.TrafficSender, Sending.TheVariants.{Burst, Late, NoFrame, Silence}},
@@ -29,28 +30,18 @@ use Rattle.{
 index-of : (c : TrafficChannel) (d : Direction) (first i : ℕ) → index_of_four c d first ≡ 0 → first < bursts_in_hyperframe c →
     i < 8 →
     index_of_four c d ((first + i) % bursts_in_hyperframe c) ≡ i % 4
-index-of FullRate d first i zeroth lt few = omega arith
-index-of HalfRate0 Downlink first i zeroth lt few = omega arith
-index-of HalfRate0 Uplink first i zeroth lt few = omega arith
-index-of HalfRate1 Downlink first i zeroth lt few = omega arith
-index-of HalfRate1 Uplink first i zeroth lt few = omega arith
+index-of c d first i zeroth lt few = grind arith
 
 first-of : (c : TrafficChannel) (d : Direction) (first i : ℕ) → index_of_four c d first ≡ 0 → first < bursts_in_hyperframe c →
     i < 8 →
     first_of_four c d ((first + i) % bursts_in_hyperframe c) ≡ (first + i / 4 * 4) % bursts_in_hyperframe c
-first-of FullRate d first i zeroth lt few = omega arith
-first-of HalfRate0 Downlink first i zeroth lt few = omega arith
-first-of HalfRate0 Uplink first i zeroth lt few = omega arith
-first-of HalfRate1 Downlink first i zeroth lt few = omega arith
-first-of HalfRate1 Uplink first i zeroth lt few = omega arith
+first-of c d first i zeroth lt few = grind arith
 
 -- the four bursts after these are the next ones, and others
 next-of : (c : TrafficChannel) (first : ℕ) → first < bursts_in_hyperframe c →
     (bursts_after c first ((first + 4) % bursts_in_hyperframe c) ≡ 4) × ((first + 4) % bursts_in_hyperframe c ≢ first)
     × (first ≢ HYPERFRAME) × (first % bursts_in_hyperframe c ≡ first)
-next-of FullRate first lt = (omega arith, λ e. omega (arith, e), λ e. omega (arith, e), omega arith)
-next-of HalfRate0 first lt = (omega arith, λ e. omega (arith, e), λ e. omega (arith, e), omega arith)
-next-of HalfRate1 first lt = (omega arith, λ e. omega (arith, e), λ e. omega (arith, e), omega arith)
+next-of c first lt = grind arith
 
 -- ## A call that gives a burst
 
@@ -61,16 +52,16 @@ otherwise : (b : Bool) (x y z : Sent) → (if b then x else y) ≡ z → x.answe
 otherwise true x y z e apart = absurd (apart (ap (λ (s : Sent). s.answer) e))
 otherwise false x y z e apart = e
 
-same_inside : {X : Type 0} (x y : X) → Some x ≡ Some y → x ≡ y
+pub same_inside : {X : Type 0} (x y : X) → Some x ≡ Some y → x ≡ y
 same_inside x y e = cc
 
-same_fields : (c c' : TrafficChannel) (d d' : Direction) → c ≡ c' → d ≡ d' →
-    let a : TrafficSettings = record { channel = c; direction = d } in
-    let a' : TrafficSettings = record { channel = c'; direction = d' } in a ≡ a'
-same_fields c c' d d' hc hd = cc
+pub same_settings : (a b : TrafficSettings) → a.channel ≡ b.channel → a.direction ≡ b.direction → a ≡ b
+same_settings a b channel direction = λ i. record { channel = channel i; direction = direction i }
 
-same_settings : (a b : TrafficSettings) → a.channel ≡ b.channel → a.direction ≡ b.direction → a ≡ b
-same_settings a b channel direction = same_fields a.channel b.channel a.direction b.direction channel direction
+pub chosen : (b : Bool) (c : TrafficChannel) (d : Direction) (st : TrafficSettings) →
+    (if b then Some (let y : TrafficSettings = record { channel = c; direction = d } in y) else None) ≡ Some st →
+    (c ≡ st.channel) × (d ≡ st.direction)
+chosen b c d st e = grind arith
 
 no_frame : NoFrame ≢ Burst
 no_frame e = cc
@@ -87,18 +78,9 @@ Set st s = (traffic_channel_of s.channel ≡ Some st.channel) × (direction_of s
 
 set_if : (s : TrafficSender) (c : Option TrafficChannel) (d : Option Direction) (st : TrafficSettings) →
     sender_settings_if_valid s c d ≡ Some st → (c ≡ Some st.channel) × (d ≡ Some st.direction)
-set_if s None d st e = absurd cc
-set_if s (Some c) None st e = absurd cc
-set_if s (Some c) (Some d) st e = chosen (is_sender_in_range c d s && _) e
-  where
-    chosen : (b : Bool) → (if b then Some (let x : TrafficSettings = record { channel = c; direction = d } in x) else None)
-        ≡ Some st →
-        (Some c ≡ Some st.channel) × (Some d ≡ Some st.direction)
-    chosen true e =
-        let made : TrafficSettings = record { channel = c; direction = d } in
-        let same : made ≡ st = cc in
-        (ap (λ (x : TrafficSettings). Some x.channel) same, ap (λ (x : TrafficSettings). Some x.direction) same)
-    chosen false e = absurd cc
+set_if s (Some c) (Some d) st e =
+    let (channel, direction) = chosen (is_sender_in_range c d s && _) c d st e in (ap Some channel, ap Some direction)
+set_if s c d st e = absurd cc
 
 is_set : (s : TrafficSender) (st : TrafficSettings) → sender_settings_of s ≡ Some st → Set st s
 is_set s st e = set_if s (traffic_channel_of s.channel) (direction_of s.direction) st e
@@ -133,13 +115,8 @@ module _ (st : TrafficSettings) where
       let same : given.0 ≡ st =
       same_settings given.0 st (same_inside given.0.channel c (sym own.0 ∙ set.0))
       (same_inside given.0.direction d (sym own.1 ∙ set.1)) in
-      let here : send_at st (traffic_place_of c d frame) frame s before ≡ answered mid burst =
-      subst (λ (x : TrafficSettings). send_at x (traffic_place_of x.channel x.direction frame) frame s before ≡ answered mid burst) same
-      given.2 in
-      let placed : send_number st (burst_number c frame carries.0.burst) s before ≡ answered mid burst =
-      ap (λ p. send_at st p frame s before) (sym carries.1) ∙ here in
-      let numbered : send_number st n s before ≡ answered mid burst =
-      ap (λ m. send_number st m s before) (sym carries.2) ∙ placed in
+      let here : send_at st (traffic_place_of c d frame) frame s before ≡ answered mid burst = rw same at given.2 in
+      let numbered : send_number st n s before ≡ answered mid burst = rw (carries.1, carries.2) at here in
       let after = asked c d n s in
       let half = has_half c (index_of_four c d n) after in
       let late : Sent = record { sender = s; answer = Late; burst = before } in
@@ -164,16 +141,11 @@ module _ (st : TrafficSettings) where
       set_either (s.first == first) s (moved_on c first (index_of_four c d n) s) set set
 
   asked_same : (n : ℕ) (s : TrafficSender) → s.first ≡ first_of_four c d n → asked c d n s ≡ s
-  asked_same n s same =
-      let first = first_of_four c d n in
-      ap (λ (b : Bool). cond b s (moved_on c first (index_of_four c d n) s)) (eq-eqb s.first first same)
+  asked_same n s same = rw (eq-eqb s.first (first_of_four c d n) same) refl
 
   asked_other : (n : ℕ) (s : TrafficSender) → s.first ≢ first_of_four c d n →
       asked c d n s ≡ moved_on c (first_of_four c d n) (index_of_four c d n) s
-  asked_other n s other =
-      let first = first_of_four c d n in
-      ap (λ (b : Bool). cond b s (moved_on c first (index_of_four c d n) s))
-      (false_from_ne_true (eqb s.first first) (λ h. other (eqb-true s.first first h)))
+  asked_other n s other = rw (unlike s.first (first_of_four c d n) other) refl
 
   -- ## Halves of a burst
 
@@ -194,9 +166,7 @@ module _ (st : TrafficSettings) where
       get_or (with_block half block i burst) p 0 ≡ get_or (get_or block.bursts i []) p 0
   written-at half block i burst p some hp other =
       let own = get_or block.bursts i [] in
-      ap (λ (b : Bool). get_or (cond b burst (with_half half own burst)) p 0)
-      (false_from_ne_true (eqb block.kind 0) (λ h. some (eqb-true block.kind 0 h)))
-      ∙ with_half-at half own burst p hp ∙ own_value half own burst p other
+      rw (unlike block.kind 0 some) (with_half-at half own burst p hp ∙ own_value half own burst p other)
 
   -- and that half is left
   left-at : (half : ℕ) (block : SentBlock) (i : ℕ) (burst : List ℕ) (p : ℕ) → p < 148 → half_of_position p ≡ half →
@@ -255,8 +225,7 @@ module _ (st : TrafficSettings) where
     lower_carries i s few is = record {
       long = long-sent i s;
       lower = λ p hi hp other.
-          ap (λ (b : SentBlock). get_or (with_block (other_half count i) b i (under i s)) p 0) is
-          ∙ written-at (other_half count i) block i (under i s) p some hp other;
+          rw is (written-at (other_half count i) block i (under i s) p some hp other);
       upper = λ p hi hp h. absurd (omega (arith, few, hi));
     }
 
@@ -269,9 +238,7 @@ module _ (st : TrafficSettings) where
           lower = λ p hi hp other. absurd (omega (arith, late, hi));
           upper = λ p hi hp h.
               left-at (other_half count j) s.begun j (under j s) p hp (h ∙ sym half)
-              ∙ ap (λ (b : Bool). get_or (cond b (with_block 1 s.before j (replicate 148 0)) (replicate 148 0)) p 0) shared
-              ∙ ap (λ (b : SentBlock). get_or (with_block 1 b j (replicate 148 0)) p 0) is
-              ∙ written-at 1 block j (replicate 148 0) p some hp (λ e. omega (arith, e, h));
+              ∙ rw (shared, is) (written-at 1 block j (replicate 148 0) p some hp (λ e. omega (arith, e, h)));
         }
 
     -- the first burst
@@ -284,7 +251,7 @@ module _ (st : TrafficSettings) where
         let i : index_of_four c d (number 0) ≡ 0 = index-of c d first 0 zeroth below (omega arith) in
         let moved : asked c d (number 0) s ≡ moved_on c first 0 s =
         asked_other (number 0) s (λ e. other (e ∙ f)) ∙ ap₂ (λ m n. moved_on c m n s) f i in
-        let begun : (asked c d (number 0) s).begun ≡ block = ap (λ (x : TrafficSender). x.begun) moved ∙ is in (
+        let begun : (asked c d (number 0) s).begun ≡ block = rw moved is in (
           record {
             set = set_asked (number 0) s set;
             lower = λ h. (ap (λ (x : TrafficSender). x.first) moved, begun);
@@ -308,7 +275,7 @@ module _ (st : TrafficSettings) where
               let index : i % 4 ≡ i = omega (arith, lower) in (
                 record {
                   set = set;
-                  lower = λ h. subst (λ (x : TrafficSender). (x.first ≡ first) × (x.begun ≡ block)) (sym is) here;
+                  lower = λ h. rw is here;
                   upper = λ h. absurd (omega (arith, h, lower));
                 },
                 rw (index, is) (lower_carries i s lower here.1),
@@ -330,13 +297,11 @@ module _ (st : TrafficSettings) where
                     ap (λ n. not (eqb n HYPERFRAME) && eqb (bursts_after c n ((first + 4) % bursts_in_hyperframe c)) 4) here.0
                     ∙ grind (arith, nat_tests, next) in (
                       ap (λ (x : TrafficSender). x.first) moved,
-                      ap (λ (x : TrafficSender). x.before) moved
-                          ∙ ap (λ (b : Bool). cond b s.begun (ended s.before)) after ∙ here.1,
+                      rw (moved, after) here.1,
                     )
                 | inr more ↦
                     let here = at.upper (omega (arith, more.1, upper)) in
-                    subst (λ (x : TrafficSender). (x.first ≡ (first + 4) % bursts_in_hyperframe c) × (x.before ≡ block))
-                    (sym (asked_same (number i) s (here.0 ∙ sym to))) here
+                    rw (asked_same (number i) s (here.0 ∙ sym to)) here
               ] in (
                 record { set = set; lower = λ h. absurd (omega (arith, h, upper)); upper = λ h. there },
                 rw index (upper_carries i (asked c d (number i) s) upper lt there.1),
@@ -365,8 +330,7 @@ module _ (st : TrafficSettings) where
         let step = steps i s later (omega (arith, within)) (omega (arith, few)) at in
         let index : index_of_four c d (number i) ≡ i % 4 = index-of c d first i zeroth below (omega (arith, few)) in
         let new : At (suc i) sends.0 =
-        subst (At (suc i)) (sym (one.new_is ∙ ap (λ (m : TrafficSender). let x : TrafficSender = record m { waiting = one.waiting } in x)
-        call.0)) (given_too (suc i) (asked c d (number i) s) one.waiting step.0) in
+        rw (one.new_is, call.0) (given_too (suc i) (asked c d (number i) s) one.waiting step.0) in
         let carries : Carries i b =
         subst (Carries i) (sym (call.1 ∙ ap (λ n. sent_burst c n (asked c d (number i) s)) index)) step.1 in
         let rest = runs fs bs (suc i) sends.0 (omega arith) (omega (arith, within)) (omega (arith, few)) new
@@ -385,8 +349,7 @@ module _ (st : TrafficSettings) where
         let step = begins sender set other waits in
         let index : index_of_four c d (number 0) ≡ 0 = index-of c d first 0 zeroth below (omega arith) in
         let new : At 1 sends.0 =
-        subst (At 1) (sym (one.new_is ∙ ap (λ (m : TrafficSender). let x : TrafficSender = record m { waiting = one.waiting } in x)
-        call.0)) (given_too 1 (asked c d (number 0) sender) one.waiting step.0) in
+        rw (one.new_is, call.0) (given_too 1 (asked c d (number 0) sender) one.waiting step.0) in
         let carries : Carries 0 b =
         subst (Carries 0) (sym (call.1 ∙ ap (λ n. sent_burst c n (asked c d (number 0) sender)) index)) step.1 in
         let rest = runs fs bs 1 sends.0 (omega arith) (omega (arith, all)) (omega (arith, all, few)) new
@@ -406,23 +369,19 @@ module _ (st : TrafficSettings) where
         ∙ elim (eqb_tells (p % 2) 1) [
           | inl odd ↦
               let own : half_of_position p ≢ other_half count b = grind (arith, half, odd.1) in
-              ap (λ (q : Bool). get_or (cond q (get_or bursts b []) (get_or bursts (partner (length bursts) b) [])) p 0) odd.0
-              ∙ (carry b (omega (arith, hb, some_bursts))).lower p hb hp own
+              rw odd.0 ((carry b (omega (arith, hb, some_bursts))).lower p hb hp own)
           | inr even ↦
-              ap (λ (q : Bool). get_or (cond q (get_or bursts b []) (get_or bursts (partner (length bursts) b) [])) p 0) even.0
-              ∙ ap (λ n. get_or (get_or bursts (partner n b) []) p 0) long
-              ∙ elim (cases_lt (b + 4) count) [
+              rw (even.0, long) (elim (cases_lt (b + 4) count) [
                 | inl later ↦
                     let is : partner count b ≡ b + 4 = grind (arith, nat_tests) in
                     let two : half_of_position p ≡ 2 = grind (arith, half, even.1) in
-                    ap (λ n. get_or (get_or bursts n []) p 0) is
-                    ∙ (carry (b + 4) later).upper p (omega arith) hp two
-                    ∙ ap (λ n. get_or (get_or block.bursts n []) p 0) (omega arith)
+                    rw is ((carry (b + 4) later).upper p (omega arith) hp two
+                    ∙ ap (λ n. get_or (get_or block.bursts n []) p 0) (omega arith))
                 | inr own ↦
                     let is : partner count b ≡ b = grind (arith, nat_tests) in
                     let apart : half_of_position p ≢ other_half count b = grind (arith, own, hb) in
-                    ap (λ n. get_or (get_or bursts n []) p 0) is ∙ (carry b (omega (arith, hb, some_bursts))).lower p hb hp apart
-              ]
+                    rw is ((carry b (omega (arith, hb, some_bursts))).lower p hb hp apart)
+              ])
         ]
 
 -- ## The coded bits of two bursts that have the same halves
@@ -460,11 +419,6 @@ same_coded_block xs ys hx hy each_x each_y same =
 
 -- ## The law
 
-counts : (c : TrafficChannel) → (4 ≤ facch_bursts c) × (facch_bursts c ≤ 8)
-counts FullRate = (omega arith, omega arith)
-counts HalfRate0 = (omega arith, omega arith)
-counts HalfRate1 = (omega arith, omega arith)
-
 module _ (sender : TrafficSender) (st : TrafficSettings) (first : ℕ) (frames : List ℕ) (bursts : List (List ℕ))
     (is : sender_settings_of sender ≡ Some st) (zeroth : index_of_four st.channel st.direction first ≡ 0)
     (below : first < bursts_in_hyperframe st.channel) (other : sender.first ≢ first) (some : sender.waiting.kind ≢ 0)
@@ -473,21 +427,20 @@ module _ (sender : TrafficSender) (st : TrafficSettings) (first : ℕ) (frames :
       × ((j : ℕ) → j < facch_bursts st.channel → Carries st first sender.waiting zeroth below some j (get_or bursts j []))
   carried_by_all =
       all_carry st first sender.waiting zeroth below some sender frames bursts (is_set sender st is) other refl are all
-      (counts st.channel).1 (counts st.channel).0 sends
+      (few_bursts st.channel).1 (few_bursts st.channel).0 sends
 
   pub halves_kept : (b p : ℕ) → b < 4 → p < 148 → half_of_position p ≢ 0 →
       get_or (get_or (joined_block 0 bursts) b []) p 0 ≡ get_or (get_or sender.waiting.bursts b []) p 0
   halves_kept b p hb hp half =
-      joined-at st first sender.waiting zeroth below some bursts b p carried_by_all.0 (counts st.channel).0 (counts st.channel).1
+      joined-at st first sender.waiting zeroth below some bursts b p carried_by_all.0 (few_bursts st.channel).0 (few_bursts st.channel).1
       carried_by_all.1 hb hp half
 
   pub given_carried : (coded : List ℕ) → length sender.waiting.bursts ≡ 4 → All IsBurst sender.waiting.bursts →
       IsInterleaved coded (map coded_values sender.waiting.bursts) → AreCarried coded bursts
   given_carried coded four each spread =
-      let few = counts st.channel in
+      let few = few_bursts st.channel in
       let every : All IsBurst bursts =
       λ j x lt. ap length (get_or_default bursts j x [] lt) ∙ (carried_by_all.1 j (omega (arith, carried_by_all.0, lt))).long in
       AreCarried-joined 0 bursts every (omega (arith, carried_by_all.0, few.0)) coded
-      (subst (IsInterleaved coded)
-      (sym (same_coded_block (joined_block 0 bursts) sender.waiting.bursts (length-joined 0 bursts) four (IsBurst-joined 0 bursts) each
-      halves_kept)) spread)
+      (rw (same_coded_block (joined_block 0 bursts) sender.waiting.bursts (length-joined 0 bursts) four (IsBurst-joined 0 bursts) each
+      halves_kept) spread)

@@ -11,7 +11,7 @@ mod sending;
 mod settings;
 mod softening;
 
-pub use laws::law_given_block_is_carried;
+pub use laws::{law_each_facch_is_reported_once, law_given_block_is_carried};
 pub use receivers::{FinishedFacch, Heard, Traffic};
 pub use senders::{FACCH_BLOCK, NO_BLOCK, Sending, SentBlock, TrafficSender};
 pub use settings::TrafficSettings;

@@ -1,17 +1,15 @@
-use Rattle.std.proofs.Common.{sym, ◌∙◌}
-use Rattle.std.proofs.lemmas.Bool.{false≢true}
-use Rattle.um_c.proofs.DataLinkCalls.{some_data_link, decoded}
+use Rattle.um_c.proofs.OneLink.{both, both_seen}
 use Rattle.um_c.proofs.datalinks.look_ahead.Goals as goal
 
-pub returns-then-not-is_data_link : goal.returns-then-not-is_data_link
-returns-then-not-is_data_link c h =
-    let known = some_data_link c.args.data_link.now _ c.in_ok-parts.ensures in
-    absurd (false≢true (sym c.if-not-is_data_link.true ∙ c.is_data_link.ensures.1 (known.1 h)))
+pub returns-in_err-link0 : goal.returns-in_err-link0
+returns-in_err-link0 c =
+    rw c.from_residual.ensures (λ h. c.in_err-link0.ensures h.0.link0 (both c.args.data_link.now h.0 h.1).link0)
+
+pub returns-in_err-link3 : goal.returns-in_err-link3
+returns-in_err-link3 c =
+    rw c.from_residual-in_err-link3.ensures (λ h. c.in_err-link3.ensures h.0.link3 (both c.args.data_link.now h.0 h.1).link3)
 
 pub returns : goal.returns
 returns c =
-    let is = c.in_ok-parts.ensures in
-    let known = some_data_link c.args.data_link.now _ is in record {
-      some = known.0 (c.is_data_link.ensures.0 c.if-not-is_data_link.false);
-      outlook = λ s h. c.outlook.ensures s (decoded c.args.data_link.now _ s is h);
-    }
+    both_seen c.args.data_link.now c.in_ok-link0.link0 c.in_ok-link3.link3 c.of_links.result c.in_ok-link0.ensures c.in_ok-link3.ensures
+    c.of_links.ensures

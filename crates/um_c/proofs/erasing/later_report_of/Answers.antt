@@ -1,5 +1,3 @@
-use Rattle.std.proofs.Common.{subst, ◌<◌, ℕ, Option}
-use Rattle.std.specs.Prelude.{IfSome}
 use Rattle.um_c.proofs.ErasingReports.{erased_report}
 use Rattle.um_c.proofs.erasing.later_report_of.Goals as goal
 
@@ -8,7 +6,7 @@ block_report_of-requires-clause-information c = c.receive_later_erasing-decoded.
 
 pub without_burst-rest-requires-clause-index : goal.without_burst-rest-requires-clause-index
 without_burst-rest-requires-clause-index c =
-    subst (λ (e : Option ℕ). IfSome e (λ index. index < 4)) c.in-Some.is c.receive_later_erasing-decoded.ensures.erased
+    rw c.in-Some.is at c.receive_later_erasing-decoded.ensures.erased
 
 pub block_report_of-requires-in-Some-clause-information : goal.block_report_of-requires-in-Some-clause-information
 block_report_of-requires-in-Some-clause-information c = c.receive_later_erasing-decoded.ensures.information

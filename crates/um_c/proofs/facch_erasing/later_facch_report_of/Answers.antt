@@ -1,6 +1,4 @@
-use Rattle.std.proofs.Common.{ap, length, refl, subst, sym, ◌<◌, ◌∙◌, ◌≡◌, ℕ, Option}
-use Rattle.std.specs.Prelude.{IfSome, MatchOption}
-use Rattle.um_c.specs.FacchReports.{decoded_block}
+use Rattle.std.proofs.Common.{refl}
 use Rattle.um_c.proofs.FacchReports.{later_report}
 use Rattle.um_c.proofs.facch_erasing.later_facch_report_of.Goals as goal
 
@@ -9,8 +7,7 @@ facch_report_of-requires-clause-information c = c.receive_later_facch_erasing-de
 
 pub join_without-requires-clause-index : goal.join_without-requires-clause-index
 join_without-requires-clause-index c =
-    subst (λ (e : Option ℕ). IfSome e (λ index. index < length c.args.bursts.now)) c.in-Some.is
-    c.receive_later_facch_erasing-decoded.ensures.erased
+    rw c.in-Some.is at c.receive_later_facch_erasing-decoded.ensures.erased
 
 pub facch_report_of-requires-in-Some-clause-information : goal.facch_report_of-requires-in-Some-clause-information
 facch_report_of-requires-in-Some-clause-information c = c.receive_later_facch_erasing-decoded.ensures.information
@@ -20,8 +17,8 @@ returns-in-None c =
     let report = c.facch_report_of in
     later_report c.args.bursts.now c.join.result c.args.most c.args.erasures c.receive_later_facch_erasing-decoded.result 8
     report.result.rank report.result.report report.result.erasure c.receive_later_facch_erasing-decoded.ensures.received
-    (c.join.ensures.value ∙ ap (decoded_block c.args.bursts.now) (sym c.in-None.is))
-    (subst (λ (e : Option ℕ). MatchOption e (8 ≡ 8) (λ i. 8 ≡ i)) (sym c.in-None.is) refl)
+    (rw c.in-None.is c.join.ensures.value)
+    (rw c.in-None.is refl)
     report.ensures.reports report.ensures.rank report.ensures.erasure
 
 pub returns-in-Some : goal.returns-in-Some
@@ -30,6 +27,6 @@ returns-in-Some c =
     let index = c.in-Some.index in
     later_report c.args.bursts.now c.join_without.result c.args.most c.args.erasures c.receive_later_facch_erasing-decoded.result index
     report.result.rank report.result.report report.result.erasure c.receive_later_facch_erasing-decoded.ensures.received
-    (c.join_without.ensures.value ∙ ap (decoded_block c.args.bursts.now) (sym c.in-Some.is))
-    (subst (λ (e : Option ℕ). MatchOption e (index ≡ 8) (λ i. index ≡ i)) (sym c.in-Some.is) refl)
+    (rw c.in-Some.is c.join_without.ensures.value)
+    (rw c.in-Some.is refl)
     report.ensures.reports report.ensures.rank report.ensures.erasure

@@ -1,4 +1,4 @@
-use Rattle.std.proofs.Common.{ap, of_z, refl, sym, to_z, w32, ◌∙◌, ◌≡◌, Bool, if◌then◌else◌, ℕ, ℤ}
+use Rattle.std.proofs.Common.{ap, of_z, refl, sym, to_z, w32, ◌∙◌, ◌≡◌, Bool, if◌then◌else◌, ℤ}
 use Rattle.std.proofs.lemmas.Int.{to_z-of_z}
 use Rattle.um_c.specs.TrafficCalls.{facch_kind, is_stolen}
 use Rattle.um_c.proofs.traffic.write_carried.Goals as goal

@@ -14,8 +14,8 @@ none_over part octets h over = grind arith
 some_whole : (part : ReassemblyState) (octets : List ℕ) → IsPossiblePart part octets → part ≡ Whole → 1 ≤ length octets
 some_whole part octets h whole = grind arith
 
-possible : (part : ReassemblyState) (n : ℕ) (octets : List ℕ) → (part ≡ Discarding → n ≡ 0) → (part ≡ Whole → 1 ≤ length (take n octets)) →
-    IsPossiblePart part (take n octets)
+possible : (part : ReassemblyState) (n : ℕ) (octets : List ℕ) → (part ≡ Discarding → n ≡ 0) →
+    (part ≡ Whole → 1 ≤ length (take n octets)) → IsPossiblePart part (take n octets)
 possible Open n octets none some = tt
 possible Whole n octets none some = some refl
 possible Discarding n octets none some = rw (none refl) refl

@@ -1,7 +1,10 @@
 -- Some window has the state if and only if its values satisfy `AreConsistent`, and some joiner holds its reassembly.
 use Rattle.{
-  std.proofs.{Common.{◌≡◌, ◌≢◌, sym, ◌∙◌, ap, subst, arith, ℕ, ◌+◌, ◌%◌, ◌≤◌, ◌⊎◌, inl, inr}, Common.{length, map}},
-  std.proofs.lemmas.Bool.false≢true,
+  std.proofs.{
+    Common.{◌≡◌, ◌≢◌, sym, ◌∙◌, ap, subst, arith, ℕ, ◌+◌, ◌%◌, ◌≤◌, ◌⊎◌, inl, inr},
+    Common.{length, map},
+    lemmas.Bool.false≢true,
+  },
   segmenting.specs.{Parts.JoinerValues, Buffers.octets_in_buffer},
   lapdm_window.{
     specs.{declared.window.Window.Window, Parts.{WindowValues, values_of, values_of_parts, SomeWindowHasValues, AreConsistent}},

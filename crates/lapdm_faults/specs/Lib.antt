@@ -1,0 +1,2 @@
+-- Faults of the other side.
+pub mod Faults

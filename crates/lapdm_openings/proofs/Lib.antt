@@ -1,0 +1,9 @@
+mod Follow
+mod Holds
+mod Acts
+mod Answers
+mod Pairing
+mod Moves
+mod Arrivals
+mod Runs
+mod Worked
