@@ -1,13 +1,12 @@
 // The view Block: 23 octets, their encoding into four bursts, the radio path, and the receiver's result.
 import { softFromBits } from "../bindings/js/um.mjs";
 import { BLOCK, differs, drawnAsSent, encode, noisy } from "./coding.mjs";
-import { $, complain, differ, h, hex, octetsOf, onWhole, plural, same, save, spaced, valueOf, wholeOf, write } from "./dom.mjs";
+import { $, complain, differ, EXAMPLE, h, hex, octetsOf, onWhole, plural, same, save, spaced, valueOf, wholeOf, write } from "./dom.mjs";
 import { frameForm } from "./frameform.mjs";
 import { blockLines, burstLine, frameLabel, marginLine, repairLine, softOfHex, wordLine } from "./lines.mjs";
 import { radioPath, rows } from "./path.mjs";
 import { Trace } from "./trace.mjs";
 
-const EXAMPLE = "0100150601020304052b2b2b2b2b2b2b2b2b2b2b2b2b2b";
 const BURSTS = [0, 1, 2, 3];
 
 export class BlockView {

@@ -4,7 +4,7 @@
     playground/build.py [--wasm dist/wasm/um.wasm] [OUT.html]
 
 Each JavaScript module becomes a function that returns its exports, without comments, after the modules that it imports. The resulting
-script and the WebAssembly module are embedded with gzip and base64. Needs only the standard library.
+script and the WebAssembly module are embedded with gzip and base85. Needs only the standard library.
 """
 import argparse
 import base64
@@ -22,7 +22,10 @@ EXPORT = re.compile(r"^export (?:const|class) ([\w$]+)", re.M)
 
 
 def packed(octets):
-    return base64.b64encode(gzip.compress(octets, 9, mtime=0)).decode()
+    text = base64.b85encode(gzip.compress(octets, 9, mtime=0)).decode()
+    if "<!--" in text:
+        raise SystemExit("base85 with the begin of a comment, in which a script does not end; change a source")
+    return text
 
 
 def named(script):

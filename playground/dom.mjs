@@ -1,5 +1,8 @@
 // Helpers of the page: elements, octets as text, files, and messages to a screen reader.
 
+/** The block that the views and lessons begin with. */
+export const EXAMPLE = "0100150601020304052b2b2b2b2b2b2b2b2b2b2b2b2b2b";
+
 export const $ = (id) => document.getElementById(id);
 
 /** An element with attributes (a function is a listener) and children. */

@@ -1,6 +1,6 @@
-// The eight lessons. A step is a view, its state, and a page of text.
+// The nine lessons. A step is a view, its state, and a page of text.
+import { EXAMPLE } from "./dom.mjs";
 
-const OCTETS = "0100150601020304052b2b2b2b2b2b2b2b2b2b2b2b2b2b";
 const SEVEN = [123, 137, 255, 269, 310, 533, 584]; // the positions of the seven coded bits that depend on u(100)
 const NOISY = { noise: 0, seed: 18 }; // a block whose most likely word is wrong and whose second is the one sent
 
@@ -10,7 +10,8 @@ const SAPI3 = ["mob3 open", "net3 open", "up deliver", "down deliver"];
 const EARLY = [...OPEN, "mob send 6f6e65", "mob send 74776f"];
 
 const paragraphs = (text) => text.trim().split(/\n\s*\n/).map((words) => words.replace(/\s+/g, " "));
-const block = (params, text) => ({ view: "block", params: { octets: OCTETS, tsc: 7, ...params }, text: paragraphs(text) });
+const block = (params, text) => ({ view: "block", params: { octets: EXAMPLE, tsc: 7, ...params }, text: paragraphs(text) });
+const facch = (rate, text) => ({ view: "facch", params: { octets: EXAMPLE, rate }, text: paragraphs(text) });
 const link = (lines, params, text) => ({
   view: "link",
   params: { ...params, lines: lines.join(".").replaceAll(" ", "_") },
@@ -172,6 +173,31 @@ export const LESSONS = [
 
         Lose or delay any block, or damage up to three of its bits: each end still delivers a prefix of the messages that the other end
         accepted, each once, and only delivered messages are acknowledged. This is proved for every session.`),
+    ],
+  },
+  {
+    title: "The halves that FACCH steals",
+    about: "A message during a call takes the place of speech, half a burst at a time.",
+    steps: [
+      facch("full", `
+        During a call, a message that cannot wait is sent on FACCH: its block takes the place of speech. Each burst of a traffic channel
+        carries two halves, the bits at odd positions and those at even positions.
+
+        At full rate a block is spread over eight bursts: the odd positions of the first four, then the even positions of the last four.
+        A dot is a bit of the other half, which belongs to speech or to another block. Point at a bit: it lights up in the block and in
+        the burst that carries it.`),
+      facch("full", `
+        How does a receiver know which halves were stolen? Each burst has two stealing flags beside the training sequence. The flag hu is
+        after it, at position 87, and tells of the odd positions. The flag hl is before it, at position 60, and tells of the even ones. A 1
+        means stolen.
+
+        So hu is 1 in the first four bursts, and hl in the last four. A lost burst costs this block only 57 of its 456 coded bits.`),
+      facch("half", `
+        At half rate a block has six bursts: the odd positions of the first two, the middle two whole, and the even positions of the last
+        two. The middle bursts have both flags.
+
+        Choose full rate and compare: the bits of the middle two are the odd positions of bursts 2 and 3, and the even ones of bursts 6
+        and 7.`),
     ],
   },
 ];

@@ -1,7 +1,8 @@
-// The page: the module, the five views, and the address, which holds the state of the current view.
+// The page: the module, the six views, and the address, which holds the state of the current view.
 import { load } from "../bindings/js/um.mjs";
 import { BlockView } from "./block.mjs";
 import { $, h, write } from "./dom.mjs";
+import { FacchView } from "./facch.mjs";
 import { FrameView } from "./frame.mjs";
 import { LESSONS } from "./lessons.mjs";
 import { LinkView } from "./link.mjs";
@@ -20,6 +21,7 @@ class Page {
     this.views = {
       block: new BlockView(um, changed),
       bursts: new BurstsView(um, changed),
+      facch: new FacchView(um, changed),
       frame: new FrameView(um, changed),
       link: new LinkView(um, changed, (params) => go("block", params)),
       lessons: { set: () => 0, get: () => ({}) },

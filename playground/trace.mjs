@@ -10,7 +10,7 @@ const wordKind = (k, { data, crc }) => {
   if (k >= data) return k === data ? "crc octet" : "crc";
   return data === 184 && k % 8 === 0 ? "data octet" : "data";
 };
-const placeKind = ({ name, i }) => {
+export const placeKind = ({ name, i }) => {
   if (/tail/.test(name)) return "tail";
   return (name === "coded" ? "data" : name === "stealing flag" ? "flag" : "training") + (i === 0 ? " octet" : "");
 };
