@@ -11,8 +11,9 @@ use Rattle.{
   um_block.specs.{declared.received.Received.Received, interleave.Bursts.IsInterleaved, bit_blocks.SoftValues.likelihood},
   um_block.specs.{weight_bound.Restoring.IsCorrectable},
   um_block.specs.Received.{IsReceivedBlock, coded_soft_bits, soft_bit_of, soft_bits},
-  um_block.specs.Sent.{IsCodedBlock, IsSentBlock},
+  um_block.specs.{Restored.IsErrorFreeBlock, Sent.{IsCodedBlock, IsSentBlock}},
   um_block.specs.conv_code.{Code.{IsEncoderInput, encoding}, Likelihood.IsMostLikely},
+  um_facch.proofs.CleanTraining.one_sequence,
   um_facch.specs.{Facch.{IsListDecodedFacch, IsReceivedFacch, IsSentFacch}, Training.{IsDetectedTsc, wrong_training_of_all}},
   um_list_receive.proofs.Lemmas.{octets_if_crc_holds, taken_at_once, taken_information, taken_once},
   um_list_receive.specs.{ListDecoding.{BlockCrcHolds, IsBlockChoice}, declared.reports.ListDecodedBlock.ListDecodedBlock},
@@ -117,12 +118,17 @@ one_among bursts most r r' h g =
     same_report same.0 same.1 (h.metric ∙ ap₂ (λ s v. likelihood s (encoding v)) soft same.1 ∙ sym g.metric) tsc
     (h.wrong_training ∙ ap (wrong_training_of_all bursts) tsc ∙ sym g.wrong_training) same.2
 
+pub first_taken : (bursts : List (List ℤ)) (most : ℕ) (d : ListDecodedBlock) → 1 ≤ most → IsListDecodedFacch bursts most d →
+    (r : Received) → IsReceivedFacch bursts r → IsSome r.accepted → d ≡ record { report = r; rank = 1 }
+first_taken bursts most d some decoded r is accepted =
+    one_among bursts most d (record { report = r; rank = 1 }) decoded (at_once bursts most r some is accepted)
+
 -- ## As a block
 
--- the report of the four bursts of the block, of which the octets are the same
+-- the report of the four bursts of the block, of which the word, the metric and the octets are the same
 module _ (block bursts : List (List ℤ)) (r : Received) (four : length block ≡ 4) (each : All IsBurst block)
     (is : IsReceivedFacch bursts r) (spread : IsInterleaved is.soft (map coded_soft_bits block)) where
-  of_block : (t : Received) × IsReceivedBlock block t × (t.accepted ≡ r.accepted)
+  of_block : (t : Received) × IsReceivedBlock block t × (t.u ≡ r.u) × (t.metric ≡ r.metric) × (t.accepted ≡ r.accepted)
   of_block =
       let other = some_received_block block four each in (
         record {
@@ -142,22 +148,34 @@ module _ (block bursts : List (List ℤ)) (r : Received) (four : length block �
           accepted = is.accepted;
         },
         refl,
+        refl,
+        refl,
       )
 
   pub restored : (octets coded : List ℕ) (soft : List ℤ) → IsCodedBlock octets coded →
       IsInterleaved soft (map coded_soft_bits block) →
       IsCorrectable soft coded → r.accepted ≡ Some octets
   restored octets coded soft code carried damage =
-      sym of_block.2 ∙ restored_block block octets coded soft of_block.0 code carried damage of_block.1
+      sym of_block.4 ∙ restored_block block octets coded soft of_block.0 code carried damage of_block.1
 
   pub clean : (octets : List ℕ) (tsc : ℕ) (old sent : List (List ℕ)) → IsSentFacch octets tsc old sent → 4 ≤ length bursts →
-      length bursts ≤ 8 → bursts ≡ map soft_bits sent → block ≡ joined_block (pos 0) bursts → r.accepted ≡ Some octets
+      length bursts ≤ 8 → bursts ≡ map soft_bits sent → block ≡ joined_block (pos 0) bursts → IsErrorFreeBlock octets tsc r
   clean octets tsc old sent s some few same joined =
       let shape = sent_shape octets tsc s.block s.sent in
+      let bursts_are : bursts ≡ map soft_bits (stolen s.block old) = same ∙ ap (map soft_bits) s.halves in
       let count : length bursts ≡ length old =
-      ap length (same ∙ ap (map soft_bits) s.halves) ∙ length-map (stolen s.block old) soft_bits ∙ length-stolen s.block old in
+      ap length bursts_are ∙ length-map (stolen s.block old) soft_bits ∙ length-stolen s.block old in
       let again : block ≡ map soft_bits s.block =
-      joined ∙ ap (joined_block (pos 0)) (same ∙ ap (map soft_bits) s.halves)
+      joined ∙ ap (joined_block (pos 0)) bursts_are
       ∙ joins_again s.block old soft_bit_of shape.0 shape.1 (omega (arith, count)) (omega (arith, count)) in
-      sym of_block.2
-      ∙ (clean_block octets tsc s.block of_block.0 s.sent (subst (λ b. IsReceivedBlock b of_block.0) again of_block.1)).accepted
+      let heard = subst (λ b. IsReceivedBlock b of_block.0) again of_block.1 in
+      let e = clean_block octets tsc s.block of_block.0 s.sent heard in
+      let known = one_sequence octets tsc s.block old s.sent shape.1 shape.0 (omega (arith, count)) of_block.0 heard e in
+      let sequence : r.tsc ≡ tsc = one_first_greatest _ _ _ _ (subst (λ b. IsDetectedTsc b r.tsc) bursts_are is.tsc) known.0 in
+      record {
+        information = rw of_block.2 at e.information;
+        accepted = sym of_block.4 ∙ e.accepted;
+        tsc = sequence;
+        wrong_training = is.wrong_training ∙ ap₂ wrong_training_of_all bursts_are sequence ∙ known.1;
+        metric = sym of_block.3 ∙ e.metric;
+      }

@@ -1,8 +1,9 @@
 //! Receives a block of FACCH.
-ghost use Rattle.std.specs.Prelude.{◌≡◌, ◌≤◌, ◌+◌, ℕ, ℤ, List, Some, All, length, map, slice_index};
+ghost use Rattle.std.specs.Prelude.{◌≡◌, ◌≤◌, ◌+◌, ℕ, ℤ, List, IsSome, Some, All, length, map, slice_index};
 ghost use Rattle.half_bursts.specs.Halves.{AreCarried};
 ghost use Rattle.um_block.specs.bit_blocks.SoftValues.{AllSoftBits};
 ghost use Rattle.um_block.specs.weight_bound.Restoring.{IsCorrectable};
+ghost use Rattle.um_block.specs.Restored.{IsErrorFreeBlock};
 ghost use Rattle.um_block.specs.Sent.{IsCodedBlock};
 ghost use Rattle.um_block.specs.Received.{soft_bits};
 ghost use Rattle.um_block.specs.conv_code.Code.{IsEncoderInput};
@@ -23,7 +24,7 @@ pub fn receive(bursts: &[[i8; BURST_BITS]]) -> Received
     ensures received { IsReceivedFacch bursts.now result }
     ensures only { (other : Received) → IsReceivedFacch bursts.now other → other ≡ result }
     ensures clean { (octets : List ℕ) (tsc : ℕ) (old sent : List (List ℕ)) → IsSentFacch octets tsc old sent →
-        bursts.now ≡ map soft_bits sent → result.accepted ≡ Some octets }
+        bursts.now ≡ map soft_bits sent → IsErrorFreeBlock octets tsc result }
     ensures restores { (octets c : List ℕ) (soft : List ℤ) → IsCodedBlock octets c → AreCarried soft bursts.now →
         IsCorrectable soft c → result.accepted ≡ Some octets }
 {
@@ -46,6 +47,7 @@ pub fn receive_among(bursts: &[[i8; BURST_BITS]], max_rank: u32) -> ListDecodedB
     ensures received { IsListDecodedFacch bursts.now max_rank result }
     ensures only { (other : ListDecodedBlock) → IsListDecodedFacch bursts.now max_rank other → other ≡ result }
     ensures information { IsEncoderInput result.report.u }
+    ensures first { (r : Received) → IsReceivedFacch bursts.now r → IsSome r.accepted → result ≡ record { report = r; rank = 1 } }
 {
     let soft = deinterleave_block(&join(bursts));
     let report = receive_carried(bursts, &soft, &mut [0; MAX_BURSTS]);

@@ -1,4 +1,4 @@
-//! The tests of all crates, and whole runs with sources and sinks in memory.
+//! Tests of the other crates, and whole runs with sources and sinks in memory.
 #![tactic(auto)]
 
 #[cfg(test)]

@@ -1,7 +1,7 @@
 use Rattle.std.{proofs.Common.refl, specs.Prelude.IsSome}
 use Rattle.um_list_receive.specs.declared.reports.ListDecodedBlock.{ListDecodedBlock}
 use Rattle.um_facch.specs.Facch.{IsListDecodedFacch}
-use Rattle.um_facch.proofs.Lemmas.{at_once, first_word, information, later, one_among}
+use Rattle.um_facch.proofs.Lemmas.{at_once, first_taken, first_word, information, later, one_among}
 use Rattle.um_facch.proofs.receiving.receive_among.Goals as goal
 
 pub receive_later_among-requires-clause-best : goal.receive_later_among-requires-clause-best
@@ -27,6 +27,7 @@ returns-in-Some c =
       received = received;
       only = λ other is. one_among c.args.bursts.now c.args.max_rank other made is received;
       information = information c.args.bursts.now c.args.max_rank made received;
+      first = first_taken c.args.bursts.now c.args.max_rank made c.requires.some_words received;
     }
 
 pub returns-in-None : goal.returns-in-None
@@ -41,4 +42,5 @@ returns-in-None c =
       received = received;
       only = λ other is. one_among c.args.bursts.now c.args.max_rank other c.receive_later_among.result is received;
       information = information c.args.bursts.now c.args.max_rank c.receive_later_among.result received;
+      first = first_taken c.args.bursts.now c.args.max_rank c.receive_later_among.result c.requires.some_words received;
     }
