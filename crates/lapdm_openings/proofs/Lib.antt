@@ -5,5 +5,5 @@ mod Answers
 mod Pairing
 mod Moves
 mod Arrivals
-mod Runs
+pub mod Runs
 mod Worked

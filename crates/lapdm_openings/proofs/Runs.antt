@@ -151,7 +151,7 @@ module _ {p : Pair} {os : Role → List Opening} (a : At p os) where
       { air = gs }))
       (sym (ap (λ gs. drop 1 gs) is)) (lost-moves (paired-swapped a.paired) f fs is)) (seen (Arrives Mobile None) p os) refl refl
 
-oldest : (f : Frame) (fs : List Frame) → IsOldestSentOrNone (Some f) fs → fs ≡ f ∷ drop 1 fs
+pub oldest : (f : Frame) (fs : List Frame) → IsOldestSentOrNone (Some f) fs → fs ≡ f ∷ drop 1 fs
 oldest f [] h = absurd h
 oldest f (g ∷ gs) h = ap (λ (k : Frame). k ∷ gs) (sym h)
 

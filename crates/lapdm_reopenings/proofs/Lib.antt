@@ -1,0 +1,5 @@
+mod Own
+mod Sounds
+mod Moves
+mod Runs
+mod Worked

@@ -1,0 +1,2 @@
+-- Data links whose links are opened again and again.
+pub mod Reopenings
